@@ -2,7 +2,6 @@
 
 ghost use Rattle.std.specs.Prelude.{◌≡◌, ◌++◌, ◌≤◌, ◌<◌, ◌+◌, ◌^◌, codes, length};
 ghost use Rattle.cvss_base.specs.ErrorText.{quoted as quoted_text};
-ghost use Rattle.cvss_any.specs.MetricTypes.{name_of, description_of};
 ghost use Rattle.cvss_any.specs.Reasons.{error_message, metric_words, reason_text, version_words};
 ghost use Rattle.cvss_any.specs.Refusals.{refusal_of};
 ghost use Rattle.cvss_any.specs.Segments.{segment_text, text_of};
@@ -11,10 +10,10 @@ use crate::metric_type::MetricType;
 use crate::refusal::{ReadError, Refusal};
 use crate::segment::Segment;
 
-/// What an error says, in eight segments, of which some may be empty.
+/// What an error says, in five segments, of which some may be empty.
 #[derive(Clone, Copy)]
 pub struct Message<'a> {
-    pub segments: [Segment<'a>; 8],
+    pub segments: [Segment<'a>; 5],
 }
 
 impl<'a> Message<'a> {
@@ -36,16 +35,16 @@ impl<'a> Message<'a> {
     {
         match refusal {
             Refusal::BadComponent(component) => {
-                quoted("invalid CVSS metric group component: ", component)
+                quoted("invalid CVSS metric group component: `", component)
             }
-            Refusal::WrongPrefix(prefix) => quoted("invalid CVSS string prefix: ", prefix),
+            Refusal::WrongPrefix(prefix) => quoted("invalid CVSS string prefix: `", prefix),
             Refusal::WrongVersion(version) => {
                 two([Segment::words("unsupported CVSS version: "), version])
             }
-            Refusal::UnknownName(name) => quoted("unknown CVSS metric name: ", name),
+            Refusal::UnknownName(name) => quoted("unknown CVSS metric name: `", name),
             Refusal::BadValue(metric, value) => invalid(metric, value),
-            Refusal::Repeated(metric) => of_metric("duplicate ", metric),
-            Refusal::Missing(metric) => of_metric("missing mandatory ", metric),
+            Refusal::Repeated(metric) => two([duplicate(metric), Segment::words(metric.words())]),
+            Refusal::Missing(metric) => two([missing(metric), Segment::words(metric.words())]),
         }
     }
 }
@@ -56,63 +55,18 @@ fn two<'a>(both: [Segment<'a>; 2]) -> Message<'a>
     let none = Segment::words("");
     let [first, second] = both;
     Message {
-        segments: [first, second, none, none, none, none, none, none],
+        segments: [first, second, none, none, none],
     }
 }
 
-/// Words, and a text between back ticks.
+/// Words that end in a back tick, a text, and a back tick.
 fn quoted<'a>(words: &'static str, text: Segment<'a>) -> Message<'a>
     requires { length words.now ≤ 64 }
-    ensures text { text_of result.segments ≡ words.now ++ quoted_text (segment_text text.entry) }
+    ensures text { text_of result.segments ≡ words.now ++ (segment_text text.entry ++ codes "`") }
     ensures bound { length (text_of result.segments) < 2 ^ 63 + 300 }
 {
-    let (tick, none) = (Segment::words("`"), Segment::words(""));
-    Message {
-        segments: [
-            Segment::words(words),
-            tick,
-            text,
-            tick,
-            none,
-            none,
-            none,
-            none,
-        ],
-    }
-}
-
-/// The version, the abbreviation and the name of a metric.
-fn words_of(metric: MetricType) -> (&'static str, &'static str, &'static str)
-    ensures version { result.0.now ≡ version_words metric }
-    ensures name { result.1.now ≡ name_of metric }
-    ensures description { result.2.now ≡ description_of metric }
-    ensures short { length result.0.now + length result.1.now + length result.2.now ≤ 80 }
-{
-    match metric {
-        MetricType::V2(metric) => ("CVSSv2 ", metric.name(), metric.description()),
-        MetricType::V3(metric) => ("CVSSv3 ", metric.name(), metric.description()),
-        MetricType::V4(metric) => ("CVSSv4 ", metric.name(), metric.description()),
-    }
-}
-
-/// Words, and a metric.
-fn of_metric<'a>(words: &'static str, metric: MetricType) -> Message<'a>
-    requires { length words.now ≤ 64 }
-    ensures text { text_of result.segments ≡ words.now ++ metric_words metric }
-    ensures bound { length (text_of result.segments) < 2 ^ 63 + 300 }
-{
-    let (version, name, description) = words_of(metric);
     let none = Segment::words("");
-    let segments: [Segment<'a>; 8] = [
-        Segment::words(words),
-        Segment::words(version),
-        Segment::words(name),
-        Segment::words(" ("),
-        Segment::words(description),
-        Segment::words(") metric"),
-        none,
-        none,
-    ];
+    let segments = [Segment::words(words), text, Segment::words("`"), none, none];
     Message { segments }
 }
 
@@ -122,16 +76,48 @@ fn invalid<'a>(metric: MetricType, value: Segment<'a>) -> Message<'a>
         ++ quoted_text (segment_text value.entry) }
     ensures bound { length (text_of result.segments) < 2 ^ 63 + 300 }
 {
-    let (version, name, description) = words_of(metric);
     let segments = [
-        Segment::words("invalid "),
-        Segment::words(version),
-        Segment::words(name),
-        Segment::words(" ("),
-        Segment::words(description),
-        Segment::words(") metric: `"),
+        bad_value(metric),
+        Segment::words(metric.words()),
+        Segment::words(": `"),
         value,
         Segment::words("`"),
     ];
     Message { segments }
+}
+
+/// The words before a metric that has no such value.
+fn bad_value<'a>(metric: MetricType) -> Segment<'a>
+    ensures text { segment_text result ≡ codes "invalid " ++ version_words metric }
+    ensures short { length (segment_text result) ≤ 30 }
+{
+    Segment::words(match metric {
+        MetricType::V2(_) => "invalid CVSSv2 ",
+        MetricType::V3(_) => "invalid CVSSv3 ",
+        MetricType::V4(_) => "invalid CVSSv4 ",
+    })
+}
+
+/// The words before a metric that occurs twice.
+fn duplicate<'a>(metric: MetricType) -> Segment<'a>
+    ensures text { segment_text result ≡ codes "duplicate " ++ version_words metric }
+    ensures short { length (segment_text result) ≤ 30 }
+{
+    Segment::words(match metric {
+        MetricType::V2(_) => "duplicate CVSSv2 ",
+        MetricType::V3(_) => "duplicate CVSSv3 ",
+        MetricType::V4(_) => "duplicate CVSSv4 ",
+    })
+}
+
+/// The words before a metric that is missing.
+fn missing<'a>(metric: MetricType) -> Segment<'a>
+    ensures text { segment_text result ≡ codes "missing mandatory " ++ version_words metric }
+    ensures short { length (segment_text result) ≤ 30 }
+{
+    Segment::words(match metric {
+        MetricType::V2(_) => "missing mandatory CVSSv2 ",
+        MetricType::V3(_) => "missing mandatory CVSSv3 ",
+        MetricType::V4(_) => "missing mandatory CVSSv4 ",
+    })
 }

@@ -1,9 +1,10 @@
 //! The metrics of all versions.
 
-ghost use Rattle.std.specs.Prelude.{◌≡◌};
+ghost use Rattle.std.specs.Prelude.{◌≡◌, ◌≤◌, ◌++◌, codes, length};
+ghost use Rattle.cvss_base.specs.ErrorText.{described};
 ghost use Rattle.cvss_any.specs.MetricTypes.{name_of, description_of};
 
-use cvss_base::{v2, v3, v4};
+use cvss_base::{Named, v2, v3, v4};
 
 /// A metric of one of the versions.
 #[derive(Clone, Copy, Debug, PartialEq, Eq)]
@@ -33,6 +34,18 @@ impl MetricType {
             MetricType::V2(metric) => metric.description(),
             MetricType::V3(metric) => metric.description(),
             MetricType::V4(metric) => metric.description(),
+        }
+    }
+
+    /// The metric's short and full names, as messages have them.
+    pub(crate) fn words(self) -> &'static str
+        ensures text { result.now ≡ described (name_of self) (description_of self) ++ codes " metric" }
+        ensures short { length result.now ≤ 72 }
+    {
+        match self {
+            MetricType::V2(metric) => metric.row().3,
+            MetricType::V3(metric) => metric.row().3,
+            MetricType::V4(metric) => metric.row().3,
         }
     }
 }

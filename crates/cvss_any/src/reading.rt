@@ -6,7 +6,7 @@ ghost use Rattle.cvss_base.specs.Text.{pieces};
 ghost use Rattle.cvss_base.specs.Reported.{Reports};
 ghost use Rattle.cvss_base.specs.Version.{version_piece};
 ghost use Rattle.cvss_text.specs.private.Pieces.{pieces_left};
-ghost use Rattle.cvss_text.specs.private.Walk.{IsPrintable, reason_of};
+ghost use Rattle.cvss_text.specs.private.Walk.{IsPrintable, Starts, reason_of};
 ghost use Rattle.cvss_any.specs.Bytes.{IsRefusedAs};
 ghost use Rattle.cvss_any.specs.declared.metric_type.MetricType.TheVariants.{V2, V3};
 ghost use Rattle.cvss_any.specs.declared.vector.Cvss.TheVariants.{CvssV30, CvssV31};
@@ -18,17 +18,20 @@ ghost use Rattle.cvss_any.specs.Route.{ToV20, ToV30, ToV31, ToV40, route_of};
 ghost use Rattle.cvss_any.specs.private.Views as is_reported;
 ghost use Rattle.cvss_any.specs.private.Views.{why_of};
 ghost use Rattle.cvss_v2.specs.Vector.{v2};
+ghost use Rattle.cvss_v3.specs.Vector.{v3};
+ghost use Rattle.cvss_v4.specs.Vector.{v4};
 
 use crate::bytes_error::BytesError;
 use crate::complete::first_missing_v3;
 use crate::published::{Bounds, Published};
 use crate::refusal::{ReadError, Refusal};
 use crate::route::{NoVersion, Route, route_of_text};
+use crate::setting::{empty_v3, empty_v4};
 use crate::vector::Cvss;
 use crate::{v2, v3, v4};
 use cvss_base::Error;
 use cvss_text::buffer::TextBuffer;
-use cvss_text::front::{Prefixed, read_started};
+use cvss_text::front::read_started;
 use cvss_text::pieces::Pieces;
 use cvss_text::print::text_after;
 use cvss_text::refusing;
@@ -69,6 +72,30 @@ fn fault_of<'a>(why: NoVersion<'a>) -> Fault<'a, cvss_base::v2::MetricType>
     }
 }
 
+/// The vector without metrics of CVSS v3.0.
+#[inline(always)]
+fn started_v30() -> v3::Vector
+    ensures { Starts v3 (codes "3.0") result }
+{
+    empty_v3(0)
+}
+
+/// The vector without metrics of CVSS v3.1.
+#[inline(always)]
+fn started_v31() -> v3::Vector
+    ensures { Starts v3 (codes "3.1") result }
+{
+    empty_v3(1)
+}
+
+/// The vector without metrics of CVSS v4.0.
+#[inline(always)]
+fn started_v40() -> v4::Vector
+    ensures { Starts v4 (codes "4.0") result }
+{
+    empty_v4(0)
+}
+
 // A call of its own for each version keeps the vectors apart, as in `fast_path`.
 #[inline(never)]
 fn read_v20(text: &[u8]) -> Result<Cvss, ReadFault<'_>>
@@ -88,7 +115,7 @@ fn read_v30<'a>(text: &'a [u8], left: Pieces<'a>) -> Result<Cvss, ReadFault<'a>>
     requires after { pieces text.now ≡ version_piece (codes "3.0") ∷ pieces_left left }
     ensures { IsRead text.now result }
 {
-    let mut vector = v3::Vector::start(b"3.0").unwrap();
+    let mut vector = started_v30();
     match read_started(text, left, &mut vector) {
         Ok(()) => Ok(Cvss::CvssV30(vector)),
         Err(fault) => Err(ReadFault::V3(fault)),
@@ -101,7 +128,7 @@ fn read_v31<'a>(text: &'a [u8], left: Pieces<'a>) -> Result<Cvss, ReadFault<'a>>
     requires after { pieces text.now ≡ version_piece (codes "3.1") ∷ pieces_left left }
     ensures { IsRead text.now result }
 {
-    let mut vector = v3::Vector::start(b"3.1").unwrap();
+    let mut vector = started_v31();
     match read_started(text, left, &mut vector) {
         Ok(()) => Ok(Cvss::CvssV31(vector)),
         Err(fault) => Err(ReadFault::V3(fault)),
@@ -114,7 +141,7 @@ fn read_v40<'a>(text: &'a [u8], left: Pieces<'a>) -> Result<Cvss, ReadFault<'a>>
     requires after { pieces text.now ≡ version_piece (codes "4.0") ∷ pieces_left left }
     ensures { IsRead text.now result }
 {
-    let mut vector = v4::Vector::start(b"4.0").unwrap();
+    let mut vector = started_v40();
     match read_started(text, left, &mut vector) {
         Ok(()) => Ok(Cvss::CvssV40(vector)),
         Err(fault) => Err(ReadFault::V4(fault)),
@@ -181,7 +208,7 @@ fn publish_v30<'a, 'b>(
         (λ given. IsPublishedBy allow_incomplete text.now given.0.now given.1) }
     ensures refused { IfErr result (IsUnpublished allow_incomplete text.now) }
 {
-    let mut vector = v3::Vector::start(b"3.0").unwrap();
+    let mut vector = started_v30();
     match read_started(text, left, &mut vector) {
         Ok(()) => {
             if let Some(kind) = missing_by(allow_incomplete, &vector) {
@@ -212,7 +239,7 @@ fn publish_v31<'a, 'b>(
         (λ given. IsPublishedBy allow_incomplete text.now given.0.now given.1) }
     ensures refused { IfErr result (IsUnpublished allow_incomplete text.now) }
 {
-    let mut vector = v3::Vector::start(b"3.1").unwrap();
+    let mut vector = started_v31();
     match read_started(text, left, &mut vector) {
         Ok(()) => {
             if let Some(kind) = missing_by(allow_incomplete, &vector) {
@@ -255,7 +282,7 @@ fn publish_v40<'a, 'b>(
         (λ given. IsPublishedBy allow_incomplete text.now given.0.now given.1) }
     ensures refused { IfErr result (λ fault. IsRead text.now (Err fault)) }
 {
-    let mut vector = v4::Vector::start(b"4.0").unwrap();
+    let mut vector = started_v40();
     match read_started(text, left, &mut vector) {
         Ok(()) => {
             let given = text_after(*b"CVSS:4.0", &vector, buffer);

@@ -209,7 +209,7 @@ fn build_v40(metrics: &str) -> Result<Cvss, SetError<'_>>
 }
 
 /// The vector of CVSS v3 without metrics, of a minor version.
-fn empty_v3(minor_version: usize) -> v3::Vector
+pub(crate) fn empty_v3(minor_version: usize) -> v3::Vector
     ensures version { result.minor_version ≡ minor_version }
     ensures valueless { HasNoValue v3 result }
 {
@@ -219,7 +219,7 @@ fn empty_v3(minor_version: usize) -> v3::Vector
 }
 
 /// The vector of CVSS v4 without metrics, of a minor version.
-fn empty_v4(minor_version: usize) -> v4::Vector
+pub(crate) fn empty_v4(minor_version: usize) -> v4::Vector
     ensures version { result.minor_version ≡ minor_version }
     ensures valueless { HasNoValue v4 result }
 {

@@ -48,7 +48,7 @@ component name value = name ++ (colon ∷ value)
 abbrev pub uppercased : List ℕ → List ℕ
 uppercased text = map to_ascii_uppercase text
 
--- the text as it is compared: raised where any case is read, and else as it is
+-- the text as it is compared: in upper case where any case is read, and else as it is
 abbrev pub read_as : Bool → List ℕ → List ℕ
 read_as true text = uppercased text
 read_as false text = text

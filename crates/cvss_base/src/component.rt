@@ -19,7 +19,7 @@ pub fn write_component<W: fmt::Write>(
     f.write_str(&with_slash[1..])
 }
 
-/// Whether a text is this name once its ASCII letters are raised.
+/// Whether a text is this name once its ASCII letters are in upper case.
 pub fn is_uppercased_as(text: &[u8], name: &[u8]) -> bool
     ensures { IsTrue result ↔ (uppercased text.now ≡ name.now) }
 {

@@ -181,8 +181,8 @@ fn write_metric<N: Named, W: fmt::Write>(
     ensures { DisplaysOnOk W.write_str_gives f.old result (Some (before.now
         ++ described (N.row_of kind).0 (N.row_of kind).1 ++ codes " metric")) f.new }
 {
-    let (name, description, _) = kind.row();
-    write!(f, "{before}{name} ({description}) metric")
+    let metric = kind.row().3;
+    write!(f, "{before}{metric}")
 }
 
 /// Writes that a metric has no such value.

@@ -18,6 +18,7 @@ pub mod v4;
 
 pub use error::Error;
 pub use group::MetricGroup;
+pub use named::Named;
 pub use number::{LIMIT, ONE, TENTH};
 pub use one_decimal::OneDecimal;
 pub use severity::{Severity, severity_of_score};

@@ -1,6 +1,7 @@
 //! The names of a metric type, and the type that is looked up by its name, once for all versions.
 
-ghost use Rattle.std.specs.Prelude.{◌≡◌, IfOk, IfErr, Some, Ok, ℕ, List, find, bytes_eq};
+ghost use Rattle.std.specs.Prelude.{◌≡◌, ◌++◌, IfOk, IfErr, Some, Ok, ℕ, List, codes, find, bytes_eq};
+ghost use Rattle.cvss_base.specs.ErrorText.{described};
 ghost use Rattle.cvss_base.specs.declared.group.MetricGroup.{MetricGroup};
 ghost use Rattle.cvss_base.specs.private.Unknown.{ReportsUnknown};
 
@@ -8,17 +9,29 @@ use crate::error::Error;
 use crate::group::MetricGroup;
 use std::alloc::Global;
 
+/// The abbreviation, the name in words, the group, and both names as messages have them.
+pub type Row = (&'static str, &'static str, MetricGroup, &'static str);
+
+/// The row of an abbreviation, a name in words and a group.
+macro_rules! row {
+    ($name:literal, $words:literal, $group:ident) => {
+        ($name, $words, $group, concat!($name, " (", $words, ") metric"))
+    };
+}
+
+pub(crate) use row;
+
 /// A metric type of some version.
 pub trait Named: Copy + 'static {
     ghost row_of: { Self → List ℕ × List ℕ × MetricGroup };
 
     ghost declared: { List Self };
 
-    /// The abbreviation, the name in words and the group.
-    fn row(self) -> (&'static str, &'static str, MetricGroup)
+    fn row(self) -> Row
         ensures abbreviation { result.0.now ≡ (row_of self).0 }
         ensures words { result.1.now ≡ (row_of self).1 }
-        ensures group { result.2 ≡ (row_of self).2 };
+        ensures group { result.2 ≡ (row_of self).2 }
+        ensures both { result.3.now ≡ described (row_of self).0 (row_of self).1 ++ codes " metric" };
 
     // Each is the first of its abbreviation.
     ghost first: { (kind : Self)

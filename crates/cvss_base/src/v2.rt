@@ -8,7 +8,7 @@ ghost use Rattle.cvss_base.specs.V2Types.{v2_reason, row_of, name_of, descriptio
 
 use crate::error::Error;
 use crate::group::MetricGroup::{self, Base, Environmental, Temporal};
-use crate::named::{Named, from_name};
+use crate::named::{Named, Row, from_name, row};
 use MetricType::*;
 use std::alloc::Global;
 use std::fmt;
@@ -36,21 +36,21 @@ pub enum MetricType {
 const ALL: [MetricType; 14] = [A, AC, AV, Au, C, I, E, RL, RC, CDP, TD, CR, IR, AR];
 
 /// The abbreviation of each metric type, its name in words and its group, as they are declared.
-const ROWS: [(&str, &str, MetricGroup); 14] = [
-    ("A", "Availability Impact", Base),
-    ("AC", "Access Complexity", Base),
-    ("AV", "Access Vector", Base),
-    ("Au", "Authentication", Base),
-    ("C", "Confidentiality Impact", Base),
-    ("I", "Integrity Impact", Base),
-    ("E", "Exploitability", Temporal),
-    ("RL", "Remediation Level", Temporal),
-    ("RC", "Report Confidence", Temporal),
-    ("CDP", "Collateral Damage Potential", Environmental),
-    ("TD", "Target Distribution", Environmental),
-    ("CR", "Confidentiality Requirement", Environmental),
-    ("IR", "Integrity Requirement", Environmental),
-    ("AR", "Availability Requirement", Environmental),
+const ROWS: [Row; 14] = [
+    row!("A", "Availability Impact", Base),
+    row!("AC", "Access Complexity", Base),
+    row!("AV", "Access Vector", Base),
+    row!("Au", "Authentication", Base),
+    row!("C", "Confidentiality Impact", Base),
+    row!("I", "Integrity Impact", Base),
+    row!("E", "Exploitability", Temporal),
+    row!("RL", "Remediation Level", Temporal),
+    row!("RC", "Report Confidence", Temporal),
+    row!("CDP", "Collateral Damage Potential", Environmental),
+    row!("TD", "Target Distribution", Environmental),
+    row!("CR", "Confidentiality Requirement", Environmental),
+    row!("IR", "Integrity Requirement", Environmental),
+    row!("AR", "Availability Requirement", Environmental),
 ];
 
 impl MetricType {
@@ -96,7 +96,7 @@ impl Named for MetricType {
 
     ghost first = { Prim.search rules };
 
-    fn row(self) -> (&'static str, &'static str, MetricGroup) {
+    fn row(self) -> Row {
         let row = &ROWS[self as usize];
         *row
     }

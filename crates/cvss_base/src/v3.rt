@@ -8,7 +8,7 @@ ghost use Rattle.cvss_base.specs.V3Types.{v3_reason, row_of, name_of, descriptio
 
 use crate::error::Error;
 use crate::group::MetricGroup::{self, Base, Environmental, Temporal};
-use crate::named::{Named, from_name};
+use crate::named::{Named, Row, from_name, row};
 use MetricType::*;
 use std::alloc::Global;
 use std::fmt;
@@ -46,29 +46,29 @@ const ALL: [MetricType; 22] = [
 ];
 
 /// The abbreviation of each metric type, its name in words and its group, as they are declared.
-const ROWS: [(&str, &str, MetricGroup); 22] = [
-    ("A", "Availability Impact", Base),
-    ("AC", "Attack Complexity", Base),
-    ("AV", "Attack Vector", Base),
-    ("C", "Confidentiality Impact", Base),
-    ("I", "Integrity Impact", Base),
-    ("PR", "Privileges Required", Base),
-    ("S", "Scope", Base),
-    ("UI", "User Interaction", Base),
-    ("E", "Exploit Code Maturity", Temporal),
-    ("RL", "Remediation Level", Temporal),
-    ("RC", "Report Confidence", Temporal),
-    ("CR", "Confidentiality Requirements", Environmental),
-    ("IR", "Integrity Requirements", Environmental),
-    ("AR", "Availability Requirements", Environmental),
-    ("MAV", "Modified Attack Vector", Environmental),
-    ("MAC", "Modified Attack Complexity", Environmental),
-    ("MPR", "Modified Privileges Required", Environmental),
-    ("MUI", "Modified User Interaction", Environmental),
-    ("MS", "Modified Scope", Environmental),
-    ("MC", "Modified Confidentiality", Environmental),
-    ("MI", "Modified Integrity", Environmental),
-    ("MA", "Modified Availability", Environmental),
+const ROWS: [Row; 22] = [
+    row!("A", "Availability Impact", Base),
+    row!("AC", "Attack Complexity", Base),
+    row!("AV", "Attack Vector", Base),
+    row!("C", "Confidentiality Impact", Base),
+    row!("I", "Integrity Impact", Base),
+    row!("PR", "Privileges Required", Base),
+    row!("S", "Scope", Base),
+    row!("UI", "User Interaction", Base),
+    row!("E", "Exploit Code Maturity", Temporal),
+    row!("RL", "Remediation Level", Temporal),
+    row!("RC", "Report Confidence", Temporal),
+    row!("CR", "Confidentiality Requirements", Environmental),
+    row!("IR", "Integrity Requirements", Environmental),
+    row!("AR", "Availability Requirements", Environmental),
+    row!("MAV", "Modified Attack Vector", Environmental),
+    row!("MAC", "Modified Attack Complexity", Environmental),
+    row!("MPR", "Modified Privileges Required", Environmental),
+    row!("MUI", "Modified User Interaction", Environmental),
+    row!("MS", "Modified Scope", Environmental),
+    row!("MC", "Modified Confidentiality", Environmental),
+    row!("MI", "Modified Integrity", Environmental),
+    row!("MA", "Modified Availability", Environmental),
 ];
 
 impl MetricType {
@@ -114,7 +114,7 @@ impl Named for MetricType {
 
     ghost first = { Prim.search rules };
 
-    fn row(self) -> (&'static str, &'static str, MetricGroup) {
+    fn row(self) -> Row {
         let row = &ROWS[self as usize];
         *row
     }

@@ -8,7 +8,7 @@ ghost use Rattle.cvss_base.specs.V4Types.{v4_reason, row_of, name_of, descriptio
 
 use crate::error::Error;
 use crate::group::MetricGroup::{self, Base, Environmental, Supplemental, Threat};
-use crate::named::{Named, from_name};
+use crate::named::{Named, Row, from_name, row};
 use MetricType::*;
 use std::alloc::Global;
 use std::fmt;
@@ -57,71 +57,71 @@ const ALL: [MetricType; 32] = [
 ];
 
 /// The abbreviation of each metric type, its name in words and its group, as they are declared.
-const ROWS: [(&str, &str, MetricGroup); 32] = [
-    ("AC", "Attack Complexity", Base),
-    ("AT", "Attack Requirements", Base),
-    ("AV", "Attack Vector", Base),
-    ("PR", "Privileges Required", Base),
-    ("SA", "Availability Impact to the Subsequent System", Base),
-    (
+const ROWS: [Row; 32] = [
+    row!("AC", "Attack Complexity", Base),
+    row!("AT", "Attack Requirements", Base),
+    row!("AV", "Attack Vector", Base),
+    row!("PR", "Privileges Required", Base),
+    row!("SA", "Availability Impact to the Subsequent System", Base),
+    row!(
         "SC",
         "Confidentiality Impact to the Subsequent System",
-        Base,
+        Base
     ),
-    ("SI", "Integrity Impact to the Subsequent System", Base),
-    ("UI", "User Interaction", Base),
-    ("VA", "Availability Impact to the Vulnerable System", Base),
-    (
+    row!("SI", "Integrity Impact to the Subsequent System", Base),
+    row!("UI", "User Interaction", Base),
+    row!("VA", "Availability Impact to the Vulnerable System", Base),
+    row!(
         "VC",
         "Confidentiality Impact to the Vulnerable System",
-        Base,
+        Base
     ),
-    ("VI", "Integrity Impact to the Vulnerable System", Base),
-    ("E", "Exploit Maturity", Threat),
-    ("AR", "Availability Requirements", Environmental),
-    ("CR", "Confidentiality Requirements", Environmental),
-    ("IR", "Integrity Requirements", Environmental),
-    ("MAC", "Modified Attack Complexity", Environmental),
-    ("MAT", "Modified Attack Requirements", Environmental),
-    ("MAV", "Modified Attack Vector", Environmental),
-    ("MPR", "Modified Privileges Required", Environmental),
-    (
+    row!("VI", "Integrity Impact to the Vulnerable System", Base),
+    row!("E", "Exploit Maturity", Threat),
+    row!("AR", "Availability Requirements", Environmental),
+    row!("CR", "Confidentiality Requirements", Environmental),
+    row!("IR", "Integrity Requirements", Environmental),
+    row!("MAC", "Modified Attack Complexity", Environmental),
+    row!("MAT", "Modified Attack Requirements", Environmental),
+    row!("MAV", "Modified Attack Vector", Environmental),
+    row!("MPR", "Modified Privileges Required", Environmental),
+    row!(
         "MSA",
         "Modified Availability Impact to the Subsequent System",
-        Environmental,
+        Environmental
     ),
-    (
+    row!(
         "MSC",
         "Modified Confidentiality Impact to the Subsequent System",
-        Environmental,
+        Environmental
     ),
-    (
+    row!(
         "MSI",
         "Modified Integrity Impact to the Subsequent System",
-        Environmental,
+        Environmental
     ),
-    ("MUI", "Modified User Interaction", Environmental),
-    (
+    row!("MUI", "Modified User Interaction", Environmental),
+    row!(
         "MVA",
         "Modified Availability Impact to the Vulnerable System",
-        Environmental,
+        Environmental
     ),
-    (
+    row!(
         "MVC",
         "Modified Confidentiality Impact to the Vulnerable System",
-        Environmental,
+        Environmental
     ),
-    (
+    row!(
         "MVI",
         "Modified Integrity Impact to the Vulnerable System",
-        Environmental,
+        Environmental
     ),
-    ("AU", "Automatable", Supplemental),
-    ("R", "Recovery", Supplemental),
-    ("RE", "Vulnerability Response Effort", Supplemental),
-    ("S", "Safety", Supplemental),
-    ("U", "Provider Urgency", Supplemental),
-    ("V", "Value Density", Supplemental),
+    row!("AU", "Automatable", Supplemental),
+    row!("R", "Recovery", Supplemental),
+    row!("RE", "Vulnerability Response Effort", Supplemental),
+    row!("S", "Safety", Supplemental),
+    row!("U", "Provider Urgency", Supplemental),
+    row!("V", "Value Density", Supplemental),
 ];
 
 impl MetricType {
@@ -174,7 +174,7 @@ impl Named for MetricType {
 
     ghost first = { Prim.search rules };
 
-    fn row(self) -> (&'static str, &'static str, MetricGroup) {
+    fn row(self) -> Row {
         let row = &ROWS[self as usize];
         *row
     }

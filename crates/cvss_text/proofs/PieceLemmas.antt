@@ -1,20 +1,21 @@
 -- How pieces come off a text, and that those of a text in UTF-8 are UTF-8.
-use Rattle.std.proofs.Common.{◌≡◌, ◌↔◌, IsTrue, not, ℕ, ◌+◌, ◌<◌, ◌≤◌, Bool, true, false, cond, ltb, List, [], ◌∷◌, inl, inr, length, take, drop, Option, Some, None, refl, sym, ap, ◌∙◌, Bor, arith, ◌++◌, subst, ltb-true, ltb-false, IsUtf8}
-use Rattle.std.specs.List.{position, position_or_len, All}
+use Rattle.std.proofs.Common.{append_assoc, IfSome, get_or, ◌-◌, ◌≡◌, ◌↔◌, IsTrue, not, ℕ, ◌+◌, ◌<◌, ◌≤◌, Bool, true, false, cond, ltb, List, [], ◌∷◌, inl, inr, length, take, drop, Option, Some, None, refl, sym, ap, ◌∙◌, Bor, arith, ◌++◌, subst, ltb-true, ltb-false, IsUtf8}
+use Rattle.std.specs.List.{position, position_or_len, All, onto_first}
 use Rattle.std.specs.Option.{option_map_or, unwrap_or, is_some}
 use Rattle.std.specs.Slice.{IsGetRangeResult}
 use Rattle.std.proofs.lemmas.Bool.{false_from_ne_true}
+use Rattle.std.proofs.lemmas.Bool.Decides.{nat_tests}
 use Rattle.std.proofs.lemmas.List.Folds.{list_any_none}
-use Rattle.std.proofs.lemmas.List.{take_all, take_rest, length-append, get_or_at, take_at, drop_at, drop-drop}
-use Rattle.std.proofs.lemmas.List.Splits.{slice_split_none, slice_split_first, length-slice_split, join_with_byte-slice_split}
+use Rattle.std.proofs.lemmas.List.{take_all, take_rest, length-append, get_or_append_left, get_or_at, take_at, drop_at, drop-drop}
+use Rattle.std.proofs.lemmas.List.Splits.{slice_split_none, slice_split-cons_no, slice_split_first, length-slice_split, join_with_byte-slice_split}
 use Rattle.std.proofs.lemmas.List.Sums.{fails_before_first}
 use Rattle.std.proofs.lemmas.Option.{cond_some, none-some}
-use Rattle.cvss_text.specs.private.Pieces.{AreParts, IsWithoutColon}
-use Rattle.cvss_base.specs.Text.{pieces, slash, colon, joined, component}
-use Rattle.cvss_text.proofs.TextLemmas.{is_slash, is_colon, position-within, colon-parts}
-use Rattle.std.proofs.lemmas.List.Elements.{All-nil, All-cons}
+use Rattle.cvss_text.specs.private.Pieces.{AreParts, IsAfterComponent, IsAfterComponents, IsWithoutColon}
+use Rattle.cvss_base.specs.Text.{pieces, slash, colon, joined, component, IsComponent}
+use Rattle.cvss_text.proofs.TextLemmas.{is_slash, is_colon, position-within, colon-parts, count_by-cons}
+use Rattle.std.proofs.lemmas.List.Elements.{All-nil, All-cons, All-append}
 use Rattle.std.proofs.lemmas.Str.{IsUtf8-take, IsUtf8-drop, IsCharBoundary-before_ascii, IsCharBoundary-after_ascii}
-use Rattle.cvss_base.specs.Refusal.{IsFirstBadPiece}
+use Rattle.cvss_base.specs.Refusal.{AreComponentsBefore, IsFirstBadPiece, piece_at}
 
 -- the place of the first byte that passes a test
 module _ (p : ℕ → Bool) (text : List ℕ) where
@@ -93,3 +94,44 @@ IsUtf8-name piece name value cut is = (cut_at_ascii name value colon (omega arit
 
 pub IsUtf8-value : (piece name value : List ℕ) → piece ≡ component name value → IsUtf8 piece → IsUtf8 value
 IsUtf8-value piece name value cut is = (cut_at_ascii name value colon (omega arith) (subst IsUtf8 cut is)).1
+
+-- the pieces that are left after components, and after one more
+pub IsAfterComponents-more : (parts left after : List (List ℕ)) → IsAfterComponents parts left → IsAfterComponent left after → IsAfterComponents parts after
+IsAfterComponents-more parts left after is first = record {
+  before = is.before ++ first.piece ∷ [];
+  cut = is.cut ∙ (ap (λ rest. is.before ++ rest) first.first ∙ sym (append_assoc is.before (first.piece ∷ []) after));
+  components = All-append IsComponent is.before (first.piece ∷ []) is.components (All-cons IsComponent first.piece [] first.component (All-nil IsComponent));
+}
+
+components_before : (parts left : List (List ℕ)) (is : IsAfterComponents parts left) → AreComponentsBefore parts (length is.before)
+components_before parts left is = record {
+  each = λ place below. rw (ap (λ list. piece_at list place) is.cut ∙ get_or_append_left is.before left [] place below) (is.components place [] below);
+}
+
+pub IsFirstBadPiece-after : (parts left : List (List ℕ)) (piece : List ℕ) (rest : List (List ℕ)) → IsAfterComponents parts left → left ≡ piece ∷ rest → ¬ (IsComponent piece) → IsFirstBadPiece parts piece
+IsFirstBadPiece-after parts left piece rest is first bad = record {
+  place = length is.before;
+  within = omega (arith, ap length is.cut, length-append is.before left, ap length first);
+  is = sym (ap (λ list. piece_at list (length is.before)) (is.cut ∙ ap (λ list. is.before ++ list) first) ∙ get_or_at is.before piece rest [] (length is.before) refl);
+  bad = bad;
+  earlier = components_before parts left is;
+}
+
+-- a component stays one with a letter before it
+IsAfterComponent-letter : (text : List ℕ) (after : List (List ℕ)) → 64 < get_or text 0 0 → IsAfterComponent (pieces (take (length text - 1) (drop 1 text))) after → IsAfterComponent (pieces text) after
+IsAfterComponent-letter [] after letter is = absurd (omega (arith, letter))
+IsAfterComponent-letter (byte ∷ rest) after letter is =
+    let no_slash : is_slash byte ≡ false = grind (arith, nat_tests) in
+    let no_colon : is_colon byte ≡ false = grind (arith, nat_tests) in
+    let none : cond {A = ℕ} (is_colon byte) 1 0 ≡ 0 = ap (λ test. cond {A = ℕ} test 1 0) no_colon in
+    let whole : take (length (byte ∷ rest) - 1) rest ≡ rest = take_all (length (byte ∷ rest) - 1) rest (omega arith) in
+    let first : pieces rest ≡ is.piece ∷ after = ap pieces (sym whole) ∙ is.first in
+    record {
+      piece = byte ∷ is.piece;
+      first = slice_split-cons_no is_slash byte rest no_slash ∙ ap (onto_first byte) first;
+      component = record { one_colon = omega (arith, count_by-cons is_colon byte is.piece, none, is.component.one_colon) };
+    }
+
+pub IsAfterComponent-found : (text : List ℕ) (found : Option (Bor (List ℕ))) → 64 < get_or text 0 0 → IfSome found (λ rest. IsAfterComponent (pieces (take (length text - 1) (drop 1 text))) (pieces rest.now)) → IfSome found (λ rest. IsAfterComponent (pieces text) (pieces rest.now))
+IsAfterComponent-found text None letter is = tt
+IsAfterComponent-found text (Some rest) letter is = IsAfterComponent-letter text (pieces rest.now) letter is

@@ -29,7 +29,7 @@ uppercased_colon byte = grind (arith, nat_tests)
 uppercased_delimiter : (byte : ℕ) → is_delimiter (to_ascii_uppercase byte) ≡ is_delimiter byte
 uppercased_delimiter byte = grind (arith, nat_tests)
 
--- a test that does not see whether letters are raised
+-- a test that does not see whether letters are in upper case
 module _ (p : ℕ → Bool) (keeps : (byte : ℕ) → p (to_ascii_uppercase byte) ≡ p byte) where
   position-uppercased : (text : List ℕ) → position_or_len p (uppercased text) ≡ position_or_len p text
   position-uppercased [] = refl

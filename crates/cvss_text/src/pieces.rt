@@ -3,8 +3,8 @@
 ghost use Rattle.std.specs.Prelude.{◌≡◌, ◌↔◌, ◌∷◌, [], IsTrue, IfSome, MatchOption, Some, length, ◌==◌, position};
 ghost use Rattle.std.specs.Iterator.{YieldsFirstRef, item_count};
 ghost use Rattle.cvss_base.specs.Text.{IsComponent, pieces};
-ghost use Rattle.cvss_text.specs.private.Pieces.{pieces_left, AreParts, IsWithoutColon};
-ghost use Rattle.cvss_base.specs.Refusal.{AreComponentsBefore, IsFirstBadPiece};
+ghost use Rattle.cvss_text.specs.private.Pieces.{pieces_left, AreParts, IsAfterComponent, IsWithoutColon};
+ghost use Rattle.cvss_base.specs.Refusal.{AreComponentsBefore, IsFirstBadPiece, piece_at};
 
 /// The pieces of a text, cut at each slash.
 #[derive(Clone, Copy)]
@@ -91,7 +91,77 @@ pub fn first_bad_piece(text: &[u8]) -> Option<&[u8]>
         (AreComponentsBefore (pieces text.now) (length (pieces text.now)))
         (λ piece. IsFirstBadPiece (pieces text.now) piece.now) }
 {
-    pieces_of(text).find(|piece| !is_component(piece))
+    let mut left = pieces_of(text);
+    while let Some(rest) = left.text() {
+        match after_component(rest) {
+            Some(after) => left = after,
+            None => return Some(front_of(rest).0),
+        }
+    }
+    None
+}
+
+/// The pieces after the first piece of a text, if that is a component.
+#[inline(always)]
+fn after_component(text: &[u8]) -> Option<Pieces<'_>>
+    ensures { MatchOption result (¬ (IsComponent (piece_at (pieces text.now) 0)))
+        (λ left. IsAfterComponent (pieces text.now) (pieces_left left)) }
+{
+    // Most are letters, which are above both delimiters.
+    if let Some(rest) = after_two_letters(text) {
+        return Some(pieces_of(rest));
+    }
+    if let Some(rest) = after_one_letter(text) {
+        return Some(pieces_of(rest));
+    }
+    if let Some(rest) = after_three_letters(text) {
+        return Some(pieces_of(rest));
+    }
+    after_any_component(text)
+}
+
+/// What follows a component with a name of one letter, and a slash.
+#[inline(always)]
+fn after_one_letter(text: &[u8]) -> Option<&[u8]>
+    ensures { IfSome result (λ rest. IsAfterComponent (pieces text.now) (pieces rest.now)) }
+{
+    match text {
+        [(b'A'..), b':', (b'A'..), b'/', rest @ ..] => Some(rest),
+        _ => None,
+    }
+}
+
+#[inline(always)]
+fn after_two_letters(text: &[u8]) -> Option<&[u8]>
+    ensures { IfSome result (λ rest. IsAfterComponent (pieces text.now) (pieces rest.now)) }
+{
+    match text {
+        [(b'A'..), (b'A'..), b':', (b'A'..), b'/', rest @ ..] => Some(rest),
+        _ => None,
+    }
+}
+
+#[inline(always)]
+fn after_three_letters(text: &[u8]) -> Option<&[u8]>
+    ensures { IfSome result (λ rest. IsAfterComponent (pieces text.now) (pieces rest.now)) }
+{
+    match text {
+        [(b'A'..), rest @ ..] => after_two_letters(rest),
+        _ => None,
+    }
+}
+
+/// The same, by a search for the slash.
+fn after_any_component(text: &[u8]) -> Option<Pieces<'_>>
+    ensures { MatchOption result (¬ (IsComponent (piece_at (pieces text.now) 0)))
+        (λ left. IsAfterComponent (pieces text.now) (pieces_left left)) }
+{
+    let (piece, left) = front_of(text);
+    if is_component(piece) {
+        Some(left)
+    } else {
+        None
+    }
 }
 
 /// The texts before and after the first colon of a piece.

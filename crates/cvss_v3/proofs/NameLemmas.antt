@@ -42,7 +42,7 @@ uppercased_to (byte ∷ bytes) [] raise letters = absurd raise
 name_letters : (kind : MetricType) → list_all is_ascii_uppercase (name_of kind) ≡ true
 name_letters = elim [ A ↦ refl | _ ↦ refl ]
 
--- letters that are those of a name are its bytes, raised
+-- letters that are those of a name are its bytes in upper case
 pub name_uppercased : (bytes us : List ℕ) (kind : MetricType) → RaiseTo bytes us → name_of kind ≡ us → name_of kind ≡ uppercased bytes
 name_uppercased bytes us kind raise named =
     named ∙ uppercased_to bytes us raise (subst (λ name. list_all is_ascii_uppercase name ≡ true) named (name_letters kind))

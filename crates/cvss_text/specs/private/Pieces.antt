@@ -1,5 +1,5 @@
 -- What is left of a text whose pieces are taken one by one, and how a piece is cut.
-use Rattle.std.specs.Prelude.{◌≡◌, ℕ, false, List, []}
+use Rattle.std.specs.Prelude.{◌≡◌, ℕ, false, List, [], ◌∷◌, ◌++◌, All}
 use Rattle.std.specs.Option.{option_map_or}
 use Rattle.cvss_text.specs.declared.pieces.Pieces.{Pieces}
 use Rattle.cvss_base.specs.Text.{pieces, has, colon, IsComponent, component, name_part, value_part}
@@ -18,3 +18,15 @@ pub record AreParts (piece name value : List ℕ) : Type 0 where
 pub record IsWithoutColon (piece : List ℕ) : Type 0 where
   pub colonless : has colon piece ≡ false
   pub no_component : ¬ (IsComponent piece)
+
+-- the first of the pieces is a component, and these follow it
+pub record IsAfterComponent (parts after : List (List ℕ)) : Type 0 where
+  pub piece : List ℕ
+  pub first : parts ≡ piece ∷ after
+  pub component : IsComponent piece
+
+-- these pieces follow components
+pub record IsAfterComponents (parts after : List (List ℕ)) : Type 0 where
+  pub before : List (List ℕ)
+  pub cut : parts ≡ before ++ after
+  pub components : All IsComponent before

@@ -12,7 +12,7 @@ use Rattle.cvss_v3_metric.specs.Table.{Value, rows_of, spelling_of, metric_compo
 abbrev pub has_undefined : MetricType → Bool
 has_undefined kind = list_any (λ row. bytes_eq row.0 (codes "X")) (rows_of kind)
 
--- a spelling is its own raised text
+-- a spelling is its own text in upper case
 pub uppercased_spelling : (kind : MetricType) (value : Value kind) → uppercased (spelling_of kind value) ≡ spelling_of kind value
 uppercased_spelling A = search rules
 uppercased_spelling _ = search rules

@@ -1,0 +1,18 @@
+use Rattle.std.proofs.Common.{sym, ap, ◌∙◌, subst}
+use Rattle.cvss_base.specs.Text.{pieces, IsComponent}
+use Rattle.cvss_base.specs.Refusal.{piece_at}
+use Rattle.cvss_text.specs.private.Pieces.{pieces_left, IsAfterComponent}
+use Rattle.cvss_text.proofs.PieceLemmas.{IsAfterComponents-more, IsFirstBadPiece-after}
+use Rattle.cvss_text.proofs.pieces.first_bad_piece.Goals as goal
+
+pub loop-rest-preserved : goal.loop-rest-preserved
+loop-rest-preserved c =
+    let after = pieces_left c.in-Some-after_component.after in
+    IsAfterComponents-more (pieces c.args.text.now) (pieces_left c.loop-rest.left) after c.loop-rest.invariant
+    (subst (λ parts. IsAfterComponent parts after) (sym c.in-Some.ensures) c.in-Some-after_component.ensures)
+
+pub returns-in-None : goal.returns-in-None
+returns-in-None c =
+    let first = ap (λ parts. piece_at parts 0) c.front_of.ensures in
+    IsFirstBadPiece-after (pieces c.args.text.now) (pieces_left c.loop-rest.left) c.front_of.result.0.now (pieces_left c.front_of.result.1) c.loop-rest.invariant
+    (c.in-Some.ensures ∙ c.front_of.ensures) (subst (λ piece. ¬ (IsComponent piece)) first c.in-None.ensures)
