@@ -27,6 +27,10 @@ func TestVectorsNeedNotBeCompleteForTheirNumbers(t *testing.T) {
 	if told.Impact.Cmp(rat("6.44297671875")) != 0 || told.AdjustedImpact.Cmp(rat("8.32857186375328125")) != 0 {
 		t.Error(told)
 	}
+	vector := parsed(t, "AV:N/AC:L/Au:N/C:N/I:N/A:C")
+	if told, err := cvss.NumbersOf(vector.Version(), vector.Metrics()); err != nil || told.Impact.Cmp(rat("6.8706")) != 0 {
+		t.Error(told, err)
+	}
 	if told, err := cvss.NumbersOf(cvss.V31, nil); err != nil || told.Base != 0 || told.Impact.Sign() != 0 {
 		t.Error(told, err)
 	}

@@ -34,9 +34,11 @@ from cvss_proved import (
     metrics,
     numbers,
     rounded,
+    score,
     scores,
     severity_of,
     temporal_with_impact,
+    values,
 )
 
 KINDS = (
@@ -72,6 +74,17 @@ def facts(text: bytes, strict: bool = False) -> str:
     return " ".join(told)
 
 
+def value_facts(text: bytes) -> List[str]:
+    """The facts that `values` has: the version, the nomenclature, the score and the metrics; none of a rejected text."""
+    own = values(text)
+    assert score(text) == (own and own.score), text
+    if own is None:
+        return []
+    assert list(own.metrics) == [metric.name for metric in metrics(own.version)], text
+    given = [f"{name}={value}" for name, value in own.metrics.items() if value is not None]
+    return [own.version, own.nomenclature or "-", f"{own.score:.1f}", *given]
+
+
 def lines_of(path: Path) -> List[bytes]:
     lines = path.read_bytes().splitlines()
     if not lines:
@@ -95,12 +108,18 @@ def check_stored_lines(root: Path) -> None:
         assert len(lines) == len(expected)
         for line, told in zip(lines, expected):
             assert call(line) == told.decode(), line
+    for line, row in zip(lines, lines_of(root / "bindings" / "stored" / "facts")):
+        text, *words = row.decode().split(" ")
+        # a rejected text has the number of a kind in place of the canonical text
+        assert value_facts(line) == ([] if text.isdigit() else [words[0], words[1], words[3], *words[9:]]), line
     stored = [line.decode() for line in stored_lines(root, "stdout")]
     assert answers(lines) == stored
     assert scores(lines) == [None if line.startswith("error: ") else float(line.split()[1]) for line in stored]
     texts: List[Text] = [TEXT + "\n", b"\xff", TEXT]
     assert scores([]) == [] and scores(iter(texts)) == [None, None, 7.8]
     assert raises(TypeError, lambda: scores(TEXT))
+    assert score(memoryview(TEXT.encode())) == 7.8 and score("AV:\ud800") is None and values(b"\xff") is None
+    assert raises(TypeError, lambda: score(5)) and raises(TypeError, lambda: values(None))  # type: ignore[arg-type]
     print(f"Python: {len(lines)} lines, 0 wrong answers")
 
 
@@ -460,6 +479,7 @@ def check_numbers() -> None:
     assert told[:3] == (2.8, 2.8, 4.1) and told.adjusted_impact == impact and told.exploitability == 0
     assert not any(numbers("3.0")) and not any(numbers("2.0", {}))
     assert numbers("3.1", c="h", s="c").impact == Fraction("0.56")
+    assert numbers("2.0", Vector(TEXT).metrics)[:3] == Vector(TEXT).scores
     rows = (("4.000001", 4.1, 4.0), ("4.000005", 4.1, 4.1), ("-0.1", -0.1, 0), ("-0.05", 0, 0))
     for number, v30, v31 in rows:
         assert (rounded(Fraction(number), "3.0"), rounded(Decimal(number), "3.1")) == (v30, v31), number
@@ -639,8 +659,8 @@ def check_copies() -> None:
             assert type(refused) is type(error) and vars(refused) == vars(error) and refused.args == error.args
     for plain in copies(Vector(TEXT)):
         assert plain == Vector(TEXT) and type(plain) is Vector
-    for pair in copies((Vector(TEXT).scores, Vector(TEXT).severities)):
-        assert pair == (Vector(TEXT).scores, Vector(TEXT).severities)
+    tuples = Vector(TEXT).scores, Vector(TEXT).severities, values(TEXT), numbers("2.0", TEXT_METRICS)
+    assert all(copied == tuples for copied in copies(tuples))
 
 
 def check_docstrings() -> None:

@@ -24,6 +24,7 @@ from ._exact import Numbers, numbers, rounded, temporal_with_impact
 from ._find import Found, find
 from ._library import Text
 from ._numbers import Nomenclature, Severity, severity_of
+from ._values import Values, score, values
 from ._vector import Scores, Severities, Vector, answer, answers, scores
 from ._words import Described, Group, MetricType, MetricValue, Version, metrics
 
@@ -43,6 +44,7 @@ __all__ = [
     "Severities",
     "Severity",
     "Text",
+    "Values",
     "Vector",
     "Version",
     "answer",
@@ -51,8 +53,10 @@ __all__ = [
     "metrics",
     "numbers",
     "rounded",
+    "score",
     "scores",
     "severity_of",
     "temporal_with_impact",
+    "values",
     "__version__",
 ]

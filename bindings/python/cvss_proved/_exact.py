@@ -39,10 +39,10 @@ def numbers(version: Version, metrics: Optional[Mapping[str, str]] = None, /, **
     3.6
     """
     number, given = _version(version), joined(metrics, values)
-    told = _library.numbers(number, given)
-    if told is None:
+    own = _library.numbers(number, given)
+    if own is None:
         raise CvssError.of_reason(_library.build_reason(number, given))
-    base, temporal, environmental, *counts = told
+    base, temporal, environmental, *counts = own
     impact, exploitability, adjusted = (Fraction(count, _UNITS) for count in counts)
     return Numbers(base / 10, temporal / 10, environmental / 10, impact, exploitability, adjusted)
 
@@ -92,3 +92,6 @@ def _count(number: Union[int, float, Decimal, Fraction]) -> int:
         return round(Fraction(number) * _UNITS)
     except (OverflowError, ValueError):
         raise ValueError(f"a number is to be finite, and not {number}") from None
+
+
+Numbers.__module__ = "cvss_proved"

@@ -29,6 +29,9 @@ ENVIRONMENTAL_SEVERITY = 6
 NOMENCLATURE = 7
 IS_COMPLETE = 8
 
+# The struct CvssValues of cvss.h: the version, the score, the nomenclature, and the spellings of 32 values.
+_VALUES = struct.Struct("3i4x" + 32 * "8s")
+
 
 class _Number(ctypes.Structure):
     """The struct CvssNumber of cvss.h: so many 10^-12, and so many 10^-24."""
@@ -69,8 +72,11 @@ def _declared(library: ctypes.CDLL) -> ctypes.CDLL:
     # the others are given as pointers and a size_t, which need no conversion
     library.cvss_read.argtypes = text
     library.cvss_read.restype = ctypes.c_size_t
-    library.cvss_refusal_kind.argtypes = text
-    library.cvss_refusal_kind.restype = ctypes.c_int32
+    for count in (library.cvss_score, library.cvss_refusal_kind):
+        count.argtypes = text
+        count.restype = ctypes.c_int32
+    library.cvss_values.argtypes = [*text, ctypes.c_char_p]
+    library.cvss_values.restype = ctypes.c_bool
     for call in (
         library.cvss_canonical,
         library.cvss_without_undefined,
@@ -174,6 +180,21 @@ def read(text: bytes) -> Optional[Tuple[Tuple[int, ...], bytes]]:
     told = (_numbers_in(room), room[_CANONICAL : _CANONICAL + length]) if length else None
     _rooms.append(own)
     return told
+
+
+def score(text: bytes) -> int:
+    """The score of the vector that a text denotes, in tenths, or NOTHING."""
+    return int(_library.cvss_score(text, len(text)))
+
+
+def values(text: bytes) -> Optional[Tuple[int, int, int, List[str]]]:
+    """The version, the score in tenths and the nomenclature of the vector that a text denotes, and how its values are
+    spelled: 32, in the order of canonical texts, each empty where there is none."""
+    buffer = ctypes.create_string_buffer(_VALUES.size)
+    if not _library.cvss_values(text, len(text), buffer):
+        return None
+    version, tenths, nomenclature, *fields = _VALUES.unpack(buffer.raw)
+    return version, tenths, nomenclature, [field.rstrip(b"\0").decode() for field in fields]
 
 
 def without_undefined(text: bytes) -> str:

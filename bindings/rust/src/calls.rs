@@ -3,6 +3,9 @@
 //! The declarations are those of `bindings/c/cvss.h`. No call keeps a pointer, and none asks for
 //! more than pointers to as many bytes as are told, which slices are.
 
+use crate::Values;
+use std::mem::MaybeUninit;
+
 /// The struct of the same name in `cvss.h`. What is reserved is not read.
 #[derive(Clone, Copy, Default)]
 #[repr(C)]
@@ -49,18 +52,7 @@ pub(crate) struct CvssNumbers {
 }
 
 /// No vector has more metrics.
-const MOST_METRICS: usize = 32;
-
-/// The struct of the same name in `cvss.h`. What is reserved is not read.
-#[derive(Clone, Copy, Debug, Default, PartialEq, Eq)]
-#[repr(C)]
-pub(crate) struct CvssValues {
-    pub(crate) version: i32,
-    pub(crate) score: i32,
-    pub(crate) nomenclature: i32,
-    reserved: i32,
-    pub(crate) fields: [[u8; 8]; MOST_METRICS],
-}
+pub(crate) const MOST_METRICS: usize = 32;
 
 extern "C" {
     fn cvss_read(
@@ -72,7 +64,7 @@ extern "C" {
     ) -> usize;
     fn cvss_scores(text: *const u8, length: usize, scores: *mut CvssScores) -> bool;
     fn cvss_score(text: *const u8, length: usize) -> i32;
-    fn cvss_values(text: *const u8, length: usize, values: *mut CvssValues) -> bool;
+    fn cvss_values(text: *const u8, length: usize, values: *mut Values) -> bool;
     fn cvss_metrics(
         text: *const u8,
         length: usize,
@@ -197,14 +189,15 @@ pub(crate) fn score(text: &[u8]) -> i32 {
     unsafe { cvss_score(text.as_ptr(), text.len()) }
 }
 
-/// The values of the metrics of the vector that a text denotes.
+/// What a function makes of the values of the vector that a text denotes.
 #[inline]
-pub(crate) fn values(text: &[u8]) -> Option<CvssValues> {
-    let mut values = CvssValues::default();
+pub(crate) fn with_values<T>(text: &[u8], of: impl FnOnce(&Values) -> T) -> Option<T> {
+    let mut values = MaybeUninit::uninit();
     // SAFETY: the pointers are those of a slice and of a struct that live through the call and do not
     // overlap.
-    let is_vector = unsafe { cvss_values(text.as_ptr(), text.len(), &mut values) };
-    is_vector.then_some(values)
+    let is_vector = unsafe { cvss_values(text.as_ptr(), text.len(), values.as_mut_ptr()) };
+    // SAFETY: if it is a vector, the call has written the whole struct.
+    is_vector.then(|| of(unsafe { values.assume_init_ref() }))
 }
 
 /// The metrics of the vector that a text denotes, or none.

@@ -1,6 +1,6 @@
 //! A vector as the values of its metrics, without a text.
 
-use crate::calls::{self, CvssValues};
+use crate::calls::{self, MOST_METRICS};
 use crate::vector::field_text;
 use crate::{metrics, Nomenclature, Score, Version};
 
@@ -14,9 +14,15 @@ use crate::{metrics, Nomenclature, Score, Version};
 /// assert_eq!((values.value("AV"), values.value("E"), values.value("RL")), (Some("N"), Some("U"), None));
 /// assert_eq!(Values::of("CVSS:3.1/AV:Q"), None);
 /// ```
+// The struct `CvssValues` of `cvss.h`.
 #[derive(Clone, Copy, Debug, PartialEq, Eq)]
+#[repr(C)]
 pub struct Values {
-    values: CvssValues,
+    version: i32,
+    score: i32,
+    nomenclature: i32,
+    reserved: i32,
+    fields: [[u8; 8]; MOST_METRICS],
 }
 
 impl Values {
@@ -24,28 +30,35 @@ impl Values {
     #[must_use]
     #[inline]
     pub fn of(text: &str) -> Option<Values> {
-        calls::values(text.as_bytes()).map(|values| Values { values })
+        Values::with(text, |values| *values)
+    }
+
+    /// What a function makes of the values of the vector that a text denotes; `None` where it denotes none.
+    /// It saves the copy that [`Values::of`] returns.
+    #[inline]
+    pub fn with<T>(text: &str, of: impl FnOnce(&Values) -> T) -> Option<T> {
+        calls::with_values(text.as_bytes(), of)
     }
 
     /// The version of the standard.
     #[must_use]
     #[inline]
     pub fn version(&self) -> Version {
-        Version::of(self.values.version)
+        Version::of(self.version)
     }
 
     /// The score: in v2 and v3 the base score, in v4.0 the score of all metrics in the vector.
     #[must_use]
     #[inline]
     pub fn score(&self) -> Score {
-        Score::of(self.values.score).unwrap_or_default()
+        Score::of(self.score).unwrap_or_default()
     }
 
     /// Which groups of metrics the score rests on, which v4.0 has.
     #[must_use]
     #[inline]
     pub fn nomenclature(&self) -> Option<Nomenclature> {
-        Nomenclature::of(self.values.nomenclature)
+        Nomenclature::of(self.nomenclature)
     }
 
     /// The spelling of the value of each metric, filled up with bytes 0, in the order of
@@ -53,7 +66,7 @@ impl Values {
     #[must_use]
     #[inline]
     pub fn fields(&self) -> &[[u8; 8]; 32] {
-        &self.values.fields
+        &self.fields
     }
 
     /// The spelling of the value of a metric, by the metric's abbreviation.

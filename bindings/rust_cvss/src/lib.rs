@@ -154,22 +154,19 @@ impl FromStr for Cvss {
         if let Some(error) = left_out {
             return Err(error);
         }
-        let Some(values) = Values::of(text) else {
-            return Err(library::rejected(text));
-        };
-        let own = match values.version() {
+        let own = Values::with(text, |values| match values.version() {
             #[cfg(feature = "v2")]
-            Version::V20 => v2::Vector::of(&values).map(Cvss::CvssV20),
+            Version::V20 => v2::Vector::of(values).map(Cvss::CvssV20),
             #[cfg(feature = "v3")]
-            Version::V30 => v3::Vector::of(&values).map(Cvss::CvssV30),
+            Version::V30 => v3::Vector::of(values).map(Cvss::CvssV30),
             #[cfg(feature = "v3")]
-            Version::V31 => v3::Vector::of(&values).map(Cvss::CvssV31),
+            Version::V31 => v3::Vector::of(values).map(Cvss::CvssV31),
             #[cfg(feature = "v4")]
-            Version::V40 => v4::Vector::of(&values).map(Cvss::CvssV40),
+            Version::V40 => v4::Vector::of(values).map(Cvss::CvssV40),
             #[allow(unreachable_patterns)]
             _ => None,
-        };
-        own.ok_or_else(|| library::rejected(text))
+        });
+        own.flatten().ok_or_else(|| library::rejected(text))
     }
 }
 

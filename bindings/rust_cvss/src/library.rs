@@ -8,6 +8,9 @@ use cvss_proved::{Exact, Numbers, Version};
 
 /// A metric of a vector, as the library gives it and as texts have it.
 pub(crate) trait Component: Copy {
+    /// Which bits of a second letter count: 0 if no two values begin with the same letter.
+    const SECOND: u8;
+
     /// The values by the places of their fields.
     const PLACED: [Option<Self>; 32];
 
@@ -17,7 +20,7 @@ pub(crate) trait Component: Copy {
     /// The value whose spelling a field of the library has; none if it is empty.
     fn of(field: [u8; 8]) -> Option<Self> {
         // no comparison, which the processor would have to guess
-        Self::PLACED[place_of(field)]
+        Self::PLACED[place_of(field, Self::SECOND)]
     }
 }
 
@@ -34,14 +37,14 @@ pub(crate) const fn field(spelling: &str) -> [u8; 8] {
 }
 
 /// A place from 0 to 31, which no two values of a metric have, and 0 of none. `placed` compares the values.
-pub(crate) const fn place_of(field: [u8; 8]) -> usize {
-    ((field[0] ^ field[1]) & 31) as usize
+pub(crate) const fn place_of(field: [u8; 8], second: u8) -> usize {
+    ((field[0] ^ (field[1] & second)) & 31) as usize
 }
 
 /// The values with one more, at the place of its spelling.
 macro_rules! placed {
     ($placed:ident, $spelling:literal, $value:expr) => {
-        let place = $crate::library::place_of($crate::library::field($spelling));
+        let place = $crate::library::place_of($crate::library::field($spelling), Self::SECOND);
         assert!(place != 0 && $placed[place].is_none());
         $placed[place] = Some($value);
     };
@@ -55,7 +58,7 @@ pub(crate) trait Own: Sized {
 
 /// Reads a text by the rules of the version that it reports, which is that of the vector.
 pub(crate) fn read<V: Own>(text: &str) -> Result<V, Error> {
-    let vector = Values::of(text).and_then(|values| V::of(&values));
+    let vector = Values::with(text, V::of).flatten();
     vector.ok_or_else(|| rejected(text))
 }
 

@@ -2,7 +2,7 @@
 
 /// An enum of the values of a metric, each with its spelling and with another one where two are read.
 macro_rules! spelled {
-    ($(#[$doc:meta])* $name:ident $kind:ident $error:ident {
+    ($(#[$doc:meta])* $name:ident $kind:ident $error:ident $second:literal {
         $($(#[$own:meta])* $variant:ident $spelling:literal $(or $other:literal)?),+
     }) => {
         $(#[$doc])*
@@ -25,6 +25,8 @@ macro_rules! spelled {
         }
 
         impl $crate::library::Component for $name {
+            const SECOND: u8 = $second;
+
             const PLACED: [Option<Self>; 32] = {
                 let mut placed = [None; 32];
                 $($crate::library::placed!(placed, $spelling, Self::$variant);)+

@@ -34,7 +34,7 @@ macro_rules! metrics {
         $(
             crate::spelled::spelled! {
                 $(#[$doc])*
-                $name $kind InvalidMetricV2 { $($variant $spelling),+ }
+                $name $kind InvalidMetricV2 31 { $($variant $spelling),+ }
             }
 
             impl Metric for $name {

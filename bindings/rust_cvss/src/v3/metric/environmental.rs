@@ -132,6 +132,7 @@ impl Metric for ModifiedScope {
 component!(ModifiedScope);
 
 impl Component for ModifiedScope {
+    const SECOND: u8 = Scope::SECOND;
     const PLACED: [Option<Self>; 32] = modified_values!(ModifiedScope, Scope);
 
     fn push(self, text: &mut String) {
@@ -171,6 +172,7 @@ macro_rules! base_metrics {
             }
 
             impl Component for Modified<$name> {
+                const SECOND: u8 = $name::SECOND;
                 const PLACED: [Option<Self>; 32] = modified_values!(Modified, $name);
 
                 fn push(self, text: &mut String) {

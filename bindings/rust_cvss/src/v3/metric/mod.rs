@@ -36,7 +36,7 @@ macro_rules! metrics {
         $(
             crate::spelled::spelled! {
                 $(#[$doc])*
-                $name $kind InvalidMetricV3 { $($variant $spelling),+ }
+                $name $kind InvalidMetricV3 0 { $($variant $spelling),+ }
             }
 
             impl Metric for $name {

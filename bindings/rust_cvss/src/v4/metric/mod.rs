@@ -34,7 +34,7 @@ macro_rules! metrics {
         $(
             crate::spelled::spelled! {
                 $(#[$doc])*
-                $name $kind InvalidMetricV4 { $($variant $spelling $(or $other)?),+ }
+                $name $kind InvalidMetricV4 0 { $($variant $spelling $(or $other)?),+ }
             }
 
             impl Default for $name {

@@ -1,0 +1,54 @@
+package cvss_test
+
+import (
+	"strings"
+	"testing"
+
+	"yuntabek.example/cvss"
+)
+
+// The version, nomenclature, score and metrics of each stored line are those of the second implementation in reference/.
+func TestTextsHaveTheirValues(t *testing.T) {
+	facts := lines(t, "bindings/stored/facts")
+	for i, text := range storedLines(t, "stdin") {
+		values, ok := cvss.ValuesOf(text)
+		score, isScored := cvss.ScoreOf(text)
+		if isScored != ok || score != values.Score {
+			t.Errorf("%q: %v, %v", text, score, isScored)
+		}
+		nomenclature := string(values.Nomenclature)
+		if nomenclature == "" {
+			nomenclature = "-"
+		}
+		told := []string{string(values.Version), nomenclature, values.Score.String()}
+		for i, metric := range cvss.Metrics(values.Version) {
+			if values.Metrics[i].Name != metric.Name || values.Metrics[i].Value != values.Value(metric.Name) {
+				t.Errorf("%q: %v", text, values.Metrics)
+			}
+			if values.Metrics[i].Value != "" {
+				told = append(told, metric.Name+"="+values.Metrics[i].Value)
+			}
+		}
+		words := strings.Split(facts[i], " ")
+		// a rejected text has the number of a kind in place of the canonical text
+		if isRejected := len(words[0]) == 1; isRejected == ok {
+			t.Errorf("%q: %v", text, ok)
+		} else if ok && strings.Join(told, " ") != strings.Join(append([]string{words[1], words[2], words[4]}, words[10:]...), " ") {
+			t.Errorf("%q: %v, and not %v", text, told, words)
+		}
+	}
+}
+
+func TestTextsWithoutAVectorHaveNoValues(t *testing.T) {
+	for _, text := range []string{"", "AV:N", "AV:\xff"} {
+		if values, ok := cvss.ValuesOf(text); ok || len(values.Metrics) != 0 || values.Value("AV") != "" {
+			t.Errorf("%q: %v", text, values)
+		}
+		if score, ok := cvss.ScoreOf(text); ok || score != 0 {
+			t.Errorf("%q: %v", text, score)
+		}
+	}
+	if values, _ := cvss.ValuesOf("CVSS:3.1/AV:N"); values.Value("AV") != "N" || values.Value("PR")+values.Value("av") != "" {
+		t.Error(values)
+	}
+}
