@@ -218,7 +218,7 @@ def try_programs():
     pages = ((ROOT / "README.md").read_text(), PROGRAMS)
     found = [block for page in pages for block in blocks(page, "") if block.startswith("$ ")]
     examples = [example for block in found if "> findings" not in block for example in re.split(r"(?m)^\$ ", block)[1:]]
-    for name in ("cvss", "cvss find", "cvss audit", "cvss_triage"):
+    for name in ("cvss", "cvss find", "cvss audit", "cvss triage"):
         assert any(re.search(rf"\| {name}\b", example) for example in examples), f"no example of {name}"
     for example in examples:
         command, _, wanted = example.partition("\n")

@@ -1,7 +1,7 @@
 #!/usr/bin/env python3
 """A second implementation of what `cvss triage` answers, written from the public standards alone.
 
-usage: reference/ranking.py [--set METRIC:VALUE].. [--profile FILE] [--keep-going] [--allow-incomplete] [FILE]..
+usage: reference/ranking.py [--set METRIC:VALUE].. [--profile FILE].. [--keep-going] [--allow-incomplete] [FILE]..
 """
 import sys
 
@@ -21,10 +21,6 @@ ENVIRONMENTAL = {2: ("CDP", "TD", "CR", "IR", "AR"),
 EXAMPLES = {2: b"AV:N/AC:L/Au:N/C:N/I:N/A:N", 3: b"CVSS:3.1/AV:N",
             4: b"CVSS:4.0/AV:N/AC:L/AT:N/PR:N/UI:N/VC:N/VI:N/VA:N/SC:N/SI:N/SA:N"}
 PREFIXES = {b"CVSS:4.0/": 4, b"CVSS:3.1/": 3, b"CVSS:3.0/": 3}
-
-
-class Wrong(Exception):
-    """An override that no vector takes, by its index."""
 
 
 def overall(text):
@@ -93,12 +89,9 @@ def rank(lines, overrides, allow_incomplete):
     return sorted(rows), bad
 
 
-def is_right(overrides, index):
-    """Whether some vector takes the override, and no earlier line of the profile is for its versions."""
-    given, metrics = overrides[index]
-    if given is not None and any(given == other for other, _ in overrides[:index]):
-        return False
-    return any(holds(given, metrics, text.decode()) is not None for text in EXAMPLES.values())
+def is_known(override):
+    """Whether some vector takes the override."""
+    return any(holds(*override, text.decode()) is not None for text in EXAMPLES.values())
 
 
 def row_text(row):
@@ -107,44 +100,59 @@ def row_text(row):
 
 
 def options(words):
-    """What the words ask for: the metrics that are set, the profiles, the flags, and the files."""
-    given = {"--set": [], "--profile": [], "--keep-going": False, "--allow-incomplete": False}
-    words = list(words)
-    while words and words[0].startswith("--") and words[0] != "--":
+    """The settings in their order, the flags, and the operands."""
+    words, settings, flags = list(words), [], set()
+    while words and words[0].startswith(b"-") and words[0] not in (b"-", b"--"):
         word = words.pop(0)
-        if isinstance(given[word], list):
-            given[word].append(words.pop(0).encode("utf-8", "surrogateescape"))
+        if word in (b"--set", b"--profile"):
+            settings.append((word, words.pop(0)))
         else:
-            given[word] = True
-    return given, words[words[:1] == ["--"]:]
+            flags.add(word)
+    return settings, flags, words[words[:1] == [b"--"]:]
+
+
+def overrides_of(settings, read):
+    """Each override with what is reported of it if no vector takes it."""
+    for kind, word in settings:
+        if kind == b"--set":
+            yield b"not a metric of any version: " + word, (None, word)
+            continue
+        for number, line in enumerate(reference.lines_of(read(word)), 1):
+            if line.strip(b" \t"):
+                yield word + b": line %d: not a metric of any version: " % number + line, override(line)
+
+
+def run(words, read):
+    """The status, standard output and standard error for these arguments, where a call reads an operand."""
+    settings, flags, operands = options(words)
+    overrides = list(overrides_of(settings, read))
+    unknown = [report for report, override in overrides if not is_known(override)]
+    if unknown:
+        return 2, b"", b"".join(b"cvss: " + report + b"\n" for report in unknown)
+    places, lines = [], []
+    for name in operands or [b"-"]:
+        own = reference.lines_of(read(name))
+        front = name + b": " if len(operands) > 1 else b""
+        places += [front + b"line %d: " % number for number in range(1, len(own) + 1)]
+        lines += own
+    rows, bad = rank(lines, [override for _, override in overrides], b"--allow-incomplete" in flags)
+    reports = b"".join(b"cvss: " + places[index] + reason.encode("utf-8") + b"\n" for index, reason in bad)
+    shown = rows if not bad or b"--keep-going" in flags else []
+    return int(bool(bad)), b"".join(map(row_text, shown)), reports
+
+
+def read(name):
+    if name == b"-":
+        return sys.stdin.buffer.read()
+    with open(name, "rb") as file:
+        return file.read()
 
 
 def main():
-    given, files = options(sys.argv[1:])
-    overrides = []
-    for profile in given["--profile"]:
-        with open(profile, "rb") as file:
-            overrides += map(override, reference.lines_of(file.read()))
-    overrides += [(None, metrics) for metrics in given["--set"]]
-    for index in range(len(overrides)):
-        if not is_right(overrides, index):
-            raise Wrong(index)
-    places, lines = [], []
-    for name in files or ["-"]:
-        if name == "-":
-            data = sys.stdin.buffer.read()
-        else:
-            with open(name, "rb") as file:
-                data = file.read()
-        own = reference.lines_of(data)
-        places += [(f"{name}: " if len(files) > 1 else "") + f"line {number}" for number in range(1, len(own) + 1)]
-        lines += own
-    rows, bad = rank(lines, overrides, given["--allow-incomplete"])
-    for index, reason in bad:
-        sys.stderr.buffer.write(f"cvss: {places[index]}: {reason}\n".encode("utf-8"))
-    if not bad or given["--keep-going"]:
-        sys.stdout.buffer.write(b"".join(map(row_text, rows)))
-    sys.exit(bool(bad))
+    status, written, reports = run([word.encode("utf-8", "surrogateescape") for word in sys.argv[1:]], read)
+    sys.stdout.buffer.write(written)
+    sys.stderr.buffer.write(reports)
+    sys.exit(status)
 
 
 if __name__ == "__main__":

@@ -21,6 +21,7 @@ ROOT = Path(__file__).resolve().parents[2]
 sys.path.insert(0, str(ROOT / "reference"))
 
 import accounts
+import ranking
 import reference
 import v2
 import v3
@@ -122,10 +123,9 @@ def try_refusals(runs):
         lines = [(text, words) for version, text, words in cases if version == "cvss"]
         runs.expect("cvss_tool", "".join(f"{text}\n" for text, _ in lines).encode(),
                     (1, "".join(f"error: {words}\n" for _, words in lines).encode(), ""))
-        for version, text, words in cases:
-            if version == "v4":
-                runs.expect("cvss_triage", f"{LOW}\n{text}".encode(),
-                            (1, b"", f"cvss_triage: line 2: {words}\n"))
+        for text, _ in lines:
+            _, ((_, words),) = ranking.rank([text.encode()], [], False)
+            runs.expect("cvss_command", f"{LOW}\n{text}".encode(), (1, b"", f"cvss: line 2: {words}\n"), ["triage"])
         try_unknown(runs, "q" * size)
     for word in ("unknown", "Nonee", "non", ""):
         try_unknown(runs, word)
@@ -146,37 +146,27 @@ def try_whole(runs):
         runs.expect("test_vectors", f"{text}\n".encode(), (0, answer.encode(), ""))
         for mark in (version, "cvss"):
             runs.expect("test_json", f"{mark} {text}\n".encode(), (0, f"{text}\n".encode(), ""))
-    runs.expect("cvss_triage", WHOLE["v4"].encode(), (0, row(WHOLE["v4"], []), ""))
+        runs.expect("cvss_command", text.encode(), (0, row(text, []), ""), ["triage"])
 
 
-def row(text, overrides):
-    """The row of a text that has none of the metrics of these overrides."""
-    scored, score, severity = reference.read_v4("/".join([text, *overrides]))
-    return f"{score // 10}.{score % 10} {severity} {scored} {text}\n".encode()
+def row(text, metrics):
+    """The row of a text with these metrics set."""
+    rows, _ = ranking.rank([text.encode()], [(None, metric.encode()) for metric in metrics], False)
+    return ranking.row_text(*rows)
 
 
 def try_arguments(runs):
-    """As many arguments as there are environmental metrics, one more, and long ones."""
-    overrides = [f"{name}:{next(iter(spellings))}" for name, (_, spellings) in v4.METRICS.items()
-                 if name in ("CR", "IR", "AR") or name[0] == "M"]
-    for count in range(len(overrides) + 1):
-        runs.expect("cvss_triage", LOW.encode(), (0, row(LOW, overrides[:count]), ""),
-                    overrides[:count])
-    for more, reason in (("cr:l", "duplicate CVSSv4 CR (Confidentiality Requirements) metric"),
-                       ("E:P", "no environmental CVSSv4 metric"),
-                       ("x", "invalid CVSS metric group component: `x`")):
-        runs.expect("cvss_triage", LOW.encode(), (1, b"", f"cvss_triage: argument 15: {reason}\n"),
-                    [*overrides, more])
+    """As many metrics as there are in v4.0, one of them twice, and long ones."""
+    metrics = [f"{name}:{next(iter(spellings))}" for name, (_, spellings) in v4.METRICS.items()]
+    for count in range(len(metrics) + 1):
+        words = [word for metric in metrics[:count] for word in ("--set", metric)]
+        runs.expect("cvss_command", LOW.encode(), (0, row(LOW, metrics[:count]), ""), ["triage", *words])
+    runs.expect("cvss_command", LOW.encode(), (0, row(LOW, [*metrics, "CR:L"]), ""), ["triage", *words, "--set", "CR:L"])
     for size in ARGUMENT_SIZES:
         part = "q" * size
-        for argument, reason in (
-                (part, f"invalid CVSS metric group component: `{part}`"),
-                (f"{part}:N", f"unknown CVSS metric name: `{part.upper()}`"),
-                (f"MAV:{part}",
-                 f"invalid CVSSv4 MAV (Modified Attack Vector) metric: `{part.upper()}`"),
-                (f"E:{part}", "no environmental CVSSv4 metric")):
-            runs.expect("cvss_triage", LOW.encode(), (1, b"", f"cvss_triage: argument 1: {reason}\n"),
-                        [argument])
+        for metric in (part, f"{part}:N", f"MAV:{part}", f"E:{part}"):
+            runs.expect("cvss_command", LOW.encode(), (2, b"", f"cvss: not a metric of any version: {metric}\n"),
+                        ["triage", "--set", metric])
         runs.expect("cvss_tool", b"", (0, b"", ""), [part] * 20)
 
 
@@ -187,16 +177,16 @@ def try_much(runs):
         reason = f"invalid CVSS metric group component: `{part}`"
         runs.expect("cvss_tool", part.encode() + b"\n" + LINE,
                     (1, f"error: {reason}\n{FIRST}".encode(), ""))
-        runs.expect("cvss_triage", part.encode(), (1, b"", f"cvss_triage: line 1: {reason}\n"))
+        runs.expect("cvss_command", part.encode(), (1, b"", "cvss: line 1: no vector\n"), ["triage"])
         runs.expect("cvss_command", f'{{"vectorString":"{part}"}}'.encode(),
                     (1, f'{{"at":"","given":"{part}","line":1,"refused":"{reason}"}}\n'.encode(), ""), ["audit"])
     count = ALL // len(LINE)
     runs.expect("cvss_tool", LINE * count, (0, FIRST.encode() * count, ""))
     count = ONE_BY_ONE // len(LINE)
     runs.expect("cvss_tool", LINE * count, (0, FIRST.encode() * count, ""), READ_STEP=1)
-    runs.expect("cvss_triage", f"{LOW}\n".encode() * SLOW_ROWS, (0, row(LOW, []) * SLOW_ROWS, ""),
+    runs.expect("cvss_command", f"{LOW}\n".encode() * SLOW_ROWS, (0, row(LOW, []) * SLOW_ROWS, ""), ["triage"],
                 WRITE_SLOWLY=1, READ_STEP=1)
-    runs.expect("cvss_triage", f"{LOW}\n".encode() * ROWS, (0, row(LOW, []) * ROWS, ""))
+    runs.expect("cvss_command", f"{LOW}\n".encode() * ROWS, (0, row(LOW, []) * ROWS, ""), ["triage"])
     reason = b"error: invalid CVSS metric group component: `\0`\n"
     runs.expect("cvss_tool", b"\0\n" + LINE + b"\0\n", (1, reason + FIRST.encode() + reason, ""))
     runs.expect("cvss_tool", LINE + b"\0\n", (1, FIRST.encode() + reason, ""), READ_STEP=len(LINE))

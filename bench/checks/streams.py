@@ -116,12 +116,12 @@ TEXTS = [
 LOW = "CVSS:4.0/AV:N/AC:L/AT:N/PR:H/UI:N/VC:L/VI:L/VA:N/SC:N/SI:N/SA:N"
 NONE = "CVSS:4.0/AV:N/AC:L/AT:N/PR:N/UI:N/VC:N/VI:N/VA:N/SC:N/SI:N/SA:N"
 LOWER = "CVSS:4.0/av:n/AC:L/AT:N/PR:N/UI:N/VC:N/VI:N/VA:N/SC:N/SI:N/SA:N"
-# Arguments and lines of `cvss_triage`, and the rows.
+# Arguments and lines of `cvss triage`, and the rows.
 RANKED = [
-    (["msi:s"], "", ""),
-    (["msi:s"], f"{LOW}\r\n{NONE}",
-     f"8.9 high {NONE}/MSI:S {NONE}\n7.8 high {LOW}/MSI:S {LOW}\n"),
-    ([], f"{LOWER}\r\n", f"0.0 none {NONE} {LOWER}\n"),
+    (["triage", "--set", "msi:s"], "", ""),
+    (["triage", "--set", "msi:s"], f"{LOW}\r\n{NONE}",
+     f"8.9 high {NONE}/MSI:S\t{NONE}\n7.8 high {LOW}/MSI:S\t{LOW}\n"),
+    (["triage"], f"{LOWER}\r\n", f"0.0 none {NONE}\t{LOWER}\n"),
 ]
 
 V2 = "AV:N/AC:L/Au:N/C:N/I:N/A:C"
@@ -256,16 +256,17 @@ def try_find(runs):
 def try_triage(runs):
     """Rows for a writer of little room; failed reads."""
     for arguments, lines, rows in RANKED:
-        runs.expect("cvss_triage", lines.encode(), (0, rows.encode(), ""), arguments,
-                    WRITE_SLOWLY=1)
+        runs.expect("cvss_command", lines.encode(), (0, rows.encode(), ""), arguments,
+                    READ_STEP=3, WRITE_SLOWLY=1)
         for fault in [0] + FAULTS if rows else []:
             room = len(rows) // 2
-            runs.expect_fault("cvss_triage", lines.encode(), rows.encode()[:room], "write failed",
+            runs.expect_error(lines.encode(), (0 if fault == errno.EPIPE else 2, rows.encode()[:room]),
                               arguments, WRITE_ROOM=room, WRITE_FAULT=fault, WRITE_SLOWLY=1)
     for given in (RANKED[1][1].encode(), b""):
         for fault in FAULTS:
-            runs.expect_fault("cvss_triage", given, b"", "read failed", ["msi:s"],
-                              READ_LIMIT=len(given), READ_FAULT=fault)
+            for more in ([], ["--keep-going"]):
+                runs.expect_error(given, (2, b""), ["triage", "--set", "msi:s", *more],
+                                  READ_LIMIT=len(given), READ_FAULT=fault)
 
 
 def try_audit(runs):

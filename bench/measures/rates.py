@@ -73,7 +73,8 @@ def main():
     mixed = drawn("all", "mixed", 500_000)
     measure("`cvss_tool`, mixed lines", [program("cvss_tool")], mixed)
     measure("`cvss explain --json`, mixed lines", [program("cvss_command"), "explain", "--json"], mixed[:100_000])
-    measure("`cvss_triage msi:s cr:h`, v4 base vectors", [program("cvss_triage"), "msi:s", "cr:h"],
+    measure("`cvss triage --set MSI:S --set CR:H`, v4 base vectors",
+            [program("cvss_command"), "triage", "--set", "MSI:S", "--set", "CR:H"],
             drawn("v4", "base", 200_000))
     measure("`cvss audit`, documents", [program("cvss_command"), "audit"], documents(20_000))
     text, vectors = prose(100_000)

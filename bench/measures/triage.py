@@ -1,5 +1,5 @@
 #!/usr/bin/env python3
-"""Counts the instructions that the built `cvss_triage` takes for a line, and refuses its memory.
+"""Counts the instructions that the built `cvss triage` takes for a line, and refuses its memory.
 
 Makes random v4 base vectors, runs the program on some of them and on all, and checks that the rows are
 those of the lines, the scores falling and ties by the bytes of the given texts. Then each request for
@@ -22,8 +22,8 @@ sys.path[:0] = [str(ROOT / "bench"), str(ROOT / "bench/checks")]
 import refused_memory
 from skipping import has
 
-PROGRAM = ROOT / "crates/cvss_triage/out/cvss_triage"
-OVERRIDES = ["MSI:S", "cr:h"]
+PROGRAM = ROOT / "crates/cvss_command/out/cvss_command"
+ARGUMENTS = ["triage", "--set", "MSI:S", "--set", "cr:h"]
 BASE = {"AV": "NALP", "AC": "LH", "AT": "NP", "PR": "NLH", "UI": "NPA", "VC": "HLN", "VI": "HLN",
         "VA": "HLN", "SC": "HLN", "SI": "HLN", "SA": "HLN"}
 
@@ -35,7 +35,7 @@ def drawn(count):
 
 
 def are_ranked(lines, written):
-    rows = [row.split(" ") for row in written.splitlines()]
+    rows = [row.replace("\t", " ").split(" ") for row in written.splitlines()]
     order = [(-float(row[0]), row[3].encode()) for row in rows]
     scored = all(row[2] == row[3] + "/CR:H/MSI:S" for row in rows)
     return scored and order == sorted(order) and sorted(row[3] for row in rows) == sorted(lines)
@@ -43,7 +43,7 @@ def are_ranked(lines, written):
 
 def instructions(room, lines):
     done = subprocess.run(
-        ["valgrind", "--tool=callgrind", f"--callgrind-out-file={room}/profile", PROGRAM, *OVERRIDES],
+        ["valgrind", "--tool=callgrind", f"--callgrind-out-file={room}/profile", PROGRAM, *ARGUMENTS],
         input="".join(line + "\n" for line in lines), capture_output=True, text=True, check=True)
     if not are_ranked(lines, done.stdout):
         sys.exit("the rows are wrong")
@@ -53,19 +53,19 @@ def instructions(room, lines):
 def refuse(room):
     """Refuses each request of a short run, and of one whose last line is rejected."""
     shim = refused_memory.build(room)
-    lacking = (2, "cvss_triage: out of memory\n")
-    refused = (1, "cvss_triage: line 31: invalid CVSSv4 AV (Attack Vector) metric: `Q`\n")
+    lacking = (2, "cvss: out of memory\n")
+    rejected = "cvss: line 31: invalid CVSSv4 AV (Attack Vector) metric: `Q`\n"
     total = 0
     for lines, ends in ((drawn(30), [lacking]),
-                        (drawn(30) + ["CVSS:4.0/AV:N/AV:q"], [lacking, refused])):
+                        (drawn(30) + ["CVSS:4.0/AV:N/AV:q"], [lacking, (1, rejected)])):
         given = "\n".join(lines).encode()
-        _, *others = refused_memory.runs(shim, "cvss_triage", given, *OVERRIDES)
+        _, *others = refused_memory.runs(shim, "cvss_command", given, *ARGUMENTS)
         for turn, (status, written, message) in enumerate(others, 1):
             if written or (status, message.decode()) not in ends:
                 sys.exit(f"turn {turn}: status {status}, wrote {written[:500]!r}, "
                          f"standard error {message[:500]!r}")
         if not others:
-            sys.exit("no request of cvss_triage was refused: nothing was tried")
+            sys.exit("no request of cvss triage was refused: nothing was tried")
         total += len(others)
     return total
 
@@ -74,12 +74,12 @@ def main():
     count = int(sys.argv[1]) if len(sys.argv) > 1 else 100_000
     lines = drawn(count)
     with tempfile.TemporaryDirectory() as room:
-        if has("valgrind", "the instructions of cvss_triage"):
+        if has("valgrind", "the instructions of cvss triage"):
             start = instructions(room, [])
             for size in (count // 10, count):
                 taken = instructions(room, lines[:size]) - start
                 print(f"{size} lines: {taken // size} instructions a line")
-        print(f"cvss_triage: {refuse(room)} requests refused in turn: nothing was written")
+        print(f"cvss triage: {refuse(room)} requests refused in turn: nothing was written")
 
 
 if __name__ == "__main__":

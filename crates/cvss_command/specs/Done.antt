@@ -5,6 +5,7 @@ use Rattle.std.specs.Io.KnownBytes.{Keeps}
 use Rattle.std.specs.Str.{IsUtf8}
 use Rattle.cvss_answer.specs.Setting.{IsSetAnswer}
 use Rattle.cvss_command.specs.Scoring.{AnswersLines, Scores, WritesText}
+use Rattle.cvss_command.specs.Triaging.{settings_of}
 use Rattle.cvss_audit.specs.Task.{audit_ends}
 use Rattle.cvss_audit.specs.declared.task.Audit as audit
 use Rattle.cvss_audit.specs.declared.task.Layout.{Layout}
@@ -13,7 +14,7 @@ use Rattle.cvss_command.specs.declared.requests.Options.{Options}
 use Rattle.cvss_command.specs.declared.requests.Request.{Request}
 use Rattle.cvss_command.specs.declared.requests.Request.TheVariants.{Help, Version, Wrong, Run}
 use Rattle.cvss_command.specs.declared.subcommand.Subcommand.{Subcommand}
-use Rattle.cvss_command.specs.declared.subcommand.Subcommand.TheVariants.{Score, Find, Explain, Set, Audit}
+use Rattle.cvss_command.specs.declared.subcommand.Subcommand.TheVariants.{Score, Find, Explain, Set, Triage, Audit}
 use Rattle.cvss_explain_json.specs.Answers as json
 use Rattle.cvss_explain_text.specs.Answers as text
 use Rattle.cvss_find.specs.Answers.{find_rule}
@@ -23,15 +24,17 @@ use Rattle.cvss_lines.specs.declared.fault.RunFault.TheVariants.{Memory}
 use Rattle.cvss_program.specs.Exit.{after, nothing_served}
 use Rattle.cvss_program.specs.Operands.{Endings, ServesAll}
 use Rattle.cvss_program.specs.declared.served.Served.{Served}
+use Rattle.cvss_triage.specs.Triage.{Triages}
 
 -- the help on a subcommand or on all, of these texts
-abbrev pub help_of : List ℕ → List ℕ → List ℕ → List ℕ → List ℕ → List ℕ → Option Subcommand → List ℕ
-help_of all score find explain set audit None = all
-help_of all score find explain set audit (Some Score) = score
-help_of all score find explain set audit (Some Find) = find
-help_of all score find explain set audit (Some Explain) = explain
-help_of all score find explain set audit (Some Set) = set
-help_of all score find explain set audit (Some Audit) = audit
+abbrev pub help_of : List ℕ → List ℕ → List ℕ → List ℕ → List ℕ → List ℕ → List ℕ → Option Subcommand → List ℕ
+help_of all score find explain set triage audit None = all
+help_of all score find explain set triage audit (Some Score) = score
+help_of all score find explain set triage audit (Some Find) = find
+help_of all score find explain set triage audit (Some Explain) = explain
+help_of all score find explain set triage audit (Some Set) = set
+help_of all score find explain set triage audit (Some Triage) = triage
+help_of all score find explain set triage audit (Some Audit) = audit
 
 -- each line is answered by what is found in it
 abbrev pub FindsVectors : Bool → Endings
@@ -95,6 +98,9 @@ Runs Explain options arguments contents unread unread' written written' result =
     Answers (AnswersLines (explain_rule options.flags.json options.flags.allow_incomplete)) options arguments contents unread unread' written written' result
 Runs Set options arguments contents unread unread' written written' result =
     SetsMetrics (joined_metrics options.words arguments) options arguments contents unread unread' written written' result
+Runs Triage options arguments contents unread unread' written written' result =
+    IsOkAnd result (Triages (settings_of (metrics_of options.words arguments)) options.flags.keep_going options.flags.allow_incomplete contents
+    (operands_of options.operands arguments) unread unread' written written')
 Runs Audit options arguments contents unread unread' written written' result =
     Answers (audit_ends (audit_of options)) options arguments contents unread unread' written written' result
 

@@ -3,4 +3,5 @@ pub mod Flags
 pub mod Requests
 pub mod Scoring
 pub mod Subcommands
+pub mod Triaging
 pub mod private

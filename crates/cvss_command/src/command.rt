@@ -7,12 +7,14 @@ ghost use Rattle.cvss_command.specs.Scoring.{WritesText};
 
 use crate::find::Find;
 use crate::help::{
-    AUDIT_USAGE, EXPLAIN_USAGE, FIND_USAGE, SCORE_USAGE, SET_USAGE, USAGE, VERSION, help_of,
+    AUDIT_USAGE, EXPLAIN_USAGE, FIND_USAGE, SCORE_USAGE, SET_USAGE, TRIAGE_USAGE, USAGE, VERSION,
+    help_of,
 };
 use crate::requests::{Options, Request, request_of};
 use crate::score::score;
 use crate::subcommand::Subcommand;
 use crate::tasks::{Explain, Set};
+use crate::triage::triage_lines;
 use cvss_audit::{Audit, Layout};
 use cvss_lines::{RunFault, write_whole};
 use cvss_program::{EachLine, Files, Served, WatchedReader, serve_operands};
@@ -34,7 +36,7 @@ pub fn run_command<F: Files, R: Read, W: Write, E: Write>(
     report: &mut E,
 ) -> Result<Served, usize>
     ensures { Does (request_of arguments.now)
-        (help_of USAGE.now SCORE_USAGE.now FIND_USAGE.now EXPLAIN_USAGE.now SET_USAGE.now AUDIT_USAGE.now) VERSION.now
+        (help_of USAGE.now SCORE_USAGE.now FIND_USAGE.now EXPLAIN_USAGE.now SET_USAGE.now TRIAGE_USAGE.now AUDIT_USAGE.now) VERSION.now
         arguments.now (F.contents files.now)
         (R.remaining reader.old.reader) (R.remaining reader.new.reader)
         (W.contents writer.old) (W.contents writer.new) result }
@@ -75,6 +77,16 @@ pub fn run_command<F: Files, R: Read, W: Write, E: Write>(
                 Subcommand::Set => set_metrics(
                     alloc, arguments, options, files, reader, writer, report,
                 ),
+                Subcommand::Triage => Ok(triage_lines(
+                    alloc,
+                    metrics_of(arguments, options.words),
+                    options.flags,
+                    operands,
+                    files,
+                    reader,
+                    writer,
+                    report,
+                )),
                 Subcommand::Audit => {
                     let task = audit_of(&options);
                     Ok(serve_operands(alloc, &task, operands, files, reader, writer, report))

@@ -14,6 +14,8 @@ usage: cvss score [--json|--tsv] [--allow-incomplete] [VECTOR|FILE]..
        cvss find [--allow-incomplete] [FILE]..
        cvss explain [--json] [--allow-incomplete] [VECTOR|FILE]..
        cvss set METRIC:VALUE.. [-- VECTOR|FILE ..]
+       cvss triage [--set METRIC:VALUE].. [--profile FILE].. [--keep-going]
+                   [--allow-incomplete] [VECTOR|FILE]..
        cvss audit [--allow-incomplete] [--document] [FILE]..
        cvss help [COMMAND], --help, --version
 
@@ -21,6 +23,7 @@ usage: cvss score [--json|--tsv] [--allow-incomplete] [VECTOR|FILE]..
   find     the same for each vector in any text, with its line and column
   explain  how the score is computed, as text or as one JSON object a line
   set      the same as score, with metrics replaced or added
+  triage   lines of any text ranked by the scores of their vectors
   audit    where JSON documents disagree with the vectors in them
 
 Without a vector or file, or for -, standard input is read. A word with a colon
@@ -108,6 +111,28 @@ of standard input.
 Status: 0, 1 if a line is rejected, 2 after a usage or I/O error.
 ";
 
+/// What `help triage` prints.
+pub(crate) const TRIAGE_USAGE: &str = "\
+usage: cvss triage [--set METRIC:VALUE].. [--profile FILE].. [--keep-going]
+                   [--allow-incomplete] [VECTOR|FILE]..
+
+Ranks lines by the scores of the vectors (v2, v3.0, v3.1, v4.0) in them, highest
+first, once metrics are set. For each line it prints the score, the rating and
+the vector, a tab and the line. The score counts all metrics of the vector.
+
+  --set METRIC:VALUE   set it in the vectors of all versions that have it
+  --profile FILE       set the metrics in FILE, which has a partial vector a
+                       line: CVSS:4.0/CR:H/MAV:A, CVSS:3.1/CR:H (for v3.0 too),
+                       CR:H/CDP:H (v2)
+  --keep-going         rank the other lines if one has no vector or several, or
+                       its vector is rejected; otherwise nothing is printed
+  --allow-incomplete   score v3 vectors that lack base metrics
+
+  cvss triage --set E:A --profile ours.txt --keep-going list.txt
+
+Status: 0, 1 if a line is not ranked, 2 after a usage or I/O error.
+";
+
 /// What `help audit` prints.
 pub(crate) const AUDIT_USAGE: &str = "\
 usage: cvss audit [--allow-incomplete] [--document] [FILE]..
@@ -131,7 +156,7 @@ is no JSON, 2 after a usage or I/O error.
 
 /// The help on a subcommand, or on all.
 pub(crate) fn help_of(topic: Option<Subcommand>) -> &'static str
-    ensures { result.now ≡ help_of USAGE.now SCORE_USAGE.now FIND_USAGE.now EXPLAIN_USAGE.now SET_USAGE.now AUDIT_USAGE.now topic }
+    ensures { result.now ≡ help_of USAGE.now SCORE_USAGE.now FIND_USAGE.now EXPLAIN_USAGE.now SET_USAGE.now TRIAGE_USAGE.now AUDIT_USAGE.now topic }
 {
     match topic {
         None => USAGE,
@@ -139,6 +164,7 @@ pub(crate) fn help_of(topic: Option<Subcommand>) -> &'static str
         Some(Subcommand::Find) => FIND_USAGE,
         Some(Subcommand::Explain) => EXPLAIN_USAGE,
         Some(Subcommand::Set) => SET_USAGE,
+        Some(Subcommand::Triage) => TRIAGE_USAGE,
         Some(Subcommand::Audit) => AUDIT_USAGE,
     }
 }

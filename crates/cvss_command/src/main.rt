@@ -11,6 +11,7 @@ mod requests;
 mod score;
 mod subcommand;
 mod tasks;
+mod triage;
 
 pub use command::run_command;
 use cvss_lines::{RunFault, write_whole};

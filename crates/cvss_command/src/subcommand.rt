@@ -12,15 +12,17 @@ pub(crate) enum Subcommand {
     Find,
     Explain,
     Set,
+    Triage,
     Audit,
 }
 
 impl Subcommand {
-    pub(crate) const ALL: [Subcommand; 5] = [
+    pub(crate) const ALL: [Subcommand; 6] = [
         Subcommand::Score,
         Subcommand::Find,
         Subcommand::Explain,
         Subcommand::Set,
+        Subcommand::Triage,
         Subcommand::Audit,
     ];
 
@@ -32,6 +34,7 @@ impl Subcommand {
             Subcommand::Find => "find",
             Subcommand::Explain => "explain",
             Subcommand::Set => "set",
+            Subcommand::Triage => "triage",
             Subcommand::Audit => "audit",
         }
     }
@@ -46,6 +49,14 @@ impl Subcommand {
             Subcommand::Find => &[Flag::AllowIncomplete],
             Subcommand::Explain => &[Flag::Json, Flag::AllowIncomplete],
             Subcommand::Set => &[],
+            Subcommand::Triage => {
+                &[
+                    Flag::Set,
+                    Flag::Profile,
+                    Flag::KeepGoing,
+                    Flag::AllowIncomplete,
+                ]
+            }
             Subcommand::Audit => &[Flag::AllowIncomplete, Flag::Document],
         }
     }

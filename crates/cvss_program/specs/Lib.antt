@@ -1,6 +1,5 @@
 pub mod Arguments
 pub mod Exit
 pub mod Operands
-pub mod Requests
 pub mod Sources
 pub mod Whole

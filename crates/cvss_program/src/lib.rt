@@ -5,7 +5,6 @@
 mod command_line;
 mod files;
 mod operands;
-mod requests;
 mod served;
 mod sources;
 mod task;
@@ -15,7 +14,6 @@ mod whole;
 pub use command_line::{CommandLine, arguments, arguments_of};
 pub use files::{Files, SystemFiles};
 pub use operands::{are_many, serve_operands};
-pub use requests::{Request, asked};
 pub use served::{Served, exit_status};
 pub use sources::{Source, has_name, source_of};
 pub use task::{EachLine, LineAnswer, Task};

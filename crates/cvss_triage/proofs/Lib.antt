@@ -1,2 +1,2 @@
-mod LinesLemmas
-mod RunLemmas
+pub mod ListLemmas
+mod ReadsLemmas

@@ -1,5 +1,4 @@
-pub mod Exit
-pub mod Lines
+pub mod Inputs
 pub mod Rows
-pub mod Runs
-pub mod laws
+pub mod Settings
+pub mod Triage

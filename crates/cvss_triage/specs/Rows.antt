@@ -1,12 +1,20 @@
 -- How rows are written.
-use Rattle.std.specs.Prelude.{ℕ, List, ◌++◌, codes, string_bytes}
-use Rattle.cvss_base.specs.Rating.{rating_of_score}
-use Rattle.cvss_base.specs.Tenths.{score_text}
+use Rattle.std.specs.Prelude.{ℕ, ℤ, List, [], ◌∷◌, ◌++◌, codes}
+use Rattle.cvss_any.specs.Answers.{rating_by, score_of_tenths, text_of}
 use Rattle.cvss_base.specs.SeverityText.{text_of as severity_text}
-use Rattle.cvss_ranking.specs.declared.row.Row.{Row}
+use Rattle.cvss_base.specs.Tenths.{score_text}
+use Rattle.cvss_rank.specs.declared.row.Row.{Row}
 
--- the score, its rating, the text that was scored, the text as it was given
+-- an overall score, with one decimal
+unfoldable pub overall_text : ℤ → List ℕ
+overall_text score = score_text score
+
+-- the overall score, its rating and the vector after the overrides
+abbrev pub scored_text : Row → List ℕ
+scored_text row =
+    overall_text (score_of_tenths row.tenths) ++ codes " " ++ severity_text (rating_by row.vector (score_of_tenths row.tenths))
+    ++ codes " " ++ text_of row.vector
+
+-- these, and after a tab the line as it was given
 abbrev pub row_text : Row → List ℕ
-row_text row =
-    score_text row.score ++ codes " " ++ severity_text (rating_of_score row.score) ++ codes " "
-    ++ string_bytes row.scored ++ codes " " ++ string_bytes row.text ++ codes "\n"
+row_text row = scored_text row ++ codes "\t" ++ row.line.now ++ codes "\n"

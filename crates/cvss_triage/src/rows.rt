@@ -1,38 +1,73 @@
 //! How rows are written.
 
-ghost use Rattle.std.specs.Prelude.{◌≡◌, ◌++◌, IfOk, OnOk, flat_map, string_bytes};
-ghost use Rattle.cvss_base.specs.Tenths.{score_text};
-ghost use Rattle.cvss_triage.specs.Rows.{row_text};
+ghost use Rattle.std.specs.Prelude.{◌≡◌, ◌++◌, IfOk, OnOk, flat_map};
+ghost use Rattle.cvss_any.specs.Answers.{score_of_tenths, text_of};
+ghost use Rattle.cvss_triage.specs.Rows.{overall_text, row_text, scored_text};
 
-use cvss_base::OneDecimal;
-use cvss_ranking::Row;
+use cvss_any::Cvss;
+use cvss_base::{OneDecimal, TENTH};
+use cvss_lines::OutputBuffer;
+use cvss_rank::Row;
 use std::alloc::{AllocError, Global};
+use std::fmt::{self, Write};
 
 /// The rows as they are written, one a line.
-pub(crate) fn written_rows(alloc: Global, rows: &[Row]) -> Result<String, AllocError>
-    ensures { IfOk result (λ text. string_bytes text ≡ flat_map row_text rows.now) }
+///
+/// # Errors
+///
+/// Out of memory.
+pub(crate) fn rows_text(alloc: Global, rows: &[Row<'_>]) -> Result<Vec<u8>, AllocError>
+    ensures { IfOk result (λ text. text.items ≡ flat_map row_text rows.now) }
 {
-    let mut text = String::new(alloc);
+    let mut text = OutputBuffer {
+        bytes: Vec::new(alloc),
+    };
     for row in rows {
-        write_row(row, &mut text)?;
+        if write_row(row, &mut text).is_err() {
+            return Err(AllocError);
+        }
     }
-    Ok(text)
+    Ok(text.bytes)
 }
 
-/// Writes one row: the score with one decimal, its rating, the text that was scored and the text
-/// as it was given, with a blank between two of them.
-fn write_row(row: &Row, text: &mut String) -> Result<(), AllocError>
-    ensures { OnOk result (string_bytes text.new ≡ string_bytes text.old ++ row_text row.now) }
+fn write_row(row: &Row<'_>, text: &mut OutputBuffer) -> fmt::Result
+    ensures { OnOk result (text.new.bytes.items ≡ text.old.bytes.items ++ row_text row.now) }
 {
-    write_score(row, text)?;
-    writeln!(text, " {} {} {}", row.severity(), row.scored, row.text)?;
+    write_scored(row, text)?;
+    text.push(b"\t")?;
+    text.push(row.line)?;
+    text.push(b"\n")?;
     Ok(())
 }
 
-/// Writes a row's score with one decimal.
-fn write_score(row: &Row, text: &mut String) -> Result<(), AllocError>
-    ensures { OnOk result (string_bytes text.new ≡ string_bytes text.old ++ score_text row.now.score) }
+/// Writes the score, its rating and the vector, with a blank between two of them.
+fn write_scored(row: &Row<'_>, text: &mut OutputBuffer) -> fmt::Result
+    ensures { OnOk result (text.new.bytes.items ≡ text.old.bytes.items ++ scored_text row.now) }
 {
-    write!(text, "{}", OneDecimal { count: row.score })?;
-    Ok(())
+    write_score(score_of(row), text)?;
+    text.push(b" ")?;
+    text.push(row.severity().as_str().as_bytes())?;
+    text.push(b" ")?;
+    write_vector(&row.vector, text)
+}
+
+fn score_of(row: &Row<'_>) -> OneDecimal
+    ensures { result.count ≡ score_of_tenths row.now.tenths }
+{
+    OneDecimal {
+        count: i128::from(row.tenths) * TENTH,
+    }
+}
+
+fn write_score(score: OneDecimal, text: &mut OutputBuffer) -> fmt::Result
+    ensures { OnOk result (text.new.bytes.items
+        ≡ text.old.bytes.items ++ overall_text score.count) }
+{
+    write!(text, "{score}")
+}
+
+fn write_vector(vector: &Cvss, text: &mut OutputBuffer) -> fmt::Result
+    ensures { OnOk result (text.new.bytes.items ≡ text.old.bytes.items ++ text_of vector.now) }
+{
+    write!(text, "{vector}")
 }
