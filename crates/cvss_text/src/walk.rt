@@ -112,6 +112,7 @@ pub fn read_component<'a, V: Components>(
 }
 
 /// Puts a component, which is cut, into the vector.
+#[inline(always)]
 fn put_component<'a, V: Components>(
     kind: V::Kind,
     value: &'a [u8],

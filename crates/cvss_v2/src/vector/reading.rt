@@ -37,12 +37,14 @@ impl Components for Vector {
         kind
     }
 
+    #[inline(always)]
     #[tactic(auto, using(cvss_text::proofs::LawLemmas::IsCut_named))]
     fn cut(piece: &[u8]) -> Option<(MetricType, &[u8])> {
         let (kind, value) = cut_named(piece)?;
         Some((kind, value))
     }
 
+    #[inline(always)]
     fn put(&mut self, kind: MetricType, value: &[u8]) -> Result<(), ComponentError> {
         match kind {
             MetricType::AV => fill(&mut self.av, value),

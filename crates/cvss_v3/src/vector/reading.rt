@@ -40,6 +40,7 @@ impl Components for Vector {
         kind.name()
     }
 
+    #[inline(always)]
     fn cut(piece: &[u8]) -> Option<(MetricType, &[u8])> {
         cut_named(piece)
     }
@@ -48,6 +49,7 @@ impl Components for Vector {
         reported_kind(kind)
     }
 
+    #[inline(always)]
     fn put(&mut self, kind: MetricType, value: &[u8]) -> Result<(), ComponentError> {
         match kind {
             MetricType::AV => fill(&mut self.av, value),

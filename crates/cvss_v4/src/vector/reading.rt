@@ -40,6 +40,7 @@ impl Components for Vector {
         kind.name()
     }
 
+    #[inline(always)]
     fn cut(piece: &[u8]) -> Option<(MetricType, &[u8])> {
         match piece {
             [first, second, b':', value @ ..] => Some((named_by_two(*first, *second)?, value)),
@@ -51,6 +52,7 @@ impl Components for Vector {
         kind
     }
 
+    #[inline(always)]
     fn put(&mut self, kind: MetricType, value: &[u8]) -> Result<(), ComponentError> {
         match kind {
             MetricType::AV => fill(&mut self.av, value),
