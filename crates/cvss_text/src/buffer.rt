@@ -36,6 +36,7 @@ impl TextBuffer {
         }
     }
 
+    /// The bytes of the text.
     #[inline(always)]
     pub fn text(&self) -> &[u8]
         ensures { result.now ≡ self.now }
