@@ -1,7 +1,6 @@
 //! How the text of a vector is cut into pieces, and a component into its name and its value.
 
 ghost use Rattle.std.specs.Prelude.{◌≡◌, ◌↔◌, ◌∷◌, [], IsTrue, IfSome, MatchOption, Some, length, ◌==◌, position};
-ghost use Rattle.std.specs.Iterator.{YieldsFirstRef, item_count};
 ghost use Rattle.cvss_base.specs.Text.{IsComponent, pieces};
 ghost use Rattle.cvss_text.specs.private.Pieces.{pieces_left, AreParts, IsAfterComponent, IsWithoutColon};
 ghost use Rattle.cvss_base.specs.Refusal.{AreComponentsBefore, IsFirstBadPiece, piece_at};
@@ -27,20 +26,6 @@ impl<'a> Pieces<'a> {
         ensures { IsTrue result ↔ (pieces_left self.now ≡ []) }
     {
         self.rest.is_none()
-    }
-}
-
-impl<'a> Iterator for Pieces<'a> {
-    type Item = &'a [u8];
-
-    ghost next_gives = { YieldsFirstRef pieces_left };
-
-    ghost remaining = { item_count pieces_left };
-
-    fn next(&mut self) -> Option<&'a [u8]> {
-        let (piece, left) = front_of(self.rest?);
-        *self = left;
-        Some(piece)
     }
 }
 
@@ -86,6 +71,7 @@ pub fn is_component(piece: &[u8]) -> bool
 }
 
 /// The first piece of a text that is no component.
+#[inline(always)]
 pub fn first_bad_piece(text: &[u8]) -> Option<&[u8]>
     ensures { MatchOption result
         (AreComponentsBefore (pieces text.now) (length (pieces text.now)))
