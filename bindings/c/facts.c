@@ -19,16 +19,16 @@ static const char *const nomenclatures[] = {"CVSS-B", "CVSS-BE", "CVSS-BT", "CVS
 typedef size_t (*Call)(const void *, size_t, void *, size_t);
 
 /* What a call writes, in memory that just fits. Ends the program where a smaller buffer is touched. */
-static char *written(Call call, const char *text, size_t length, size_t *told)
+static char *written(Call call, const char *text, size_t length, size_t *count)
 {
     char small[1] = {'#'};
-    *told = call(text, length, NULL, 0);
-    if (*told > MOST || (*told > 1 && (call(text, length, small, 1) != *told || small[0] != '#')))
+    *count = call(text, length, NULL, 0);
+    if (*count > MOST || (*count > 1 && (call(text, length, small, 1) != *count || small[0] != '#')))
         exit(3);
-    char *buffer = malloc(*told + 1);
-    if (buffer == NULL || call(text, length, buffer, *told) != *told)
+    char *buffer = malloc(*count + 1);
+    if (buffer == NULL || call(text, length, buffer, *count) != *count)
         exit(3);
-    buffer[*told] = '\0';
+    buffer[*count] = '\0';
     return buffer;
 }
 
@@ -41,7 +41,7 @@ static void print_score(int32_t tenths, int32_t severity)
 }
 
 /* Writes the metrics as segments of a text, without those that are not defined if these are left out. */
-static void put_metrics(const char *text, size_t length, bool without_undefined, const char *format, char *told)
+static void put_metrics(const char *text, size_t length, bool without_undefined, const char *format, char *end)
 {
     CvssMetric metrics[CVSS_MOST_METRICS], untouched = {"#", "#"};
     size_t count = cvss_metrics(text, length, metrics, CVSS_MOST_METRICS);
@@ -53,7 +53,7 @@ static void put_metrics(const char *text, size_t length, bool without_undefined,
         const CvssMetric *metric = &metrics[i];
         if (without_undefined && (strcmp(metric->value, "X") == 0 || strcmp(metric->value, "ND") == 0))
             continue;
-        told += sprintf(told, format, metric->name, metric->value);
+        end += sprintf(end, format, metric->name, metric->value);
     }
 }
 
@@ -77,13 +77,13 @@ static bool is_read_alike(const char *text, size_t length)
     memset(&scores, 0x5a, sizeof scores);
     memcpy(&read, &scores, sizeof read);
     memcpy(&unfit, &scores, sizeof unfit);
-    size_t told = cvss_canonical(text, length, NULL, 0);
-    char *canonical = malloc(told + 1), *buffer = malloc(told + 1);
+    size_t count = cvss_canonical(text, length, NULL, 0);
+    char *canonical = malloc(count + 1), *buffer = malloc(count + 1);
     if (canonical == NULL || buffer == NULL)
         exit(3);
-    bool is_alike = cvss_scores(text, length, &scores) == (told > 0) && cvss_canonical(text, length, canonical, told) == told
-        && cvss_read(text, length, &read, buffer, told) == told && cvss_read(text, length, &unfit, NULL, 0) == told
-        && memcmp(canonical, buffer, told) == 0 && memcmp(&scores, &read, sizeof read) == 0
+    bool is_alike = cvss_scores(text, length, &scores) == (count > 0) && cvss_canonical(text, length, canonical, count) == count
+        && cvss_read(text, length, &read, buffer, count) == count && cvss_read(text, length, &unfit, NULL, 0) == count
+        && memcmp(canonical, buffer, count) == 0 && memcmp(&scores, &read, sizeof read) == 0
         && memcmp(&scores, &unfit, sizeof unfit) == 0;
     free(canonical);
     free(buffer);
@@ -131,9 +131,9 @@ static bool has_no_values(const char *text, size_t length)
 
 static void print_vector(const char *text, size_t length, const CvssScores *scores)
 {
-    size_t told;
-    char *canonical = written(cvss_canonical, text, length, &told);
-    if (told != length || scores->version != cvss_version(text, length) || !are_values(text, length, scores))
+    size_t count;
+    char *canonical = written(cvss_canonical, text, length, &count);
+    if (count != length || scores->version != cvss_version(text, length) || !are_values(text, length, scores))
         exit(3);
     printf("%s %d.%d", canonical, (int)(scores->version / 10), (int)(scores->version % 10));
     printf(" %s", scores->nomenclature == CVSS_NOTHING ? "-" : nomenclatures[scores->nomenclature]);
@@ -144,7 +144,7 @@ static void print_vector(const char *text, size_t length, const CvssScores *scor
     char metrics[400] = "";
     put_metrics(text, length, false, " %s=%s", metrics);
     printf("%s", metrics);
-    char *shorter = written(cvss_without_undefined, text, length, &told);
+    char *shorter = written(cvss_without_undefined, text, length, &count);
     if (!is_without_undefined(shorter, canonical, length))
         exit(3);
     free(shorter);
@@ -153,11 +153,11 @@ static void print_vector(const char *text, size_t length, const CvssScores *scor
 
 static void print_refusal(const char *text, size_t length)
 {
-    size_t named, told;
+    size_t named, count;
     char *metric = written(cvss_refusal_metric, text, length, &named);
-    char *reason = written(cvss_reason, text, length, &told);
+    char *reason = written(cvss_reason, text, length, &count);
     printf("%d %s ", (int)cvss_refusal_kind(text, length), named == 0 ? "-" : metric);
-    fwrite(reason, 1, told, stdout);
+    fwrite(reason, 1, count, stdout);
     free(metric);
     free(reason);
 }

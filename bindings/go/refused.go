@@ -18,12 +18,12 @@ type Kind int
 
 // The kinds of errors.
 const (
-	InvalidComponent   Kind = C.CVSS_INVALID_COMPONENT   // a piece of the text has no colon, or more than one
-	InvalidPrefix      Kind = C.CVSS_INVALID_PREFIX      // a version is told, but not behind CVSS
+	InvalidComponent   Kind = C.CVSS_INVALID_COMPONENT   // a segment has no colon, or more than one
+	InvalidPrefix      Kind = C.CVSS_INVALID_PREFIX      // there is a version, but not after CVSS
 	UnsupportedVersion Kind = C.CVSS_UNSUPPORTED_VERSION // the version is none of 3.0, 3.1 and 4.0
 	UnknownMetric      Kind = C.CVSS_UNKNOWN_METRIC      // the version has no metric of this name
 	InvalidValue       Kind = C.CVSS_INVALID_VALUE       // the metric has no such value
-	DuplicateMetric    Kind = C.CVSS_DUPLICATE_METRIC    // the metric stands twice
+	DuplicateMetric    Kind = C.CVSS_DUPLICATE_METRIC    // the metric is there twice
 	MissingMetric      Kind = C.CVSS_MISSING_METRIC      // the metric is mandatory, and missing
 	NotUTF8            Kind = C.CVSS_NOT_UTF8            // the text is not UTF-8
 )

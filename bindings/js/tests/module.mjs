@@ -10,7 +10,7 @@ import { Worker } from "node:worker_threads";
 
 import * as imported from "cvss-proved";
 import { Vector, answer, find, init, score, version, wasmModule } from "cvss-proved";
-import { TEXT, V3, V4, root } from "./common.mjs";
+import { TEXT, V3, V4, root, stored } from "./common.mjs";
 
 function checkSizes() {
   const megabyte = "x".repeat(1 << 20);
@@ -61,6 +61,29 @@ function checkModule() {
   assert.deepEqual(WebAssembly.Module.imports(wasmModule()), []);
 }
 
+// The stack, which ends at address 0, stays far above the first 1,024 bytes: the module was made for that.
+function checkStack() {
+  const { memory, __heap_base: base, cvss_rating, ...functions } = new WebAssembly.Instance(wasmModule()).exports;
+  memory.grow(4);
+  const octets = new Uint8Array(memory.buffer);
+  const field = (base.value + 7) & ~7;
+  const [metrics, text, buffer] = [field + 1024, field + 2048, field + (1 << 16)];
+  const room = [buffer, 1 << 16];
+  const own = [metrics, new TextEncoder().encodeInto("E:U/RC:C", octets.subarray(metrics)).written];
+  for (const line of stored) {
+    octets.set(line, text);
+    const given = [text, line.length];
+    const byCount = { 2: given, 3: [...given, field], 4: [...given, ...room], 6: [...given, ...own, ...room] };
+    const byName = {
+      cvss_answers: [...given, ...room, field], cvss_build: [31, ...given, ...room], cvss_build_reason: [31, ...given, ...room],
+      cvss_find: [...given, 0, field, field + 8], cvss_read: [...given, field, ...room],
+    };
+    for (const [name, call] of Object.entries(functions)) call(...(byName[name] ?? byCount[call.length]));
+  }
+  const lowest = octets.findIndex((octet) => octet !== 0);
+  assert(lowest > 1 << 19 && lowest < 1 << 20, `the stack was used down to ${lowest}`);
+}
+
 // A program that imports the package and one that requires it have the same classes; a worker has its own.
 async function checkModules() {
   const required = createRequire(import.meta.url)("cvss-proved");
@@ -100,5 +123,6 @@ async function checkSources() {
 checkSizes();
 checkMemory();
 checkModule();
+checkStack();
 await checkModules();
 await checkSources();

@@ -1,7 +1,7 @@
 //! The calls of the library: the one place with unsafe code.
 //!
-//! The declarations are those of `bindings/c/cvss.h`. No call keeps a pointer, and none asks for
-//! more than pointers to as many bytes as are told, which slices are.
+//! The declarations are those of `bindings/c/cvss.h`. No call keeps a pointer, and each needs only
+//! pointers to as many bytes as its lengths say, which slices have.
 
 use crate::Values;
 use std::mem::MaybeUninit;
@@ -352,7 +352,7 @@ pub(crate) fn record(text: &[u8]) -> Vec<u8> {
     })
 }
 
-/// The account of the vector that a text denotes, or nothing.
+/// The explanation of the score of the vector that a text denotes, or nothing.
 pub(crate) fn account(text: &[u8]) -> Vec<u8> {
     written(1 << 11, |buffer| {
         // SAFETY: as above.
@@ -360,7 +360,7 @@ pub(crate) fn account(text: &[u8]) -> Vec<u8> {
     })
 }
 
-/// The reason why a text is refused, or nothing.
+/// Why a text is rejected, or nothing.
 pub(crate) fn reason(text: &[u8]) -> Vec<u8> {
     written(text.len() + 120, |buffer| {
         // SAFETY: as above.
@@ -368,13 +368,13 @@ pub(crate) fn reason(text: &[u8]) -> Vec<u8> {
     })
 }
 
-/// The number of the kind of refusal that a text gets, or 0.
+/// The number of the kind of error of a text, or 0.
 pub(crate) fn refusal_kind(text: &[u8]) -> i32 {
     // SAFETY: the pointer is that of a slice that lives through the call.
     unsafe { cvss_refusal_kind(text.as_ptr(), text.len()) }
 }
 
-/// The abbreviation of the metric that a refusal blames, or nothing.
+/// The abbreviation of the metric that the reason names, or nothing.
 pub(crate) fn refusal_metric(text: &[u8]) -> Vec<u8> {
     written(4, |buffer| {
         // SAFETY: as above.
@@ -425,7 +425,7 @@ pub(crate) fn answers(texts: &[u8]) -> Vec<u8> {
     all
 }
 
-/// Where the first vector begins that is mentioned in a text from a byte on, and how long it is.
+/// Where the first vector in a text from a byte on begins, and how long it is.
 pub(crate) fn find(text: &[u8], from: usize) -> Option<(usize, usize)> {
     let (mut start, mut length) = (0, 0);
     // SAFETY: the pointers are those of a slice and of two numbers that live through the call and
