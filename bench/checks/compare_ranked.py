@@ -133,7 +133,7 @@ def try_list(draw, room):
 
 
 def main():
-    count = int(sys.argv[1]) if len(sys.argv) > 1 else 4_000
+    count = int(sys.argv[1]) if len(sys.argv) > 1 else 1_500
     draw = random.Random(int(sys.argv[2]) if len(sys.argv) > 2 else 2)
     for case in CASES:
         expect(*case)

@@ -30,7 +30,7 @@ ReadsText contents Profile word unread unread' text = ReadsInput contents word u
 
 abbrev pub ReadsSetting : (List ℕ → Option (List ℕ)) → SettingKind × List ℕ → Option (List ℕ) → Option (List ℕ) → SettingText → Type 0
 ReadsSetting contents words unread unread' it =
-    (it.setting.kind ≡ words.0) × ReadsText contents words.0 words.1 unread unread' it.text
+    (it.setting.now.kind ≡ words.0) × ReadsText contents words.0 words.1 unread unread' it.text
 
 -- a blank or a tab
 abbrev pub is_blank : ℕ → Bool
@@ -63,7 +63,7 @@ given_by Metrics (Some text) = (None, text.items) ∷ []
 given_by Profile (Some text) = profile text.items
 
 abbrev pub given : SettingText → List (Option Family × List ℕ)
-given it = given_by it.setting.kind it.text
+given it = given_by it.setting.now.kind it.text
 
 abbrev pub all_given : List SettingText → List (Option Family × List ℕ)
 all_given texts = flat_map given texts

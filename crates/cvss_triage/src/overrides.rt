@@ -34,7 +34,7 @@ fn push_given<'a>(
     ensures { OnOk result (map as_metrics overrides.new.items
         ≡ map as_metrics overrides.old.items ++ given it.now) }
 {
-    match (it.setting.kind, &it.text) {
+    match (&it.setting.kind, &it.text) {
         (_, None) => Ok(()),
         (SettingKind::Metrics, Some(text)) => Ok(overrides.push(for_all_versions(text))?),
         (SettingKind::Profile, Some(text)) => push_profile(text, overrides),

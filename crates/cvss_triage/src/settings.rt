@@ -10,7 +10,7 @@ use std::alloc::{AllocError, Global};
 use std::io::{Read, Write};
 
 /// How an option says which metrics are set.
-#[derive(Clone, Copy, Debug, Drop)]
+#[derive(Drop)]
 pub enum SettingKind {
     /// Its word has the metrics, which are set in the vectors of all versions that have them.
     Metrics,
@@ -19,7 +19,7 @@ pub enum SettingKind {
 }
 
 /// An option that sets metrics.
-#[derive(Clone, Copy, Debug, Drop)]
+#[derive(Drop)]
 pub struct Setting<'a> {
     pub kind: SettingKind,
     pub word: &'a [u8],
@@ -29,7 +29,7 @@ pub struct Setting<'a> {
 /// read.
 #[derive(Drop)]
 pub(crate) struct SettingText<'a> {
-    pub(crate) setting: Setting<'a>,
+    pub(crate) setting: &'a Setting<'a>,
     pub(crate) text: Option<Vec<u8>>,
 }
 
@@ -41,7 +41,7 @@ pub(crate) struct SettingText<'a> {
 #[tactic(auto, using(crate::proofs::ReadsLemmas::reads_all))]
 pub(crate) fn read_settings<'a, F: Files, R: Read, E: Write>(
     alloc: Global,
-    settings: &[Setting<'a>],
+    settings: &'a [Setting<'a>],
     files: &F,
     reader: &mut WatchedReader<R>,
     report: &mut E,
@@ -52,19 +52,19 @@ pub(crate) fn read_settings<'a, F: Files, R: Read, E: Write>(
 {
     let mut texts = Vec::new(alloc);
     for setting in settings {
-        texts.push(read_setting(alloc, *setting, files, reader, report)?)?;
+        texts.push(read_setting(alloc, setting, files, reader, report)?)?;
     }
     Ok(texts)
 }
 
 fn read_setting<'a, F: Files, R: Read, E: Write>(
     alloc: Global,
-    setting: Setting<'a>,
+    setting: &'a Setting<'a>,
     files: &F,
     reader: &mut WatchedReader<R>,
     report: &mut E,
 ) -> Result<SettingText<'a>, AllocError>
-    ensures { IfOk result (ReadsSetting (F.contents files.now) (as_words setting.entry)
+    ensures { IfOk result (ReadsSetting (F.contents files.now) (as_words setting.now)
         (R.remaining reader.old.reader) (R.remaining reader.new.reader)) }
 {
     let text = match setting.kind {

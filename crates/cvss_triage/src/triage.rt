@@ -18,7 +18,7 @@ use std::alloc::{AllocError, Global};
 use std::io::{Read, Write};
 
 /// What triage is asked for.
-#[derive(Clone, Copy, Drop)]
+#[derive(Drop)]
 pub struct Triage<'a> {
     /// What is set, the later after the earlier.
     pub settings: &'a [Setting<'a>],
