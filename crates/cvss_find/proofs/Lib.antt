@@ -1,4 +1,5 @@
 mod AloneLemmas
+mod AnnotatedLemmas
 mod DecodingLemmas
 mod FoundLemmas
 mod ReportingLemmas
