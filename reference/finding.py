@@ -12,6 +12,7 @@ import sys
 
 import complete
 import reference
+import rows
 
 RUN = re.compile(rb"[A-Za-z0-9:/.%]+")
 # How the beginning of a vector is written by mistake, in any case, or percent-encoded.
@@ -60,13 +61,33 @@ def decoded(text):
     return re.sub(rb"(?i)%2F", b"/", re.sub(rb"(?i)%3A", b":", text))
 
 
-def reported(line, allow_incomplete=False):
-    """The offset and the answer of each match in a line. A slash that ends the line after a match
-    is read with it, unless vectors may be incomplete."""
+def matches(line, allow_incomplete=False):
+    """The offset and the bytes of each match in a line. A slash that ends the line after a match is
+    read with it, unless vectors may be incomplete."""
     for place, mention, _ in found(line):
         whole = line[place:]
         cut = not allow_incomplete and whole[len(mention):] == b"/"
-        yield place, complete.answer(decoded(whole if cut else mention), allow_incomplete=allow_incomplete)
+        yield place, whole if cut else mention
+
+
+def reported(line, allow_incomplete=False):
+    """The offset and the answer of each match in a line."""
+    for place, match in matches(line, allow_incomplete):
+        yield place, complete.answer(decoded(match), allow_incomplete=allow_incomplete)
+
+
+def annotated(line, is_all=False, allow_incomplete=False):
+    """A line with a tab and the answer of its first match after it, or of each."""
+    fields = [answer.encode("utf-8") for _, answer in reported(line, allow_incomplete)]
+    return b"\t".join([line, *(fields if is_all else fields[:1])])
+
+
+def objects(number, line, allow_incomplete=False, file=None):
+    """The members of the object for each match in a line, with scores in tenths."""
+    for place, match in matches(line, allow_incomplete):
+        of_score = rows.members(decoded(match), allow_incomplete)
+        del of_score["given"]
+        yield ({} if file is None else {"file": file}) | {"line": number, "column": place + 1, "text": match} | of_score
 
 
 def answers(data, allow_incomplete=False):

@@ -48,7 +48,8 @@ PLANTED = {
 
 def audit(*arguments, given=b""):
     done = subprocess.run([PROGRAM, "audit", *arguments], input=given, capture_output=True, check=False)
-    if done.returncode == 2 or done.stderr:
+    note = b"" if done.stdout else b"cvss: no vector was found\n"
+    if done.returncode == 2 or done.stderr != note:
         sys.exit(f"cvss audit {arguments}: status {done.returncode}, {done.stderr}")
     return done.returncode, [json.loads(line) for line in done.stdout.splitlines()]
 

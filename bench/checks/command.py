@@ -88,6 +88,24 @@ def try_hints():
     expect(1, rejected, b"", "score", given=bare)
 
 
+def try_notes():
+    """An audit that finds no vector says so; one that is rejected, or whose reader is gone, does not."""
+    note = b"cvss: no vector was found\n"
+    for given in (b"", b"{}\n", b'[1,"x"]\n{}\n'):
+        expect(0, b"", note, "audit", given=given)
+    expect(0, b"", note, "audit", "--document", given=b"{}")
+    expect(2, b"", b"cvss: gone" + NO_FILE, "audit", "gone")
+    expect(1, b'{"line":1,"refused":"not JSON"}\n', b"", "audit", given=b"x\n")
+    found = b'{"vectorString":"' + V2 + b'"}\n'
+    done = subprocess.run([PROGRAM, "audit"], input=found, capture_output=True, check=True)
+    assert done.stdout and not done.stderr, done
+    for subcommand in ("score", "find", "explain"):
+        expect(0, b"", b"", subcommand)
+    closed = '"$0" audit < <(sleep 0.2; echo "$1") | true; exit ${PIPESTATUS[0]}'
+    done = subprocess.run(["bash", "-c", closed, PROGRAM, found.decode()], capture_output=True, check=False)
+    assert (done.returncode, done.stderr) == (0, b""), done
+
+
 def try_operands(room):
     """Vectors and files in one run, and what follows `--`."""
     (room / "list").write_bytes(V2 + b"\r\n" + CUT)
@@ -181,6 +199,7 @@ def main():
         room = Path(folder)
         try_arguments()
         try_hints()
+        try_notes()
         try_operands(room)
         try_help(room)
         seed = int(sys.argv[2]) if len(sys.argv) > 2 else 2

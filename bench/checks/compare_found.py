@@ -1,16 +1,19 @@
 #!/usr/bin/env python3
-"""Compares what the built `cvss find` writes with finding.py, over random texts.
+"""Compares what the built `cvss find` writes with finding.py, over random texts: lines, annotated lines and objects.
 
 usage: bench/checks/compare_found.py [COUNT [SEED]]
 """
+import json
 import subprocess
 import sys
+import tempfile
 from pathlib import Path
 
 ROOT = Path(__file__).resolve().parents[2]
 sys.path[:0] = [str(ROOT / "reference"), str(ROOT / "bench/inputs")]
 
 import finding
+import reference
 import texts
 
 PROGRAM = ROOT / "crates/cvss_command/out/cvss_command"
@@ -25,6 +28,8 @@ PREFIX = "error: invalid CVSS string prefix: `cvss`"
 COMPONENT = "error: invalid CVSS metric group component: "
 MISSING = "error: missing mandatory CVSSv3 UI (User Interaction) metric"
 CUT = b"CVSS:3.1/AV:N/AC:L/PR:N"
+HINT = b"cvss: hint: write the prefix of a vector as `CVSS:3.1/`\n"
+SCORES = ("base", "temporal", "environmental", "score")
 CASES = [
     (b"score 9.8 (" + V3 + b").", [(12, V3_ANSWER)]),
     (b"x?v=" + V3.replace(b":", b"%3A").replace(b"/", b"%2F") + b"&y", [(5, V3_ANSWER)]),
@@ -61,7 +66,7 @@ def try_stored():
     """The answers to stored lines."""
     lines, answers = ((ROOT / "bench/stored" / name).read_bytes() for name in ("find.lines", "find.answers"))
     done = run(lines, "--allow-incomplete")
-    if (done.returncode, done.stdout, done.stderr) != (1, answers, b""):
+    if (done.returncode, done.stdout, done.stderr) != (1, answers, HINT):
         sys.exit(f"cvss find: the answers to bench/stored/find.lines are {done}")
 
 
@@ -86,9 +91,69 @@ def compare(given, *arguments):
     if len(actual) != len(expected):
         sys.exit(f"cvss find writes {len(actual)} lines, and not {len(expected)}")
     rejected = any(answer.split(" ", 1)[1].startswith("error: ") for answer in expected)
-    if (done.returncode, done.stderr) != (int(rejected), b""):
+    if done.returncode != int(rejected) or not is_hint(done.stderr):
         sys.exit(f"cvss find: status {done.returncode}, standard error {done.stderr!r}")
     return len(expected)
+
+
+def try_annotated(lines, given):
+    """Each line is repeated, with the answer of its first match or of each."""
+    for arguments in ((), ("--all",), ("--allow-incomplete",), ("--all", "--allow-incomplete")):
+        expected = [finding.annotated(line, "--all" in arguments, "--allow-incomplete" in arguments) for line in lines]
+        done = run(given, "--annotate", *arguments)
+        actual = done.stdout.split(b"\n")
+        assert actual.pop() == b"" and len(actual) == len(lines), f"{len(actual)} lines, and not {len(lines)}"
+        for here, there in zip(actual, expected):
+            assert here == there, f"cvss find --annotate {arguments} writes {here!r}, and not {there!r}"
+        rejected = any(b"\terror: " in line[len(text):] for line, text in zip(expected, lines))
+        assert done.returncode == int(rejected), done.returncode
+        assert is_hint(done.stderr), done.stderr
+
+
+def try_objects(lines, given):
+    """Each match is an object, whose members are compared in their order."""
+    for arguments in ((), ("--allow-incomplete",), ("--all", "--annotate")):
+        expected = [{name: value / 10 if name in SCORES and value is not None else value for name, value in found.items()}
+                    for number, line in enumerate(lines, 1)
+                    for found in finding.objects(number, line, "--allow-incomplete" in arguments)]
+        done = run(given, "--json", *arguments)
+        actual = [json.loads(line, object_pairs_hook=list) for line in done.stdout.splitlines()]
+        for found in expected:
+            found["text"] = found["text"].decode("ascii")
+        assert len(actual) == len(expected), f"{len(actual)} objects, and not {len(expected)}"
+        for here, there in zip(actual, expected):
+            assert here == list(there.items()), f"cvss find --json writes {here!r}, and not {there!r}"
+        assert done.returncode == int(any(found["error"] for found in expected)), done.returncode
+        assert is_hint(done.stderr), done.stderr
+
+
+def is_hint(error):
+    return error in (b"", HINT)
+
+
+def try_hints():
+    """A prefix that is written in another way has a hint, once a run."""
+    for line, has in ((b"cvss:3.1/" + METRICS, True), (b"CVSS3.1/" + METRICS, True), (b"x CVSSv3.1/" + METRICS, True),
+                      (b"cvss%3A3.1%2F" + METRICS.replace(b":", b"%3A"), True), (V3, False), (CUT, False), (V2 + b"/", False),
+                      (b"x?v=" + V3.replace(b":", b"%3A").replace(b"/", b"%2F"), False), (b"cvss3.1/av", False)):
+        for arguments in ((), ("--json",), ("--annotate",)):
+            done = run(b"\n".join([line, V2, line]), *arguments)
+            assert done.stderr == (HINT if has else b""), (line, arguments, done)
+
+
+def try_files():
+    """The file of each line and of each object, where there are several, and lines of any bytes."""
+    with tempfile.TemporaryDirectory() as room:
+        line = b"\xff\t" + V2 + b"\t"
+        for name in ("a", 'b"'):
+            (Path(room) / name).write_bytes(line + b"\r\nnone")
+        done = subprocess.run([PROGRAM, "find", "--annotate", "a", 'b"'], cwd=room, capture_output=True, check=True)
+        expected = [name + rest for name in (b"a:", b'b":') for rest in (line + b"\t" + V2_ANSWER.encode(), b"none")]
+        assert done.stdout.splitlines() == expected, done
+        done = subprocess.run([PROGRAM, "find", "--json", "a", 'b"'], cwd=room, capture_output=True, check=True)
+        found = [json.loads(line) for line in done.stdout.splitlines()]
+        places = [[each[name] for name in ("file", "line", "column", "text", "score")] for each in found]
+        assert places == [[name, 1, 3, V2.decode(), 5.0] for name in ("a", 'b"')], done
 
 
 def main():
@@ -100,6 +165,11 @@ def main():
     ends = (b"\r\n" if number % 10 == 9 else b"\n" for number in range(count - 1))
     given = b"".join(line for pair in zip(drawn, [*ends, b""]) for line in pair)
     answered = compare(given) + compare(given, "--allow-incomplete")
+    read = list(reference.lines_of(given))
+    try_annotated(read, given)
+    try_objects(read, given)
+    try_hints()
+    try_files()
     print(f"cvss find: {len(CASES)} texts, and {count} drawn ones with {answered} answers, which are those of finding.py")
 
 

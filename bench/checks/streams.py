@@ -272,8 +272,9 @@ def try_triage(runs):
 def try_audit(runs):
     """Documents that reads cut; failed reads; full writers. A pipe that its reader has closed is no error."""
     for given, answers, status in DOCUMENTS:
+        note = "" if answers else "cvss: no vector was found\n"
         for step in (1, 7, 100_000):
-            runs.expect("cvss_command", given, (status, answers.encode(), ""), ["audit"], READ_STEP=step,
+            runs.expect("cvss_command", given, (status, answers.encode(), note), ["audit"], READ_STEP=step,
                         WRITE_SLOWLY=1)
     given = f"{DOCUMENT}\n{DOCUMENT}".encode()
     for fault in FAULTS:

@@ -17,7 +17,10 @@ use Rattle.cvss_command.specs.declared.subcommand.Subcommand.{Subcommand}
 use Rattle.cvss_command.specs.declared.subcommand.Subcommand.TheVariants.{Score, Find, Explain, Set, Triage, Audit}
 use Rattle.cvss_explain_json.specs.Answers as json
 use Rattle.cvss_explain_text.specs.Answers as text
+use Rattle.cvss_find.specs.Annotations.{annotate_rule}
 use Rattle.cvss_find.specs.Answers.{find_rule}
+use Rattle.cvss_find.specs.declared.form.Form.{Form}
+use Rattle.cvss_find.specs.declared.form.Form.TheVariants.{Located, Object}
 use Rattle.cvss_lines.specs.Answers.{Rule}
 use Rattle.cvss_lines.specs.Runs.{Ends}
 use Rattle.cvss_lines.specs.declared.fault.RunFault.TheVariants.{Memory}
@@ -36,9 +39,19 @@ help_of all score find explain set triage audit (Some Set) = set
 help_of all score find explain set triage audit (Some Triage) = triage
 help_of all score find explain set triage audit (Some Audit) = audit
 
--- each line is answered by what is found in it
-abbrev pub FindsVectors : Bool → Endings
-FindsVectors allow_incomplete prefix = Ends (find_rule allow_incomplete prefix)
+-- each line is answered by what is found in it, in this form
+abbrev pub FindsVectors : Form → Bool → Endings
+FindsVectors form allow_incomplete prefix = Ends (find_rule form allow_incomplete prefix)
+
+-- each line is repeated with the answers to what is found in it, or to the first of that
+abbrev pub AnnotatesLines : Bool → Bool → Endings
+AnnotatesLines all allow_incomplete prefix = Ends (annotate_rule all allow_incomplete prefix)
+
+-- how an input is answered by `cvss find`, by whether --json, --annotate, --all and --allow-incomplete are given
+abbrev pub find_ends : Bool → Bool → Bool → Bool → Endings
+find_ends true annotate all = FindsVectors Object
+find_ends false true all = AnnotatesLines all
+find_ends false false all = FindsVectors Located
 
 -- each of the metrics after a slash
 abbrev pub with_slash : List (Vec ℕ) → List ℕ
@@ -93,7 +106,8 @@ Runs Score options arguments contents unread unread' written written' result =
     IsOkAnd result (Scores options.flags.json options.flags.tsv options.flags.allow_incomplete contents (operands_of options.operands arguments)
     unread unread' written written')
 Runs Find options arguments contents unread unread' written written' result =
-    Answers (FindsVectors options.flags.allow_incomplete) options arguments contents unread unread' written written' result
+    Answers (find_ends options.flags.json options.flags.annotate options.flags.all options.flags.allow_incomplete)
+    options arguments contents unread unread' written written' result
 Runs Explain options arguments contents unread unread' written written' result =
     Answers (AnswersLines (explain_rule options.flags.json options.flags.allow_incomplete)) options arguments contents unread unread' written written' result
 Runs Set options arguments contents unread unread' written written' result =

@@ -5,7 +5,7 @@ ghost use Rattle.cvss_command.specs.Done.{Does, Runs, SetsMetrics, audit_of, hel
 ghost use Rattle.cvss_command.specs.Requests.{request_of};
 ghost use Rattle.cvss_command.specs.Scoring.{WritesText};
 
-use crate::find::Find;
+use crate::find::find_vectors;
 use crate::help::{
     AUDIT_USAGE, EXPLAIN_USAGE, FIND_USAGE, SCORE_USAGE, SET_USAGE, TRIAGE_USAGE, USAGE, VERSION,
     help_of,
@@ -60,10 +60,15 @@ pub fn run_command<F: Files, R: Read, W: Write, E: Write>(
                     ))
                 }
                 Subcommand::Find => {
-                    let task = Find {
-                        allow_incomplete: options.flags.allow_incomplete,
-                    };
-                    Ok(serve_operands(alloc, &task, operands, files, reader, writer, report))
+                    Ok(find_vectors(
+                        alloc,
+                        options.flags,
+                        operands,
+                        files,
+                        reader,
+                        writer,
+                        report,
+                    ))
                 }
                 Subcommand::Explain => {
                     let answer = Explain {

@@ -11,7 +11,7 @@ pub(crate) const VERSION: &str = "cvss 1.0.0\n";
 /// What `help` prints.
 pub(crate) const USAGE: &str = "\
 usage: cvss score [--json|--tsv] [--allow-incomplete] [VECTOR|FILE]..
-       cvss find [--allow-incomplete] [FILE]..
+       cvss find [--json|--annotate [--all]] [--allow-incomplete] [FILE]..
        cvss explain [--json] [--allow-incomplete] [VECTOR|FILE]..
        cvss set METRIC:VALUE.. [-- VECTOR|FILE ..]
        cvss triage [--set METRIC:VALUE].. [--profile FILE].. [--keep-going]
@@ -59,7 +59,7 @@ Status: 0, 1 if a line is rejected, 2 after a usage or I/O error.
 
 /// What `help find` prints.
 pub(crate) const FIND_USAGE: &str = "\
-usage: cvss find [--allow-incomplete] [FILE]..
+usage: cvss find [--json|--annotate [--all]] [--allow-incomplete] [FILE]..
 
 Finds the vectors in any text, of any bytes. For each it prints LINE:COLUMN
 (both from 1, in bytes), a space and what cvss score answers to it. With several
@@ -70,11 +70,15 @@ colon, as in cvss:3.1/AV:N and CVSS3.1/AV:N, is rejected: write CVSS:3.1/. A
 vector is also rejected if a slash after it ends the line, since it may go on in
 the next line.
 
+  --annotate           repeat each line, with a tab and the answer to its first
+                       vector after it; with --all the answers to all of them
+  --json               one object for each vector: line, column, text, and the
+                       members of cvss score --json
   --allow-incomplete   score vectors that end so, and v3 vectors that lack base
                        metrics
 
-  cvss find notes.txt
   curl -s https://example.org/advisory | cvss find
+  cvss find --annotate findings.tsv
 
 Status: 0, 1 if a vector is rejected, 2 after a usage or I/O error.
 ";

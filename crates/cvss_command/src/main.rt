@@ -10,6 +10,7 @@ mod hint;
 mod requests;
 mod score;
 mod subcommand;
+mod taking;
 mod tasks;
 mod triage;
 
@@ -20,6 +21,7 @@ use help::USAGE;
 use hint::first_hint;
 use std::io::{self, ErrorKind, Write};
 use std::process::ExitCode;
+use taking::Taking;
 
 fn main(rt: HostRuntime) -> ExitCode {
     let Ok(arguments) = arguments(rt.alloc(), &rt) else {
@@ -27,7 +29,10 @@ fn main(rt: HostRuntime) -> ExitCode {
         return ExitCode::from(2);
     };
     let mut writer = WatchedWriter {
-        writer: rt.stdout(),
+        writer: Taking {
+            writer: rt.stdout(),
+            has_taken: false,
+        },
         error: None,
     };
     let result = run_command(
@@ -45,13 +50,23 @@ fn main(rt: HostRuntime) -> ExitCode {
             {
                 let _ = eprintln!(rt; "cvss: hint: {hint}");
             }
-            ExitCode::from(end(served, writer.error, &mut rt.stderr()))
+            let is_silent = !writer.writer.has_taken && writer.error.is_none();
+            let status = end(served, writer.error, &mut rt.stderr());
+            if status == 0 && is_silent && is_audit(&arguments) {
+                let _ = eprintln!(rt; "cvss: no vector was found");
+            }
+            ExitCode::from(status)
         }
         Err(left) => {
             report_wrong(&arguments, left, &mut rt.stderr());
             ExitCode::from(2)
         }
     }
+}
+
+/// Whether arguments ask for an audit.
+fn is_audit(arguments: &[Vec<u8>]) -> bool {
+    matches!(arguments, [subcommand, ..] if subcommand.as_slice() == b"audit".as_slice())
 }
 
 /// The exit status, once it is reported why the command has stopped.

@@ -4,7 +4,8 @@ use Rattle.std.proofs.Math.Bool.{and-true}
 use Rattle.cvss_answer.specs.Answers.{score_rule}
 use Rattle.cvss_lines.specs.Answers.{Answer, Accepted, Refused, is_accepted, texts_of}
 use Rattle.cvss_scan.specs.Mentions.{AreFound, IsAccepted, Placed, mentions_of}
-use Rattle.cvss_find.specs.Answers.{AreReported, Asked, IsAnswerTo, Reported, all_accepted, answer_of}
+use Rattle.cvss_find.specs.Answers.{AreReported, Asked, IsAnswerTo, Reported, all_accepted, answer_with, reported_texts}
+use Rattle.cvss_find.specs.declared.form.Form.TheVariants.{Located}
 use Rattle.cvss_find.specs.laws.Alone.{ReportsOfAll}
 use Rattle.cvss_find.proofs.ReportingLemmas.{answered_whole, reported_answer}
 
@@ -12,7 +13,7 @@ texts_of_either : (b : Bool) (texts : List (List ℕ)) → texts_of (cond b (Acc
 texts_of_either true texts = refl
 texts_of_either false texts = refl
 
-reported_alone : (asked : Asked) (reported : List Reported) (answer : Answer) → IsAccepted asked.line → AreReported asked (record { place = 0; text = asked.line } ∷ []) reported → answer ≡ answer_of reported
+reported_alone : (asked : Asked) (reported : List Reported) (answer : Answer) → IsAccepted asked.line → AreReported Located asked (record { place = 0; text = asked.line } ∷ []) reported → answer ≡ answer_with reported (reported_texts reported)
     → ReportsOfAll asked.allow_incomplete asked.prefix asked.number asked.line answer
 reported_alone asked [] answer accepted are is = absurd are
 reported_alone asked (one ∷ []) answer accepted are is = record {
@@ -21,7 +22,7 @@ reported_alone asked (one ∷ []) answer accepted are is = record {
   text = are.0.text;
   one_text = are.0.one_text;
   texts = ap texts_of is ∙ texts_of_either (all_accepted (one ∷ [])) (one.text ∷ []) ∙ ap (λ text. text ∷ []) are.0.is;
-  accepted = ap is_accepted is ∙ sym (reported_answer (one ∷ [])) ∙ and-true one.accepts ∙ are.0.accepted;
+  accepted = ap is_accepted is ∙ sym (reported_answer (one ∷ []) (one.text ∷ [])) ∙ and-true one.accepts ∙ are.0.accepted;
 }
 reported_alone asked (one ∷ other ∷ more) answer accepted are is = absurd are.1
 
@@ -32,7 +33,7 @@ found_alone line (one ∷ other ∷ more) accepted (inl (is, same, none)) = absu
 found_alone line (one ∷ more) accepted (inr (not_found, are)) = absurd (not_found (inl accepted))
 
 pub answered_alone : (asked : Asked) (answer : Answer) → (mentions_of asked.line ≡ record { place = 0; text = asked.line } ∷ []) → IsAccepted asked.line
-    → IsAnswerTo asked answer → ReportsOfAll asked.allow_incomplete asked.prefix asked.number asked.line answer
+    → IsAnswerTo Located asked answer → ReportsOfAll asked.allow_incomplete asked.prefix asked.number asked.line answer
 answered_alone asked answer one accepted answers =
     let found = found_alone asked.line answers.found accepted (subst (λ mentions. AreFound mentions answers.found) one answers.are_found) in
-    reported_alone asked answers.reported answer accepted (subst (λ mentions. AreReported asked mentions answers.reported) found answers.are_reported) answers.is
+    reported_alone asked answers.reported answer accepted (subst (λ mentions. AreReported Located asked mentions answers.reported) found answers.are_reported) answers.is

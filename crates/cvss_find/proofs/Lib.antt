@@ -1,3 +1,4 @@
 mod AloneLemmas
+mod AnnotatedLemmas
 mod DecodingLemmas
 mod ReportingLemmas

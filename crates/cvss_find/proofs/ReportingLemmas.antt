@@ -11,9 +11,14 @@ use Rattle.cvss_any.specs.Complete.{IsPublishedOfComplete}
 use Rattle.cvss_any.specs.declared.published.Published.{Published}
 use Rattle.cvss_answer.specs.Answers.{IsAnswer, IsCompleteAnswer, score_rule}
 use Rattle.cvss_lines.specs.Answers.{Answer, Accepted, Refused, WritesAnswer, is_accepted, texts_of, written_answer, written_text}
-use Rattle.cvss_find.specs.Answers.{AreReported, Asked, IsReported, Reported, all_accepted, answer_of, answered_bytes, find_rule, location_text, place_text, reported_texts}
+use Rattle.cvss_lines.specs.Prefixed.{AnswersByOneText}
+use Rattle.cvss_find.specs.Answers.{AreReported, Asked, IsReported, Reported, all_accepted, answer_with, answered_bytes, answers_as, before_answer, find_rule, reported_texts, place_text}
 use Rattle.cvss_find.specs.Decoding.{decoded}
-use Rattle.cvss_find.specs.private.Reporting.{Reports, WritesReported}
+use Rattle.cvss_find.specs.declared.form.Form.{Form}
+use Rattle.cvss_find.specs.declared.form.Form.TheVariants.{Located, Object, Field}
+use Rattle.cvss_find.specs.private.Reporting.{Reports, WritesReported, as_it_is}
+use Rattle.cvss_rows.specs.Rows.{AreCells}
+use Rattle.cvss_rows.specs.declared.format.Format.TheVariants.{Json}
 use Rattle.cvss_scan.proofs.AcceptedLemmas.{accepted_alone, accepted_whole}
 use Rattle.cvss_scan.specs.Mentions.{AreFound, IsAccepted, IsFound, Placed, mentions_of}
 use Rattle.cvss_scan.specs.MentionsLeft.{IsFirstFound, NoneFound}
@@ -39,18 +44,33 @@ one_text_of_complete number line (Refused []) is = absurd is
 one_text_of_complete number line (Refused (text ∷ [])) is = (text, refl)
 one_text_of_complete number line (Refused (text ∷ next ∷ more)) is = absurd is
 
-one_text : (allow : Bool) (number : ℕ) (line : List ℕ) (answer : Answer) → score_rule allow number line answer → (text : List ℕ) × (texts_of answer ≡ text ∷ [])
-one_text true = one_text_of
-one_text false = one_text_of_complete
+one_text_of_score : (allow : Bool) → AnswersByOneText (score_rule allow)
+one_text_of_score true = one_text_of
+one_text_of_score false = one_text_of_complete
 
--- a mention is reported of, once its location and its answer are written
-pub WritesReported-answer : (asked : Asked) (mention : Placed) (old middle new : List ℕ) (accepted : Bool) → middle ≡ old ++ location_text asked mention.place
-    → WritesAnswer (score_rule asked.allow_incomplete) asked.number (decoded (answered_bytes asked mention)) middle new accepted → WritesReported asked mention old new accepted
-WritesReported-answer asked mention old middle new accepted placed written =
-    let one = one_text asked.allow_incomplete asked.number (decoded (answered_bytes asked mention)) written.answer written.answers in
-    let location = location_text asked mention.place in
+one_text_of_cells : (allow : Bool) → AnswersByOneText (AreCells Json allow)
+unfolding AreCells
+one_text_of_cells allow number line (Accepted []) is = absurd is
+one_text_of_cells allow number line (Accepted (text ∷ [])) is = (text, refl)
+one_text_of_cells allow number line (Accepted (text ∷ next ∷ more)) is = absurd is
+one_text_of_cells allow number line (Refused []) is = absurd is
+one_text_of_cells allow number line (Refused (text ∷ [])) is = (text, refl)
+one_text_of_cells allow number line (Refused (text ∷ next ∷ more)) is = absurd is
+
+one_text : (form : Form) (allow : Bool) → AnswersByOneText (answers_as form allow)
+one_text Located = one_text_of_score
+one_text Object = one_text_of_cells
+one_text Field = one_text_of_score
+
+-- a mention is reported of, once its answer is written after what is before it
+pub WritesReported-answer : (form : Form) (asked : Asked) (mention : Placed) (old middle new : List ℕ) (accepted : Bool) → middle ≡ old ++ before_answer form asked mention
+    → WritesAnswer (answers_as form asked.allow_incomplete) asked.number (decoded (answered_bytes asked mention)) middle new accepted
+    → WritesReported written_text form asked mention old new accepted
+WritesReported-answer form asked mention old middle new accepted placed written =
+    let one = one_text form asked.allow_incomplete asked.number (decoded (answered_bytes asked mention)) written.answer written.answers in
+    let before = before_answer form asked mention in
     record {
-      reported = record { text = location ++ one.0; accepts = is_accepted written.answer };
+      reported = record { text = before ++ one.0; accepts = is_accepted written.answer };
       is_reported = record {
         answer = written.answer;
         text = one.0;
@@ -64,41 +84,41 @@ WritesReported-answer asked mention old middle new accepted placed written =
           ∙ ap (λ texts. middle ++ flat_map written_text texts) one.1
           ∙ ap (λ bytes. middle ++ bytes) (append-nil (written_text one.0))
           ∙ ap (λ bytes. bytes ++ written_text one.0) placed
-          ∙ append_assoc old location (written_text one.0)
-          ∙ ap (λ bytes. old ++ bytes) (sym (append_assoc location one.0 (10 ∷ [])));
+          ∙ append_assoc old before (written_text one.0)
+          ∙ ap (λ bytes. old ++ bytes) (sym (append_assoc before one.0 (10 ∷ [])));
     }
 
 -- the prefix and then the place
 pub located : (asked : Asked) (place : ℕ) (old between middle : List ℕ) → between ≡ old ++ asked.prefix → middle ≡ between ++ place_text asked.number place
-    → middle ≡ old ++ location_text asked place
+    → middle ≡ old ++ (asked.prefix ++ place_text asked.number place)
 located asked place old between middle first next =
     next ∙ ap (λ bytes. bytes ++ place_text asked.number place) first ∙ append_assoc old asked.prefix (place_text asked.number place)
 
-AreReported-push : (asked : Asked) (mentions : List Placed) (reported : List Reported) (mention : Placed) (last : Reported)
-    → AreReported asked mentions reported → IsReported asked mention last → AreReported asked (mentions ++ mention ∷ []) (reported ++ last ∷ [])
-AreReported-push asked [] [] mention last are is = (is, tt)
-AreReported-push asked [] (each ∷ more) mention last are is = absurd are
-AreReported-push asked (each ∷ more) [] mention last are is = absurd are
-AreReported-push asked (first ∷ mentions) (each ∷ more) mention last are is = (are.0, AreReported-push asked mentions more mention last are.1 is)
+AreReported-push : (form : Form) (asked : Asked) (mentions : List Placed) (reported : List Reported) (mention : Placed) (last : Reported)
+    → AreReported form asked mentions reported → IsReported form asked mention last → AreReported form asked (mentions ++ mention ∷ []) (reported ++ last ∷ [])
+AreReported-push form asked [] [] mention last are is = (is, tt)
+AreReported-push form asked [] (each ∷ more) mention last are is = absurd are
+AreReported-push form asked (each ∷ more) [] mention last are is = absurd are
+AreReported-push form asked (first ∷ mentions) (each ∷ more) mention last are is = (are.0, AreReported-push form asked mentions more mention last are.1 is)
 
 all_accepted-push : (reported : List Reported) (last : Reported) → all_accepted (reported ++ last ∷ []) ≡ (all_accepted reported && last.accepts)
 all_accepted-push reported last =
     list_all-append (λ (each : Reported). each.accepts) reported (last ∷ []) ∙ ap (λ b. all_accepted reported && b) (and-true last.accepts)
 
-written-push : (reported : List Reported) (last : Reported) (old middle new : List ℕ)
-    → middle ≡ old ++ flat_map written_text (reported_texts reported) → new ≡ middle ++ written_text last.text
-    → new ≡ old ++ flat_map written_text (reported_texts (reported ++ last ∷ []))
-written-push reported last old middle new before next =
-    next ∙ ap (λ bytes. bytes ++ written_text last.text) before
-    ∙ append_assoc old (flat_map written_text (reported_texts reported)) (written_text last.text)
+written-push : (write : List ℕ → List ℕ) (reported : List Reported) (last : Reported) (old middle new : List ℕ)
+    → middle ≡ old ++ flat_map write (reported_texts reported) → new ≡ middle ++ write last.text
+    → new ≡ old ++ flat_map write (reported_texts (reported ++ last ∷ []))
+written-push write reported last old middle new before next =
+    next ∙ ap (λ bytes. bytes ++ write last.text) before
+    ∙ append_assoc old (flat_map write (reported_texts reported)) (write last.text)
     ∙ ap (λ bytes. old ++ bytes)
-    (sym (ap (flat_map written_text) (map-append (λ (each : Reported). each.text) reported (last ∷ []))
-    ∙ flat_map-append written_text (reported_texts reported) (last.text ∷ [])
-    ∙ ap (λ bytes. flat_map written_text (reported_texts reported) ++ bytes) (append-nil (written_text last.text))))
+    (sym (ap (flat_map write) (map-append (λ (each : Reported). each.text) reported (last ∷ []))
+    ∙ flat_map-append write (reported_texts reported) (last.text ∷ [])
+    ∙ ap (λ bytes. flat_map write (reported_texts reported) ++ bytes) (append-nil (write last.text))))
 
 -- before the first mention
-pub Reports-start : (asked : Asked) (bytes : List ℕ) (left : List Placed) → left ≡ mentions_of asked.line → Reports asked left bytes bytes true
-Reports-start asked bytes left is = record {
+pub Reports-start : (write : List ℕ → List ℕ) (form : Form) (asked : Asked) (bytes : List ℕ) (left : List Placed) → left ≡ mentions_of asked.line → Reports write form asked left bytes bytes true
+Reports-start write form asked bytes left is = record {
   found = [];
   are_found = λ more are. subst (λ mentions. AreFound mentions more) is are;
   reported = [];
@@ -108,46 +128,54 @@ Reports-start asked bytes left is = record {
 }
 
 -- after one more that is found
-pub Reports-next : (asked : Asked) (left after : List Placed) (mention : Placed) (old middle new : List ℕ) (all accepted : Bool)
-    → Reports asked left old middle all → IsFirstFound left mention after → WritesReported asked mention middle new accepted
-    → Reports asked after old new (all && accepted)
-Reports-next asked left after mention old middle new all accepted before first next = record {
+pub Reports-next : (write : List ℕ → List ℕ) (form : Form) (asked : Asked) (left after : List Placed) (mention : Placed) (old middle new : List ℕ) (all accepted : Bool)
+    → Reports write form asked left old middle all → IsFirstFound left mention after → WritesReported write form asked mention middle new accepted
+    → Reports write form asked after old new (all && accepted)
+Reports-next write form asked left after mention old middle new all accepted before first next = record {
   found = before.found ++ mention ∷ [];
   are_found = λ more are. subst (AreFound (mentions_of asked.line)) (sym (append_assoc before.found (mention ∷ []) more))
       (before.are_found (mention ∷ more) (AreFound-first left after mention more first are));
   reported = before.reported ++ next.reported ∷ [];
-  are_reported = AreReported-push asked before.found before.reported mention next.reported before.are_reported next.is_reported;
+  are_reported = AreReported-push form asked before.found before.reported mention next.reported before.are_reported next.is_reported;
   accepts = ap₂ (λ (a b : Bool). a && b) before.accepts next.accepts ∙ sym (all_accepted-push before.reported next.reported);
-  written = written-push before.reported next.reported old middle new before.written next.written;
+  written = written-push write before.reported next.reported old middle new before.written next.written;
 }
 
-pub reported_answer : (reported : List Reported) → all_accepted reported ≡ is_accepted (answer_of reported)
-reported_answer reported = accepts (all_accepted reported) where
-  accepts : (b : Bool) → b ≡ is_accepted (cond b (Accepted (reported_texts reported)) (Refused (reported_texts reported)))
+pub reported_answer : (reported : List Reported) (texts : List (List ℕ)) → all_accepted reported ≡ is_accepted (answer_with reported texts)
+reported_answer reported texts = accepts (all_accepted reported) where
+  accepts : (b : Bool) → b ≡ is_accepted (cond b (Accepted texts) (Refused texts))
   accepts true = refl
   accepts false = refl
 
-written_answer_of : (reported : List Reported) → flat_map written_text (reported_texts reported) ≡ written_answer (answer_of reported)
-written_answer_of reported = written (all_accepted reported) where
-  written : (b : Bool) → flat_map written_text (reported_texts reported) ≡ written_answer (cond b (Accepted (reported_texts reported)) (Refused (reported_texts reported)))
+pub written_answer_with : (reported : List Reported) (texts : List (List ℕ)) → flat_map written_text texts ≡ written_answer (answer_with reported texts)
+written_answer_with reported texts = written (all_accepted reported) where
+  written : (b : Bool) → flat_map written_text texts ≡ written_answer (cond b (Accepted texts) (Refused texts))
   written true = refl
   written false = refl
 
+-- which mentions are found, once no more is
+pub found_all : (write : List ℕ → List ℕ) (form : Form) (asked : Asked) (left : List Placed) (old new : List ℕ) (all : Bool) → (reports : Reports write form asked left old new all) → NoneFound left
+    → AreFound (mentions_of asked.line) reports.found
+found_all write form asked left old new all reports none =
+    subst (AreFound (mentions_of asked.line)) (append-nil reports.found) (reports.are_found [] (AreFound-none left none))
+
 -- once no more is found
-pub Reports-end : (asked : Asked) (left : List Placed) (old new : List ℕ) (all : Bool) → Reports asked left old new all → NoneFound left
-    → WritesAnswer (find_rule asked.allow_incomplete asked.prefix) asked.number asked.line old new all
-Reports-end asked left old new all reports none = record {
-  answer = answer_of reports.reported;
-  answers = record {
-    found = reports.found;
-    are_found = subst (AreFound (mentions_of asked.line)) (append-nil reports.found) (reports.are_found [] (AreFound-none left none));
-    reported = reports.reported;
-    are_reported = reports.are_reported;
-    is = refl;
-  };
-  reported = reports.accepts ∙ reported_answer reports.reported;
-  written = reports.written ∙ ap (λ bytes. old ++ bytes) (written_answer_of reports.reported);
-}
+pub Reports-end : (form : Form) (asked : Asked) (left : List Placed) (old new : List ℕ) (all : Bool) → Reports written_text form asked left old new all → NoneFound left
+    → WritesAnswer (find_rule form asked.allow_incomplete asked.prefix) asked.number asked.line old new all
+Reports-end form asked left old new all reports none =
+    let texts = reported_texts reports.reported in
+    record {
+      answer = answer_with reports.reported texts;
+      answers = record {
+        found = reports.found;
+        are_found = found_all written_text form asked left old new all reports none;
+        reported = reports.reported;
+        are_reported = reports.are_reported;
+        is = refl;
+      };
+      reported = reports.accepts ∙ reported_answer reports.reported texts;
+      written = reports.written ∙ ap (λ bytes. old ++ bytes) (written_answer_with reports.reported texts);
+    }
 
 -- the place of a line's first byte
 pub first_place : (number : ℕ) → decimal number ++ codes ":1 " ≡ place_text number 0
@@ -169,13 +197,14 @@ answered_whole asked accepted =
 
 -- a line that is one canonical vector, once its location and its answer are written
 pub canonical_reported : (asked : Asked) (published : Published) (old middle new : List ℕ) → IsPublishedOfComplete asked.line published
-    → middle ≡ old ++ location_text asked 0 → WritesAnswer (score_rule asked.allow_incomplete) asked.number asked.line middle new true
-    → WritesAnswer (find_rule asked.allow_incomplete asked.prefix) asked.number asked.line old new true
+    → middle ≡ old ++ (asked.prefix ++ place_text asked.number 0) → WritesAnswer (score_rule asked.allow_incomplete) asked.number asked.line middle new true
+    → WritesAnswer (find_rule Located asked.allow_incomplete asked.prefix) asked.number asked.line old new true
 canonical_reported asked published old middle new is placed written =
     let mention : Placed = record { place = 0; text = asked.line } in
     let accepted : IsAccepted asked.line = record { cvss = is.of.cvss; denoted = is.of.denoted } in
     let first : IsFirstFound (mentions_of asked.line) mention [] = record { passed = []; is = accepted_alone asked.line accepted; none = none_of_none; found = inl accepted } in
     let own = subst (λ bytes. WritesAnswer (score_rule asked.allow_incomplete) asked.number bytes middle new true) (sym (answered_whole asked accepted)) written in
-    Reports-end asked [] old new true
-    (Reports-next asked (mentions_of asked.line) [] mention old old new true true (Reports-start asked old (mentions_of asked.line) refl) first (WritesReported-answer asked mention old middle new true placed own))
+    Reports-end Located asked [] old new true
+    (Reports-next written_text Located asked (mentions_of asked.line) [] mention old old new true true (Reports-start written_text Located asked old (mentions_of asked.line) refl) first
+    (WritesReported-answer Located asked mention old middle new true placed own))
     none_of_none

@@ -4,7 +4,12 @@ use Rattle.std.specs.Fmt.{decimal}
 use Rattle.std.specs.List.{list_all}
 use Rattle.cvss_answer.specs.Answers.{score_rule}
 use Rattle.cvss_find.specs.Decoding.{decoded}
+use Rattle.cvss_find.specs.declared.form.Form.{Form}
+use Rattle.cvss_find.specs.declared.form.Form.TheVariants.{Located, Object, Field}
 use Rattle.cvss_lines.specs.Answers.{Answer, Accepted, Refused, Rule, is_accepted, texts_of}
+use Rattle.cvss_rows.specs.Cells.{given_text, object_start}
+use Rattle.cvss_rows.specs.Rows.{AreCells}
+use Rattle.cvss_rows.specs.declared.format.Format.TheVariants.{Json}
 use Rattle.cvss_scan.specs.Mentions.{AreFound, Placed, mentions_of}
 
 -- what is asked: what each text begins with, whether vectors of CVSS v3 may lack base metrics, a line's number, which
@@ -18,10 +23,6 @@ pub record Asked : Type 0 where
 -- the line's number, and the place of a mention's first byte in it, which counts from 0 and is reported from 1
 abbrev pub place_text : ℕ → ℕ → List ℕ
 place_text number place = decimal number ++ (codes ":" ++ (decimal (place + 1) ++ codes " "))
-
--- what a text for a mention begins with
-abbrev pub location_text : Asked → ℕ → List ℕ
-location_text asked place = asked.prefix ++ place_text asked.number place
 
 -- after the mention the line has a slash and ends: the vector may go on in the next line
 abbrev pub is_cut : List ℕ → Placed → Bool
@@ -37,21 +38,43 @@ pub record Reported : Type 0 where
   pub text : List ℕ
   pub accepts : Bool
 
--- reported is where the mention is, and the answer to its bytes, decoded, as a line by themselves
-pub record IsReported (asked : Asked) (mention : Placed) (reported : Reported) : Type 0 where
+-- the members of an object before those of the answer: the file, where answers have a prefix, the line, the column, which
+-- counts from 1, and the bytes that are answered
+abbrev pub first_members : Asked → Placed → List ℕ
+first_members asked mention =
+    object_start asked.prefix
+    ++ (codes "\"line\":" ++ (decimal asked.number ++ (codes ",\"column\":" ++ (decimal (mention.place + 1)
+    ++ (codes ",\"text\":" ++ given_text Json (answered_bytes asked mention))))))
+
+-- what is before the answer to a mention, by the form in which it is reported
+abbrev pub before_answer : Form → Asked → Placed → List ℕ
+before_answer Located asked mention = asked.prefix ++ place_text asked.number mention.place
+before_answer Object asked mention = first_members asked mention
+before_answer Field asked mention = codes "\t"
+
+-- which answers bytes have: what `cvss score` answers to them, or in an object the members of `cvss score --json` after the
+-- given text
+abbrev pub answers_as : Form → Bool → Rule
+answers_as Located = score_rule
+answers_as Object = AreCells Json
+answers_as Field = score_rule
+
+-- reported is an answer to the mention's bytes, decoded, as a line by themselves
+pub record IsReported (form : Form) (asked : Asked) (mention : Placed) (reported : Reported) : Type 0 where
   pub answer : Answer
   pub text : List ℕ
-  pub answers : score_rule asked.allow_incomplete asked.number (decoded (answered_bytes asked mention)) answer
+  pub answers : answers_as form asked.allow_incomplete asked.number (decoded (answered_bytes asked mention)) answer
   pub one_text : texts_of answer ≡ text ∷ []
-  pub is : reported.text ≡ location_text asked mention.place ++ text
+  pub is : reported.text ≡ before_answer form asked mention ++ text
   pub accepted : reported.accepts ≡ is_accepted answer
 
 -- these are reported of the mentions, in their order
-abbrev pub AreReported : Asked → List Placed → List Reported → Type 0
-AreReported asked [] [] = ⊤
-AreReported asked [] (reported ∷ more) = ⊥
-AreReported asked (mention ∷ mentions) [] = ⊥
-AreReported asked (mention ∷ mentions) (reported ∷ more) = IsReported asked mention reported × AreReported asked mentions more
+abbrev pub AreReported : Form → Asked → List Placed → List Reported → Type 0
+AreReported form asked [] [] = ⊤
+AreReported form asked [] (reported ∷ more) = ⊥
+AreReported form asked (mention ∷ mentions) [] = ⊥
+AreReported form asked (mention ∷ mentions) (reported ∷ more) =
+    IsReported form asked mention reported × AreReported form asked mentions more
 
 -- each mention is accepted
 abbrev pub all_accepted : List Reported → Bool
@@ -61,19 +84,19 @@ all_accepted reported = list_all (λ each. each.accepts) reported
 abbrev pub reported_texts : List Reported → List (List ℕ)
 reported_texts reported = map (λ each. each.text) reported
 
--- the answer to a line: a text for each mention. The line is accepted if each mention is.
-abbrev pub answer_of : List Reported → Answer
-answer_of reported = if all_accepted reported then Accepted (reported_texts reported) else Refused (reported_texts reported)
+-- the answer to a line with these texts, which is accepted if each mention is
+abbrev pub answer_with : List Reported → List (List ℕ) → Answer
+answer_with reported texts = if all_accepted reported then Accepted texts else Refused texts
 
--- this is an answer to what is asked: it says of the mentions in the line that are found
-pub record IsAnswerTo (asked : Asked) (answer : Answer) : Type 0 where
+-- this is an answer to what is asked: a text for each mention in the line that is found
+pub record IsAnswerTo (form : Form) (asked : Asked) (answer : Answer) : Type 0 where
   pub found : List Placed
   pub are_found : AreFound (mentions_of asked.line) found
   pub reported : List Reported
-  pub are_reported : AreReported asked found reported
-  pub is : answer ≡ answer_of reported
+  pub are_reported : AreReported form asked found reported
+  pub is : answer ≡ answer_with reported (reported_texts reported)
 
--- which answers a line has, by whether vectors may be incomplete and by what each text begins with
-abbrev pub find_rule : Bool → List ℕ → Rule
-find_rule allow_incomplete prefix number line =
-    IsAnswerTo (record { prefix = prefix; allow_incomplete = allow_incomplete; number = number; line = line })
+-- which answers a line has, by the form, by whether vectors may be incomplete and by what each text begins with
+abbrev pub find_rule : Form → Bool → List ℕ → Rule
+find_rule form allow_incomplete prefix number line =
+    IsAnswerTo form (record { prefix = prefix; allow_incomplete = allow_incomplete; number = number; line = line })

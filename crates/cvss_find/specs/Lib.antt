@@ -1,3 +1,4 @@
+pub mod Annotations
 pub mod Answers
 pub mod Decoding
 pub mod laws

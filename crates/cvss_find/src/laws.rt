@@ -2,6 +2,7 @@
 
 ghost use Rattle.std.specs.Prelude.{ℕ, Bool, List};
 ghost use Rattle.cvss_find.specs.Answers.{find_rule};
+ghost use Rattle.cvss_find.specs.declared.form.Form.TheVariants.{Located};
 ghost use Rattle.cvss_find.specs.laws.Alone.{ReportsOfAll};
 ghost use Rattle.cvss_lines.specs.Answers.{Answer};
 ghost use Rattle.cvss_scan.specs.Mentions.{IsAccepted};
@@ -11,7 +12,7 @@ ghost use Rattle.cvss_scan.specs.Mentions.{IsAccepted};
 pub fn only_vectors_are_reported_as_they_are()
     ensures { (allow_incomplete : Bool) → (prefix : List ℕ) → (number : ℕ) → (line : List ℕ)
         → (answer : Answer) → IsAccepted line
-        → find_rule allow_incomplete prefix number line answer
+        → find_rule Located allow_incomplete prefix number line answer
         → ReportsOfAll allow_incomplete prefix number line answer }
 {
     cvss_scan::laws::accepted_texts_are_mentions();

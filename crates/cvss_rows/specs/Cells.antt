@@ -56,12 +56,16 @@ given_text Json line = if is_utf8 line then quoted Json (escaped Json line) else
 abbrev pub file_of : List ℕ → List ℕ
 file_of prefix = take (length prefix - 1) prefix
 
+-- the beginning of an object: the file, where answers have a prefix
+abbrev pub object_start : List ℕ → List ℕ
+object_start [] = codes "{"
+object_start (byte ∷ bytes) = codes "{\"file\":" ++ (given_text Json (file_of (byte ∷ bytes)) ++ codes ",")
+
 -- what is before the given text: the file, where answers have a prefix
 abbrev pub opening : Format → List ℕ → List ℕ
 opening Tsv [] = []
 opening Tsv (byte ∷ bytes) = escaped Tsv (file_of (byte ∷ bytes)) ++ codes "\t"
-opening Json [] = codes "{\"given\":"
-opening Json (byte ∷ bytes) = codes "{\"file\":" ++ (given_text Json (file_of (byte ∷ bytes)) ++ codes ",\"given\":")
+opening Json prefix = object_start prefix ++ codes "\"given\":"
 
 -- what is before each other cell, whose column has this name
 abbrev pub before_cell : Format → List ℕ → List ℕ

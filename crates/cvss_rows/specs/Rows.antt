@@ -10,6 +10,7 @@ use Rattle.cvss_any.specs.declared.vector.Cvss.TheVariants.{CvssV20, CvssV30, Cv
 use Rattle.cvss_base.specs.SeverityText.{text_of as severity_text}
 use Rattle.cvss_base.specs.Tenths.{tenths_text}
 use Rattle.cvss_lines.specs.Answers.{Answer, Accepted, Refused}
+use Rattle.cvss_lines.specs.Prefixed.{IsPrefixed}
 use Rattle.cvss_score.specs.v2.Scores as scores_v2
 use Rattle.cvss_score.specs.v3.Scores as scores_v3
 use Rattle.cvss_v2.specs.Weights as weights_v2
@@ -38,11 +39,10 @@ Fields = List (List ℕ × Cell)
 abbrev pub field_text : Format → List ℕ × Cell → List ℕ
 field_text format field = before_cell format field.0 ++ cell_text format field.1
 
--- a row: the file, the given text, the fields between, and the error
-abbrev pub row_text : Format → List ℕ → List ℕ → Fields → List ℕ → List ℕ
-row_text format prefix line fields error =
-    opening format prefix ++ (given_text format line ++ (flat_map (field_text format) fields
-    ++ (before_cell format (codes "error") ++ (error ++ closing format))))
+-- what follows the given text in a row: the fields, and the error
+abbrev pub cells_text : Format → Fields → List ℕ → List ℕ
+cells_text format fields error =
+    flat_map (field_text format) fields ++ (before_cell format (codes "error") ++ (error ++ closing format))
 
 -- the fields of a row between the given text and the error
 abbrev pub fields_of : Cell → Cell → Cell → Cell → Cell → Cell → Cell → Cell → Fields
@@ -105,27 +105,32 @@ pub record AreFields (vector : Cvss) (fields : Fields) : Type 0 where
 abbrev pub no_fields : Fields
 no_fields = fields_of Nothing Nothing Nothing Nothing Nothing Nothing Nothing Nothing
 
--- the line is a text that denotes a vector, which lacks no base metric unless it may, and this is its row
-pub record IsVectorRow (format : Format) (allow_incomplete : Bool) (prefix line text : List ℕ) : Type 0 where
+-- the line is a text that denotes a vector, which lacks no base metric unless it may, and this follows it in its row
+pub record AreVectorCells (format : Format) (allow_incomplete : Bool) (line text : List ℕ) : Type 0 where
   pub utf8 : IsUtf8 line
   pub vector : Cvss
   pub denoted : DenotesCvss line vector
   pub complete : missing_by allow_incomplete vector ≡ None
   pub fields : Fields
   pub are : AreFields vector fields
-  pub is : text ≡ row_text format prefix line fields (nothing format)
+  pub is : text ≡ cells_text format fields (nothing format)
 
--- the line is rejected for this reason, as it is without rows, and this is its row
-pub record IsErrorRow (format : Format) (allow_incomplete : Bool) (prefix : List ℕ) (number : ℕ) (line text : List ℕ) : Type 0 where
+-- the line is rejected for this reason, as it is without rows, and this follows it in its row
+pub record AreErrorCells (format : Format) (allow_incomplete : Bool) (number : ℕ) (line text : List ℕ) : Type 0 where
   pub reason : List ℕ
   pub rejected : score_rule allow_incomplete number line (Refused ((codes "error: " ++ reason) ∷ []))
-  pub is : text ≡ row_text format prefix line no_fields (quoted format (escaped format reason))
+  pub is : text ≡ cells_text format no_fields (quoted format (escaped format reason))
+
+-- this follows the line in its row: one text
+unfoldable pub AreCells : Format → Bool → ℕ → List ℕ → Answer → Type 0
+AreCells format allow_incomplete number line (Accepted (text ∷ [])) = AreVectorCells format allow_incomplete line text
+AreCells format allow_incomplete number line (Refused (text ∷ [])) = AreErrorCells format allow_incomplete number line text
+AreCells format allow_incomplete number line answer = ⊥
 
 -- this is an answer to the line, which is read of an input whose answers have a prefix or an empty one: one row
 unfoldable pub IsRow : Format → Bool → List ℕ → ℕ → List ℕ → Answer → Type 0
-IsRow format allow_incomplete prefix number line (Accepted (text ∷ [])) = IsVectorRow format allow_incomplete prefix line text
-IsRow format allow_incomplete prefix number line (Refused (text ∷ [])) = IsErrorRow format allow_incomplete prefix number line text
-IsRow format allow_incomplete prefix number line answer = ⊥
+IsRow format allow_incomplete prefix number line =
+    IsPrefixed (opening format prefix ++ given_text format line) (AreCells format allow_incomplete) number line
 
 -- the names of the columns, where answers have a prefix or not
 abbrev pub header_text : Bool → List ℕ

@@ -12,11 +12,11 @@ use cvss_lines::OutputBuffer;
 use std::alloc::AllocError;
 
 /// Writes the given text, or nothing where JSON cannot hold it.
-pub(crate) fn push_given(
-    format: Format,
-    line: &[u8],
-    answers: &mut OutputBuffer,
-) -> Result<(), AllocError>
+///
+/// # Errors
+///
+/// Out of memory. A beginning of it may be written then.
+pub fn push_given(format: Format, line: &[u8], answers: &mut OutputBuffer) -> Result<(), AllocError>
     ensures { OnOk result (answers.new.bytes.items
         ≡ answers.old.bytes.items ++ given_text format line.now) }
 {

@@ -9,5 +9,7 @@ pub mod laws;
 mod rows;
 mod writing;
 
+pub use escaping::push_given;
 pub use format::{Format, header};
-pub use rows::Rows;
+pub use rows::{Rows, write_cells};
+pub use writing::write_object_start;

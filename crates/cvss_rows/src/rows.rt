@@ -1,12 +1,12 @@
 //! The row of a line.
 
-ghost use Rattle.std.specs.Prelude.{◌≡◌, ◌++◌, [], ◌∷◌, codes, map, IfOk, OnOk};
+ghost use Rattle.std.specs.Prelude.{◌≡◌, ℕ, ◌++◌, [], ◌∷◌, map, IfOk, OnOk};
 ghost use Rattle.cvss_any.specs.Answers.{HasScore};
 ghost use Rattle.cvss_any.specs.Reasons.{error_message};
 ghost use Rattle.cvss_lines.specs.Answers.{WritesAnswer};
-ghost use Rattle.cvss_rows.specs.Cells.{escaped, nothing, quoted};
-ghost use Rattle.cvss_rows.specs.Rows.{IsRow, no_fields, row_text};
-ghost use Rattle.cvss_rows.specs.private.Views.{WritesVectorRow, error_cell, field_view};
+ghost use Rattle.cvss_rows.specs.Cells.{escaped, quoted};
+ghost use Rattle.cvss_rows.specs.Rows.{AreCells, IsRow, cells_text, no_fields};
+ghost use Rattle.cvss_rows.specs.private.Views.{WritesVectorCells, error_cell, field_view};
 
 use crate::cells::{Field, NO_FIELDS, fields_of};
 use crate::format::Format;
@@ -31,33 +31,16 @@ impl Rows<'_> {
     fn answer_line(
         &self,
         alloc: Global,
-        _number: u64,
+        number: u64,
         line: &[u8],
         answers: &mut OutputBuffer,
     ) -> Result<bool, AllocError>
         ensures { IfOk result (WritesAnswer (IsRow self.now.format self.now.allow_incomplete
-            self.now.prefix.now) _number line.now
+            self.now.prefix.now) number line.now
             answers.old.bytes.items answers.new.bytes.items) }
     {
-        let (format, prefix) = (self.format, self.prefix);
-        let cvss = match Cvss::read(line) {
-            Ok(cvss) => cvss,
-            Err(error) => {
-                write_error_row(format, prefix, line, error, answers)?;
-                return Ok(false);
-            }
-        };
-        match cvss.missing_by(self.allow_incomplete) {
-            Some(metric) => {
-                let error = ReadError::Invalid(Refusal::Missing(metric));
-                write_error_row(format, prefix, line, error, answers)?;
-                Ok(false)
-            }
-            None => {
-                write_vector_row(alloc, format, prefix, line, &cvss, answers)?;
-                Ok(true)
-            }
-        }
+        push_start(self.format, self.prefix, line, answers)?;
+        write_cells(alloc, self.format, line, self.allow_incomplete, answers)
     }
 }
 
@@ -78,53 +61,82 @@ impl Service for Rows<'_> {
     }
 }
 
-/// Writes the row of a vector, and a byte 10.
-fn write_vector_row(
+/// Writes what follows the given text in the row of a line, and a byte 10. Says whether the line is
+/// accepted.
+///
+/// # Errors
+///
+/// Out of memory. A beginning of it may be written then.
+pub fn write_cells(
     alloc: Global,
     format: Format,
-    prefix: &[u8],
     line: &[u8],
+    allow_incomplete: bool,
+    answers: &mut OutputBuffer,
+) -> Result<bool, AllocError>
+    ensures { (number : ℕ) → IfOk result (WritesAnswer (AreCells format allow_incomplete) number line.now
+        answers.old.bytes.items answers.new.bytes.items) }
+{
+    let cvss = match Cvss::read(line) {
+        Ok(cvss) => cvss,
+        Err(error) => {
+            write_error_cells(format, error, answers)?;
+            return Ok(false);
+        }
+    };
+    match cvss.missing_by(allow_incomplete) {
+        Some(metric) => {
+            let error = ReadError::Invalid(Refusal::Missing(metric));
+            write_error_cells(format, error, answers)?;
+            Ok(false)
+        }
+        None => {
+            write_vector_cells(alloc, format, &cvss, answers)?;
+            Ok(true)
+        }
+    }
+}
+
+/// Writes the cells of a vector, and a byte 10.
+fn write_vector_cells(
+    alloc: Global,
+    format: Format,
     cvss: &Cvss,
     answers: &mut OutputBuffer,
 ) -> Result<(), AllocError>
     requires { HasScore cvss.now }
-    ensures { OnOk result (WritesVectorRow format prefix.now line.now cvss.now
+    ensures { OnOk result (WritesVectorCells format cvss.now
         answers.old.bytes.items answers.new.bytes.items) }
 {
     let text = cvss.to_string(alloc)?;
     let fields = fields_of(cvss, &text);
-    write_row(format, prefix, line, &fields, None, answers)
+    write_fields(format, &fields, None, answers)
 }
 
-/// Writes the row of a line that is rejected, and a byte 10.
-fn write_error_row(
+/// Writes the cells of a line that is rejected, and a byte 10.
+fn write_error_cells(
     format: Format,
-    prefix: &[u8],
-    line: &[u8],
     error: ReadError<'_>,
     answers: &mut OutputBuffer,
 ) -> Result<(), AllocError>
     ensures { OnOk result (answers.new.bytes.items ≡ answers.old.bytes.items
-        ++ (row_text format prefix.now line.now no_fields (quoted format (escaped format
+        ++ (cells_text format no_fields (quoted format (escaped format
         (error_message error.entry))) ++ 10 ∷ [])) }
 {
-    write_row(format, prefix, line, &NO_FIELDS, Some(error), answers)
+    write_fields(format, &NO_FIELDS, Some(error), answers)
 }
 
-/// Writes a row, and a byte 10.
-fn write_row(
+/// Writes fields and the error, if there is one, and a byte 10.
+fn write_fields(
     format: Format,
-    prefix: &[u8],
-    line: &[u8],
     fields: &[Field<'_>],
     error: Option<ReadError<'_>>,
     answers: &mut OutputBuffer,
 ) -> Result<(), AllocError>
     ensures { OnOk result (answers.new.bytes.items ≡ answers.old.bytes.items
-        ++ (row_text format prefix.now line.now (map field_view fields.now) (error_cell format error.entry)
+        ++ (cells_text format (map field_view fields.now) (error_cell format error.entry)
         ++ 10 ∷ [])) }
 {
-    push_start(format, prefix, line, answers)?;
     push_fields(format, fields, answers)?;
     push_end(format, error, answers)
 }

@@ -2,7 +2,7 @@
 
 ghost use Rattle.std.specs.Prelude.{◌≡◌, ◌++◌, [], ◌∷◌, codes, flat_map, map, OnOk};
 ghost use Rattle.cvss_any.specs.Reasons.{error_message};
-ghost use Rattle.cvss_rows.specs.Cells.{before_cell, cell_text, closing, escaped, given_text, nothing, opening, quote, quoted};
+ghost use Rattle.cvss_rows.specs.Cells.{before_cell, cell_text, closing, escaped, given_text, nothing, object_start, opening, quote, quoted};
 ghost use Rattle.cvss_rows.specs.Rows.{field_text};
 ghost use Rattle.cvss_rows.specs.private.Views.{cell_view, error_cell, field_view};
 
@@ -37,11 +37,29 @@ fn push_opening(format: Format, prefix: &[u8], answers: &mut OutputBuffer) -> Re
             push_given(Format::Tsv, file, answers)?;
             answers.push(b"\t")
         }
-        (Format::Json, []) => answers.push(b"{\"given\":"),
-        (Format::Json, [file @ .., _]) => {
+        (Format::Json, _) => {
+            write_object_start(prefix, answers)?;
+            answers.push(b"\"given\":")
+        }
+    }
+}
+
+/// Writes the beginning of an object, with the file that the prefix names before its colon, if it is
+/// not empty.
+///
+/// # Errors
+///
+/// Out of memory. A beginning of it may be written then.
+pub fn write_object_start(prefix: &[u8], answers: &mut OutputBuffer) -> Result<(), AllocError>
+    ensures { OnOk result
+        (answers.new.bytes.items ≡ answers.old.bytes.items ++ object_start prefix.now) }
+{
+    match prefix {
+        [] => answers.push(b"{"),
+        [file @ .., _] => {
             answers.push(b"{\"file\":")?;
             push_given(Format::Json, file, answers)?;
-            answers.push(b",\"given\":")
+            answers.push(b",")
         }
     }
 }

@@ -6,7 +6,7 @@ use Rattle.cvss_any.specs.declared.refusal.ReadError.{ReadError}
 use Rattle.cvss_any.specs.declared.vector.Cvss.{Cvss}
 use Rattle.cvss_rows.specs.Cells.{escaped, nothing as nothing_text, quoted}
 use Rattle.cvss_rows.specs.Cells as spec
-use Rattle.cvss_rows.specs.Rows.{AreFields, Fields, row_text}
+use Rattle.cvss_rows.specs.Rows.{AreFields, Fields, cells_text}
 use Rattle.cvss_rows.specs.declared.format.Format.{Format}
 use Rattle.cvss_rows.specs.declared.cells.Cell.{Cell}
 use Rattle.cvss_rows.specs.declared.cells.Cell.TheVariants.{Nothing, Words, Number}
@@ -23,8 +23,8 @@ abbrev pub error_cell : Format → Option ReadError → List ℕ
 error_cell format None = nothing_text format
 error_cell format (Some error) = quoted format (escaped format (error_message error))
 
--- the row of a vector is written, and a byte 10
-pub record WritesVectorRow (format : Format) (prefix line : List ℕ) (vector : Cvss) (old new : List ℕ) : Type 0 where
+-- the cells of a vector are written, and a byte 10
+pub record WritesVectorCells (format : Format) (vector : Cvss) (old new : List ℕ) : Type 0 where
   pub fields : Fields
   pub are : AreFields vector fields
-  pub written : new ≡ old ++ (row_text format prefix line fields (nothing_text format) ++ 10 ∷ [])
+  pub written : new ≡ old ++ (cells_text format fields (nothing_text format) ++ 10 ∷ [])

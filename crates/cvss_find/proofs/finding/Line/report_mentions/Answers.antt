@@ -1,16 +1,17 @@
+use Rattle.cvss_lines.specs.Answers.{written_text}
 use Rattle.cvss_scan.specs.MentionsLeft.{as_placed, mentions_left}
 use Rattle.cvss_find.proofs.ReportingLemmas.{Reports-end, Reports-next, Reports-start}
 use Rattle.cvss_find.specs.private.Reporting.{asked_of}
 use Rattle.cvss_find.proofs.finding.Line.report_mentions.Goals as goal
 
 pub loop-mention-init : goal.loop-mention-init
-loop-mention-init c = Reports-start (asked_of c.args.self) c.args.answers.now.bytes.items (mentions_left c.of-mentions.result) c.of-mentions.ensures
+loop-mention-init c = Reports-start written_text c.args.form (asked_of c.args.self) c.args.answers.now.bytes.items (mentions_left c.of-mentions.result) c.of-mentions.ensures
 
 pub loop-mention-preserved : goal.loop-mention-preserved
 loop-mention-preserved c =
-    Reports-next (asked_of c.args.self) (mentions_left c.loop-mention.mentions) _ (as_placed c.in-Some.mention)
+    Reports-next written_text c.args.form (asked_of c.args.self) (mentions_left c.loop-mention.mentions) _ (as_placed c.in-Some.mention)
     c.args.answers.now.bytes.items c.loop-mention.answers.bytes.items _ c.loop-mention.accepted _
     c.loop-mention.invariant c.in-Some.ensures.steps c.in_ok-accepted.ensures
 
 pub returns : goal.returns
-returns c = Reports-end (asked_of c.args.self) (mentions_left c.loop-mention.mentions) _ _ c.loop-mention.accepted c.loop-mention.invariant c.in_default.ensures.steps
+returns c = Reports-end c.args.form (asked_of c.args.self) (mentions_left c.loop-mention.mentions) _ _ c.loop-mention.accepted c.loop-mention.invariant c.in_default.ensures.steps

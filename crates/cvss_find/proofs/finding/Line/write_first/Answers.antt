@@ -1,0 +1,19 @@
+use Rattle.std.proofs.Common.{subst}
+use Rattle.std.proofs.lemmas.Result.{IfOk-weaker}
+use Rattle.cvss_scan.specs.Mentions.{mentions_of}
+use Rattle.cvss_scan.specs.MentionsLeft.{IsFirstFound, NoneFound, as_placed, mentions_left}
+use Rattle.cvss_find.proofs.AnnotatedLemmas.{shown_first, shown_none}
+use Rattle.cvss_find.specs.private.Reporting.{asked_of}
+use Rattle.cvss_find.proofs.finding.Line.write_first.Goals as goal
+
+pub returns-in-Some : goal.returns-in-Some
+returns-in-Some c =
+    let asked = asked_of c.args.self in
+    IfOk-weaker c.write_field.result _ _
+    (λ accepted written. shown_first asked (as_placed c.in-Some.mention) (mentions_left c.next.new.self) c.args.answers.now.bytes.items _ accepted
+    (subst (λ mentions. IsFirstFound mentions (as_placed c.in-Some.mention) (mentions_left c.next.new.self)) c.of.ensures c.in-Some.ensures.steps) written)
+    c.write_field.ensures
+
+pub returns-in-None : goal.returns-in-None
+returns-in-None c =
+    shown_none (asked_of c.args.self) c.args.answers.now.bytes.items (subst NoneFound c.of.ensures c.in-None.ensures.steps)
