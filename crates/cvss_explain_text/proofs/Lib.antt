@@ -1,3 +1,4 @@
+mod JoinLemmas
 mod PartLemmas
 mod RejectionLemmas
 mod ShortLemmas

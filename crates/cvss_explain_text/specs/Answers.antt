@@ -1,20 +1,26 @@
 -- The answers to lines, each of which is the text of a vector: explanations for people, each with an empty line after it.
-use Rattle.std.specs.Prelude.{◌≡◌, ℕ, Bool, List, [], ◌∷◌, None}
+use Rattle.std.specs.Prelude.{◌≡◌, ℕ, Bool, true, false, List, [], ◌∷◌, None}
 use Rattle.std.specs.Str.{IsUtf8}
 use Rattle.cvss_any.specs.Complete.{missing_by}
 use Rattle.cvss_answer.specs.Answers.{score_rule}
 use Rattle.cvss_any.specs.Dispatch.{DenotesCvss}
 use Rattle.cvss_any.specs.declared.vector.Cvss.{Cvss}
 use Rattle.cvss_explain_text.specs.Explanation.{IsExplanation}
+use Rattle.cvss_explain_text.specs.WhatIf.{IsWhatIf}
 use Rattle.cvss_lines.specs.Answers.{Answer, Accepted, Refused, written_text}
 
--- the line is a text that denotes a vector, which lacks no base metric unless it may, and the answer explains its score
-pub record IsAcceptance (allow_incomplete : Bool) (line text : List ℕ) : Type 0 where
+-- what is shown of a vector: the explanation of its score, or the scores that other values would give
+abbrev pub Shows : Bool → Cvss → List ℕ → Type 0
+Shows true cvss text = IsWhatIf cvss text
+Shows false cvss text = IsExplanation cvss text
+
+-- the line is a text that denotes a vector, which lacks no base metric unless it may, and the answer shows this of it
+pub record IsAcceptance (what_if allow_incomplete : Bool) (line text : List ℕ) : Type 0 where
   pub utf8 : IsUtf8 line
   pub cvss : Cvss
   pub denoted : DenotesCvss line cvss
   pub complete : missing_by allow_incomplete cvss ≡ None
-  pub explains : IsExplanation cvss text
+  pub shows : Shows what_if cvss text
 
 -- the line is rejected as where it is scored
 pub record IsRefusal (allow_incomplete : Bool) (number : ℕ) (line text : List ℕ) : Type 0 where
@@ -24,7 +30,7 @@ pub record IsRefusal (allow_incomplete : Bool) (number : ℕ) (line text : List 
 
 -- this is an answer to the line, whatever its number: one text, whose lines each have a byte 10 at their end, so that an
 -- empty line follows
-unfoldable pub IsAnswer : Bool → ℕ → List ℕ → Answer → Type 0
-IsAnswer allow_incomplete number line (Accepted (text ∷ [])) = IsAcceptance allow_incomplete line text
-IsAnswer allow_incomplete number line (Refused (text ∷ [])) = IsRefusal allow_incomplete number line text
-IsAnswer allow_incomplete number line answer = ⊥
+unfoldable pub IsAnswer : Bool → Bool → ℕ → List ℕ → Answer → Type 0
+IsAnswer what_if allow_incomplete number line (Accepted (text ∷ [])) = IsAcceptance what_if allow_incomplete line text
+IsAnswer what_if allow_incomplete number line (Refused (text ∷ [])) = IsRefusal allow_incomplete number line text
+IsAnswer what_if allow_incomplete number line answer = ⊥

@@ -2,34 +2,38 @@
 
 ghost use Rattle.std.specs.Prelude.{◌≡◌, ◌≤◌, ◌++◌, ℕ, IfOk, OnOk};
 ghost use Rattle.cvss_any.specs.Answers.{HasScore, text_of, vector_answer};
-ghost use Rattle.cvss_explain_text.specs.Answers.{IsAnswer};
+ghost use Rattle.cvss_explain_text.specs.Answers.{IsAnswer, Shows};
 ghost use Rattle.cvss_explain_text.specs.Explanation.{AreLines, IsExplanation};
+ghost use Rattle.cvss_explain_text.specs.WhatIf.{IsWhatIf};
 ghost use Rattle.cvss_explain_text.specs.private.Writing.{Writes};
 ghost use Rattle.cvss_lines.specs.Answers.{WritesAnswer, written_text};
 
+use crate::what_if::write_table;
 use crate::{v2, v3, v4};
 use cvss_answer::write_error;
 use cvss_any::{Cvss, ReadError, Refusal};
 use cvss_base::TENTH;
 use cvss_base::tenths::text_of as text_of_tenths;
 use cvss_lines::OutputBuffer;
-use std::alloc::AllocError;
+use std::alloc::{AllocError, Global};
 use std::fmt::Write;
 
-/// Answers a line by the explanation of its vector's score, or by why the line is rejected: a vector of
-/// CVSS v3 that lacks base metrics by the first of them, unless they may be missing. An empty line
-/// follows.
+/// Answers a line by the explanation of its vector's score, or with `what_if` by the scores that other
+/// values of its metrics would give; or by why the line is rejected: a vector of CVSS v3 that lacks base
+/// metrics by the first of them, unless they may be missing. An empty line follows.
 ///
 /// # Errors
 ///
 /// Out of memory.
 pub fn answer_explained(
+    alloc: Global,
     line: &[u8],
+    what_if: bool,
     allow_incomplete: bool,
     answers: &mut OutputBuffer,
 ) -> Result<bool, AllocError>
-    ensures { (number : ℕ) → IfOk result (WritesAnswer (IsAnswer allow_incomplete) number line.now
-        answers.old.bytes.items answers.new.bytes.items) }
+    ensures { (number : ℕ) → IfOk result (WritesAnswer (IsAnswer what_if allow_incomplete) number
+        line.now answers.old.bytes.items answers.new.bytes.items) }
 {
     let cvss = match Cvss::read(line) {
         Ok(cvss) => cvss,
@@ -46,11 +50,39 @@ pub fn answer_explained(
             Ok(false)
         }
         None => {
-            write_explanation(&cvss, answers)?;
+            write_shown(alloc, &cvss, what_if, answers)?;
             answers.push(b"\n")?;
             Ok(true)
         }
     }
+}
+
+/// Writes the explanation of a vector's score, or the scores that other values would give.
+fn write_shown(
+    alloc: Global,
+    cvss: &Cvss,
+    what_if: bool,
+    answers: &mut OutputBuffer,
+) -> Result<(), AllocError>
+    requires { HasScore cvss.now }
+    ensures { OnOk result (Writes (Shows what_if cvss.now)
+        answers.old.bytes.items answers.new.bytes.items) }
+{
+    if what_if {
+        write_what_if(alloc, cvss, answers)
+    } else {
+        write_explanation(cvss, answers)
+    }
+}
+
+/// Writes the scores that other values would give.
+fn write_what_if(alloc: Global, cvss: &Cvss, answers: &mut OutputBuffer) -> Result<(), AllocError>
+    requires { HasScore cvss.now }
+    ensures { OnOk result (Writes (IsWhatIf cvss.now)
+        answers.old.bytes.items answers.new.bytes.items) }
+{
+    write_heading(cvss, cvss.tenths(), answers)?;
+    write_table(alloc, cvss, answers)
 }
 
 /// Writes the explanation of a vector's score.

@@ -6,5 +6,6 @@ mod lines;
 mod v2;
 mod v3;
 mod v4;
+mod what_if;
 
 pub use answer::answer_explained;

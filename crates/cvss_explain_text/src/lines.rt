@@ -83,7 +83,11 @@ fn write_component(
 }
 
 /// Writes a text in a column.
-fn write_padded(width: usize, text: &[u8], answers: &mut OutputBuffer) -> Result<(), AllocError>
+pub(crate) fn write_padded(
+    width: usize,
+    text: &[u8],
+    answers: &mut OutputBuffer,
+) -> Result<(), AllocError>
     requires { width ≤ 40 }
     ensures { OnOk result
         (answers.new.bytes.items ≡ answers.old.bytes.items ++ padded width text.now) }

@@ -11,7 +11,7 @@ mod row;
 
 use cvss_v2 as v2;
 use cvss_v3 as v3;
-pub use overall::overall_tenths;
+pub use overall::{is_undefined, overall_tenths};
 pub use overrides::{Family, Override, holds_for_some};
 pub use ranking::{BadLine, Ranking, rank};
 pub use reading::{Reason, vector_of};

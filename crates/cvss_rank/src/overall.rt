@@ -110,8 +110,8 @@ fn is_group(group: MetricGroup, other: MetricGroup) -> bool
     )
 }
 
-/// Whether a value is `X` or `ND`.
-fn is_undefined(value: &str) -> bool
+/// Whether a value is `X` or `ND`: its metric is not defined.
+pub fn is_undefined(value: &str) -> bool
     ensures { result ≡ is_undefined value.now }
 {
     value == "X" || value == "ND"

@@ -43,7 +43,7 @@ returns-in_ok-push-in-Some c = λ number.
 pub returns-in_ok-push-in-None : goal.returns-in_ok-push-in-None
 unfolding IsAnswer
 returns-in_ok-push-in-None c = λ number.
-    let written = c.in_ok-write_explanation-in-None.ensures in
+    let written = c.in_ok-write_shown-in-None.ensures in
     record {
       answer = Accepted (written.text ∷ []);
       answers = record {
@@ -51,7 +51,7 @@ returns-in_ok-push-in-None c = λ number.
         cvss = c.in-Ok.cvss;
         denoted = c.in-Ok.ensures.denoted;
         complete = sym c.in-None.ensures;
-        explains = written.holds;
+        shows = written.holds;
       };
       reported = refl;
       written = one_text _ _ _ (closed _ written.text _ _ written.written c.in_ok-push-in-None.ensures);

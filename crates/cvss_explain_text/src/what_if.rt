@@ -1,0 +1,202 @@
+//! What the score of a vector would be with other values of its metrics.
+
+ghost use Rattle.std.specs.Prelude.{◌≡◌, ◌++◌, ◌≤◌, IfOk, IfSome, MatchOption, OnOk, if◌then◌else◌, codes, map, option_copied};
+ghost use Rattle.cvss_any.specs.Answers.{HasScore};
+ghost use Rattle.cvss_any.specs.Setting.{IsWith};
+ghost use Rattle.cvss_base.specs.Text.{component};
+ghost use Rattle.cvss_explain_text.specs.Lines.{padded};
+ghost use Rattle.cvss_explain_text.specs.WhatIf.{AreLines, IsCell, IsLine, IsScored, IsTable, Joins, cell_text, is_present};
+ghost use Rattle.cvss_explain_text.specs.private.Writing.{Writes};
+ghost use Rattle.cvss_json_names.specs.WordsV2 as names_v2;
+ghost use Rattle.cvss_json_names.specs.WordsV3 as names_v3;
+ghost use Rattle.cvss_json_names.specs.WordsV4 as names_v4;
+
+use crate::lines::write_padded;
+use cvss_any::Cvss;
+use cvss_base::tenths::text_of;
+use cvss_base::{v2 as types_v2, v3 as types_v3, v4 as types_v4};
+use cvss_json_names::{Row, spelled, v2, v3, v4};
+use cvss_lines::OutputBuffer;
+use cvss_rank::{is_undefined, overall_tenths};
+use cvss_text::print::Printed;
+use std::alloc::{AllocError, Global};
+
+/// A vector of some version, the values of whose metrics are listed.
+trait Valued: Printed {
+    ghost use Rattle.std.specs.Prelude.{ℕ, List};
+
+    ghost words: { Self.Kind → List (List ℕ × List ℕ) };
+
+    /// How the values of a metric are spelled, each with its word.
+    fn rows(kind: Self::Kind) -> &'static [Row]
+        ensures { map (λ row. (row.0.now, row.1.now)) result.now ≡ words kind };
+}
+
+impl Valued for cvss_v2::Vector {
+    ghost words = { names_v2.words_of };
+
+    fn rows(kind: types_v2::MetricType) -> &'static [Row] {
+        v2::entry(kind).1
+    }
+}
+
+impl Valued for cvss_v3::Vector {
+    ghost words = { names_v3.words_of };
+
+    fn rows(kind: types_v3::MetricType) -> &'static [Row] {
+        v3::entry(kind).1
+    }
+}
+
+impl Valued for cvss_v4::Vector {
+    ghost words = { names_v4.words_of };
+
+    fn rows(kind: types_v4::MetricType) -> &'static [Row] {
+        v4::entry(kind).1
+    }
+}
+
+/// Writes a line for each metric, with the overall score that each of its values would give.
+pub(crate) fn write_table(
+    alloc: Global,
+    cvss: &Cvss,
+    answers: &mut OutputBuffer,
+) -> Result<(), AllocError>
+    requires { HasScore cvss.now }
+    ensures { OnOk result (Writes (IsTable cvss.now)
+        answers.old.bytes.items answers.new.bytes.items) }
+{
+    match cvss {
+        Cvss::CvssV20(vector) => write_lines(alloc, cvss, vector, answers),
+        Cvss::CvssV30(vector) | Cvss::CvssV31(vector) => write_lines(alloc, cvss, vector, answers),
+        Cvss::CvssV40(vector) => write_lines(alloc, cvss, vector, answers),
+    }
+}
+
+fn write_lines<V: Valued>(
+    alloc: Global,
+    cvss: &Cvss,
+    vector: &V,
+    answers: &mut OutputBuffer,
+) -> Result<(), AllocError>
+    requires { HasScore cvss.now }
+    ensures { OnOk result (Writes (AreLines V.version V.words cvss.now vector.now)
+        answers.old.bytes.items answers.new.bytes.items) }
+{
+    let kinds = V::printed();
+    for kind in kinds {
+        write_line(alloc, cvss, vector, *kind, answers)?;
+    }
+    Ok(())
+}
+
+fn write_line<V: Valued>(
+    alloc: Global,
+    cvss: &Cvss,
+    vector: &V,
+    kind: V::Kind,
+    answers: &mut OutputBuffer,
+) -> Result<(), AllocError>
+    requires { HasScore cvss.now }
+    ensures { OnOk result (Writes (IsLine V.version V.words cvss.now vector.now kind)
+        answers.old.bytes.items answers.new.bytes.items) }
+{
+    let name = V::name(kind);
+    answers.push(b"  ")?;
+    write_padded(3, name.as_bytes(), answers)?;
+    write_cells(
+        alloc,
+        cvss,
+        name,
+        spelled(vector, kind),
+        V::rows(kind),
+        answers,
+    )?;
+    answers.push(b"\n")
+}
+
+/// Writes the values of a metric of this name, of which the vector may have its own.
+fn write_cells(
+    alloc: Global,
+    cvss: &Cvss,
+    name: &str,
+    own: Option<&[u8]>,
+    rows: &[Row],
+    answers: &mut OutputBuffer,
+) -> Result<(), AllocError>
+    requires { HasScore cvss.now }
+    ensures { OnOk result (Writes
+        (Joins (λ row. IsCell cvss.now name.now (option_copied own.entry) (row.0.now, row.1.now)) rows.now)
+        answers.old.bytes.items answers.new.bytes.items) }
+{
+    for row in rows {
+        write_cell(alloc, cvss, name, own, *row, answers)?;
+    }
+    Ok(())
+}
+
+fn write_cell(
+    alloc: Global,
+    cvss: &Cvss,
+    name: &str,
+    own: Option<&[u8]>,
+    row: Row,
+    answers: &mut OutputBuffer,
+) -> Result<(), AllocError>
+    requires { HasScore cvss.now }
+    ensures { OnOk result (Writes
+        (IsCell cvss.now name.now (option_copied own.entry)
+        (row.entry.0.now, row.entry.1.now))
+        answers.old.bytes.items answers.new.bytes.items) }
+{
+    match tenths_with(alloc, cvss, name, row.0)? {
+        Some(tenths) => write_value(is_present(own, row.0), row.0, tenths, answers),
+        None => Ok(()),
+    }
+}
+
+/// The tenths of the overall score of the vector with a value of a metric set.
+fn tenths_with(
+    alloc: Global,
+    cvss: &Cvss,
+    name: &str,
+    spelling: &str,
+) -> Result<Option<u8>, AllocError>
+    requires { HasScore cvss.now }
+    ensures set { IfOk result (λ tenths. MatchOption tenths
+        ((new : Cvss) → ¬ (IsWith cvss.now (component name.now spelling.now) new))
+        (IsScored cvss.now (component name.now spelling.now))) }
+    ensures bound { IfOk result (λ tenths. IfSome tenths (λ tenths. tenths ≤ 100)) }
+{
+    let metric = format!(in alloc; "{name}:{spelling}")?;
+    match cvss.with_metrics(&metric) {
+        Ok(new) => Ok(Some(overall_tenths(&new))),
+        Err(_) => Ok(None),
+    }
+}
+
+/// Whether a value is that of a metric, which counts as not defined where the vector lacks it.
+fn is_present(own: Option<&[u8]>, spelling: &str) -> bool
+    ensures { result ≡ is_present (option_copied own.entry) spelling.now }
+{
+    match own {
+        Some(own) => spelling.as_bytes() == own,
+        None => is_undefined(spelling),
+    }
+}
+
+fn write_value(
+    present: bool,
+    spelling: &str,
+    tenths: u8,
+    answers: &mut OutputBuffer,
+) -> Result<(), AllocError>
+    requires { tenths ≤ 100 }
+    ensures { OnOk result (answers.new.bytes.items
+        ≡ answers.old.bytes.items ++ cell_text present spelling.now tenths) }
+{
+    answers.push(if present { b"  *" } else { b"   " })?;
+    answers.push(spelling.as_bytes())?;
+    answers.push(b" ")?;
+    answers.push(text_of(tenths).as_bytes())
+}
