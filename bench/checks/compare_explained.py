@@ -1,5 +1,5 @@
 #!/usr/bin/env python3
-"""Compares what `cvss explain` writes, as JSON and as text, with accounts.py and explained.py.
+"""Compares what `cvss explain` writes, as JSON, as text and with --what-if, with accounts.py, explained.py and what_if.py.
 
 The lines are random: vectors with each metric, vectors in any order and case, and rejected ones; with
 `whole` also all vectors with base metrics alone, of each version. A number has at most seven decimals
@@ -19,8 +19,10 @@ ROOT = Path(__file__).resolve().parents[2]
 sys.path[:0] = [str(ROOT / "reference"), str(ROOT / "bench/inputs")]
 
 import accounts
+import complete
 import explained
 import lines
+import what_if
 import whole_sets
 
 COMMAND = [ROOT / "crates/cvss_command/out/cvss_command", "explain", "--allow-incomplete"]
@@ -117,6 +119,29 @@ def compare_text(given):
         sys.exit(f"cvss explain: status {status}")
 
 
+def compare_what_if(given):
+    """Ends if the scores that other values would give are others than those of what_if.py."""
+    out, status = run(given, "--what-if")
+    answers = out.split("\n\n")
+    if answers.pop() != "" or len(answers) != len(given) or status != 0:
+        sys.exit(f"cvss explain --what-if: status {status}, and {len(answers)} answers to {len(given)} lines")
+    for text, answer in zip(given, answers):
+        heading, *rows = answer.split("\n")
+        if heading != complete.answer(text.encode("utf-8"), allow_incomplete=True):
+            sys.exit(f"{text}: {heading}")
+        actual, marked = {}, {}
+        for row in rows:
+            if not re.fullmatch(r"  [A-Za-z]+ *(  [ *][A-Za-z]+ \d+\.\d)+", row):
+                sys.exit(f"{text}: {row}")
+            name, *cells = row.split()
+            values, scores = cells[::2], cells[1::2]
+            actual[name] = {value.lstrip("*"): int(score.replace(".", "")) for value, score in zip(values, scores)}
+            marked[name] = "".join(value[1:] for value in values if value.startswith("*"))
+        if (actual, marked) != what_if.scores(text.encode("utf-8")):
+            sys.exit(f"{text}: {answer}\nand not\n{what_if.scores(text.encode('utf-8'))}")
+    print(f"cvss explain --what-if: {len(given)} vectors, with the scores of what_if.py")
+
+
 def compare_all(name, given):
     for start in range(0, len(given), AT_ONCE):
         compare_json(given[start:start + AT_ONCE])
@@ -150,6 +175,7 @@ def main():
     compare_all("drawn lines, some refused",
                 [lines.line(draw, "all", draw.choice(("full", "any", "refused", "mixed")))
                  for _ in range(count // 5)])
+    compare_what_if([lines.line(draw, "all", draw.choice(("base", "full", "every"))) for _ in range(max(count // 20, 1))])
 
 
 if __name__ == "__main__":

@@ -96,9 +96,9 @@ abbrev pub audit_of : Options → audit.Audit
 audit_of options = record { layout = layout_of options; allow_incomplete = options.flags.allow_incomplete }
 
 -- which explanations answer lines: objects, or texts for people. Vectors of CVSS v3 may lack base metrics, or not.
-abbrev pub explain_rule : Bool → Bool → Rule
-explain_rule true allow_incomplete = json.IsAnswer allow_incomplete
-explain_rule false allow_incomplete = text.IsAnswer allow_incomplete
+abbrev pub explain_rule : Bool → Bool → Bool → Rule
+explain_rule true what_if allow_incomplete = json.IsAnswer allow_incomplete
+explain_rule false what_if allow_incomplete = text.IsAnswer what_if allow_incomplete
 
 -- what each subcommand does
 abbrev pub Runs : Subcommand → Options → List (Vec ℕ) → (List ℕ → Option (List ℕ)) → Option (List ℕ) → Option (List ℕ) → Option (List ℕ) → Option (List ℕ) → Result Served ℕ → Type 0
@@ -109,7 +109,7 @@ Runs Find options arguments contents unread unread' written written' result =
     Answers (find_ends options.flags.json options.flags.annotate options.flags.all options.flags.allow_incomplete)
     options arguments contents unread unread' written written' result
 Runs Explain options arguments contents unread unread' written written' result =
-    Answers (AnswersLines (explain_rule options.flags.json options.flags.allow_incomplete)) options arguments contents unread unread' written written' result
+    Answers (AnswersLines (explain_rule options.flags.json options.flags.what_if options.flags.allow_incomplete)) options arguments contents unread unread' written written' result
 Runs Set options arguments contents unread unread' written written' result =
     SetsMetrics (joined_metrics options.words arguments) options arguments contents unread unread' written written' result
 Runs Triage options arguments contents unread unread' written written' result =

@@ -74,6 +74,7 @@ pub fn run_command<F: Files, R: Read, W: Write, E: Write>(
                     let answer = Explain {
                         alloc,
                         json: options.flags.json,
+                        what_if: options.flags.what_if,
                         allow_incomplete: options.flags.allow_incomplete,
                     };
                     let task = EachLine { answer };

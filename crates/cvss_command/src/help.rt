@@ -12,7 +12,7 @@ pub(crate) const VERSION: &str = "cvss 1.0.0\n";
 pub(crate) const USAGE: &str = "\
 usage: cvss score [--json|--tsv] [--allow-incomplete] [VECTOR|FILE]..
        cvss find [--json|--annotate [--all]] [--allow-incomplete] [FILE]..
-       cvss explain [--json] [--allow-incomplete] [VECTOR|FILE]..
+       cvss explain [--json|--what-if] [--allow-incomplete] [VECTOR|FILE]..
        cvss set METRIC:VALUE.. [-- VECTOR|FILE ..]
        cvss triage [--set METRIC:VALUE].. [--profile FILE].. [--keep-going]
                    [--allow-incomplete] [VECTOR|FILE]..
@@ -85,18 +85,20 @@ Status: 0, 1 if a vector is rejected, 2 after a usage or I/O error.
 
 /// What `help explain` prints.
 pub(crate) const EXPLAIN_USAGE: &str = "\
-usage: cvss explain [--json] [--allow-incomplete] [VECTOR|FILE]..
+usage: cvss explain [--json|--what-if] [--allow-incomplete] [VECTOR|FILE]..
 
 Shows how the score of each vector (v2, v3.0, v3.1, v4.0) is computed: each
 metric with its weight (v2, v3) or the levels that it counts in (v4.0), and the
 numbers on the way to the score. An empty line follows each explanation.
 
   --json               one JSON object for each line, with all numbers
+  --what-if            for each value of each metric the score that counts all
+                       metrics; an asterisk marks the vector's own value
   --allow-incomplete   explain v3 vectors that lack base metrics, which are
                        rejected otherwise
 
   cvss explain CVSS:3.1/AV:N/AC:L/PR:N/UI:N/S:U/C:H/I:H/A:H
-  cvss explain --json list.txt
+  cvss explain --what-if CVSS:3.1/AV:N/AC:L/PR:N/UI:N/S:U/C:H/I:H/A:H
 
 Status: 0, 1 if a line is rejected, 2 after a usage or I/O error.
 ";

@@ -47,7 +47,7 @@ impl Subcommand {
         match self {
             Subcommand::Score => &[Flag::Json, Flag::Tsv, Flag::AllowIncomplete],
             Subcommand::Find => &[Flag::Json, Flag::Annotate, Flag::All, Flag::AllowIncomplete],
-            Subcommand::Explain => &[Flag::Json, Flag::AllowIncomplete],
+            Subcommand::Explain => &[Flag::Json, Flag::WhatIf, Flag::AllowIncomplete],
             Subcommand::Set => &[],
             Subcommand::Triage => {
                 &[

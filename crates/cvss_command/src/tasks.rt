@@ -72,14 +72,16 @@ pub(crate) struct Explain {
     pub(crate) alloc: Global,
     /// As an object, and not as text for people.
     pub(crate) json: bool,
+    /// Shows the scores that other values would give, unless an object is asked for.
+    pub(crate) what_if: bool,
     /// A vector of CVSS v3 may lack base metrics.
     pub(crate) allow_incomplete: bool,
 }
 
 impl LineAnswer for Explain {
-    ghost rule = { λ explain. explain_rule explain.json explain.allow_incomplete };
+    ghost rule = { λ explain. explain_rule explain.json explain.what_if explain.allow_incomplete };
 
-    ghost one_text = { λ explain. explained_by_one_text explain.json explain.allow_incomplete };
+    ghost one_text = { λ explain. explained_by_one_text explain.json explain.what_if explain.allow_incomplete };
 
     fn answer_line(
         &self,
@@ -90,7 +92,7 @@ impl LineAnswer for Explain {
         if self.json {
             answer_json(self.alloc, number, line, self.allow_incomplete, answers)
         } else {
-            answer_text(line, self.allow_incomplete, answers)
+            answer_text(self.alloc, line, self.what_if, self.allow_incomplete, answers)
         }
     }
 }

@@ -48,15 +48,15 @@ json_by_one_text allow_incomplete number line (Refused []) is = absurd is
 json_by_one_text allow_incomplete number line (Refused (text ∷ [])) is = (text, refl)
 json_by_one_text allow_incomplete number line (Refused (text ∷ next ∷ more)) is = absurd is
 
-text_by_one_text : (allow_incomplete : Bool) → AnswersByOneText (text.IsAnswer allow_incomplete)
+text_by_one_text : (what_if allow_incomplete : Bool) → AnswersByOneText (text.IsAnswer what_if allow_incomplete)
 unfolding text.IsAnswer
-text_by_one_text allow_incomplete number line (Accepted []) is = absurd is
-text_by_one_text allow_incomplete number line (Accepted (text ∷ [])) is = (text, refl)
-text_by_one_text allow_incomplete number line (Accepted (text ∷ next ∷ more)) is = absurd is
-text_by_one_text allow_incomplete number line (Refused []) is = absurd is
-text_by_one_text allow_incomplete number line (Refused (text ∷ [])) is = (text, refl)
-text_by_one_text allow_incomplete number line (Refused (text ∷ next ∷ more)) is = absurd is
+text_by_one_text what_if allow_incomplete number line (Accepted []) is = absurd is
+text_by_one_text what_if allow_incomplete number line (Accepted (text ∷ [])) is = (text, refl)
+text_by_one_text what_if allow_incomplete number line (Accepted (text ∷ next ∷ more)) is = absurd is
+text_by_one_text what_if allow_incomplete number line (Refused []) is = absurd is
+text_by_one_text what_if allow_incomplete number line (Refused (text ∷ [])) is = (text, refl)
+text_by_one_text what_if allow_incomplete number line (Refused (text ∷ next ∷ more)) is = absurd is
 
-pub explained_by_one_text : (json allow_incomplete : Bool) → AnswersByOneText (explain_rule json allow_incomplete)
-explained_by_one_text true allow_incomplete = json_by_one_text allow_incomplete
-explained_by_one_text false allow_incomplete = text_by_one_text allow_incomplete
+pub explained_by_one_text : (json what_if allow_incomplete : Bool) → AnswersByOneText (explain_rule json what_if allow_incomplete)
+explained_by_one_text true what_if allow_incomplete = json_by_one_text allow_incomplete
+explained_by_one_text false what_if allow_incomplete = text_by_one_text what_if allow_incomplete

@@ -1,0 +1,40 @@
+#!/usr/bin/env python3
+"""A second implementation of what `cvss explain --what-if` shows: for each value of each metric the score that counts all
+metrics of the vector with that value.
+
+Reads lines on standard input and writes a JSON object for each: the scores by metric and value, and the vector's values.
+
+usage: reference/what_if.py
+"""
+import json
+import sys
+
+import ranking
+import reference
+import setting
+import v2
+import v3
+import v4
+
+METRICS = {20: v2.METRICS, 30: v3.METRICS, 31: v3.METRICS, 40: v4.METRICS}
+
+
+def scores(line):
+    """The tenths of the overall score for each metric's values, and for each metric the value that the vector has; a
+    metric that it lacks is not defined."""
+    version, vector = setting.read(reference.text_of(line))
+    metrics = METRICS[version]
+    changed = {name: {value: ranking.overall(setting.with_metrics(line, f"{name}:{value}".encode()))[0] for value in values}
+               for name, (_, values) in metrics.items()}
+    own = {name: vector.get(name, "ND" if version == 20 else "X") for name in metrics}
+    return changed, own
+
+
+def main():
+    for line in reference.lines_of(sys.stdin.buffer.read()):
+        changed, own = scores(line)
+        print(json.dumps({"scores": changed, "own": own}))
+
+
+if __name__ == "__main__":
+    main()
