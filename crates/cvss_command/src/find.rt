@@ -1,7 +1,6 @@
 //! `cvss find`.
 
-ghost use Rattle.cvss_command.specs.Done.{AnnotatesLines, FindsVectors, find_ends};
-ghost use Rattle.cvss_find.specs.declared.form.Form.TheVariants.{Located, Object};
+ghost use Rattle.cvss_command.specs.Done.{AnnotatesLines, FindsObjects, FindsVectors, find_ends};
 ghost use Rattle.cvss_program.specs.Operands.{ServesAll};
 
 use crate::flags::Flags;
@@ -97,7 +96,7 @@ struct Find<'a> {
 }
 
 impl Task for Find<'_> {
-    ghost ends = { λ find. FindsVectors Located find.allow_incomplete };
+    ghost ends = { λ find. FindsVectors find.allow_incomplete };
 
     fn serve_input<R: Read, W: Write>(
         &self,
@@ -125,7 +124,7 @@ struct FindObjects<'a> {
 }
 
 impl Task for FindObjects<'_> {
-    ghost ends = { λ find. FindsVectors Object find.allow_incomplete };
+    ghost ends = { λ find. FindsObjects find.allow_incomplete };
 
     fn serve_input<R: Read, W: Write>(
         &self,
