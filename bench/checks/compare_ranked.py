@@ -119,14 +119,15 @@ def try_list(draw, room):
     arguments += [flag for flag in (b"--keep-going", b"--allow-incomplete") if draw.random() < 0.4]
     rejected = draw.choice((0, 0.02, 0.3))
     parts = [[line(draw, rejected) for _ in range(draw.randrange(80))] for _ in range(draw.choice((1, 1, 2, 3)))]
-    given = b""
+    given = None
     for part in parts:
         content = b"".join(each + draw.choice((b"\n", b"\n", b"\r\n")) for each in part)
-        if given == b"" and draw.random() < 0.5:
+        if given is None and draw.random() < 0.5:
             given = content
             arguments += [b"-"] if len(parts) > 1 else []
         else:
             arguments.append(file(content))
+    given = given or b""
     wanted = ranking.run(arguments, lambda name: files.get(name, given))
     expect(arguments, given, wanted)
     return sum(map(len, parts)), bool(wanted[1])

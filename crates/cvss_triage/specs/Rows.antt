@@ -1,5 +1,5 @@
 -- How rows are written.
-use Rattle.std.specs.Prelude.{ℕ, ℤ, List, [], ◌∷◌, ◌++◌, codes}
+use Rattle.std.specs.Prelude.{ℕ, ℤ, List, ◌++◌, codes}
 use Rattle.cvss_any.specs.Answers.{rating_by, score_of_tenths, text_of}
 use Rattle.cvss_base.specs.SeverityText.{text_of as severity_text}
 use Rattle.cvss_base.specs.Tenths.{score_text}
