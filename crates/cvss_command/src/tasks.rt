@@ -92,7 +92,13 @@ impl LineAnswer for Explain {
         if self.json {
             answer_json(self.alloc, number, line, self.allow_incomplete, answers)
         } else {
-            answer_text(self.alloc, line, self.what_if, self.allow_incomplete, answers)
+            answer_text(
+                self.alloc,
+                line,
+                self.what_if,
+                self.allow_incomplete,
+                answers,
+            )
         }
     }
 }

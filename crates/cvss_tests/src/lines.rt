@@ -1,8 +1,7 @@
-//! Tests of summaries and faults of runs, and of the calls that programs make for themselves.
+//! Tests of summaries and faults of runs, and of the cutting of lines.
 
 use crate::values::{Tried, are_copied, are_printed};
 use cvss_lines::{RunFault, Summary, first_line};
-use cvss_program::{Request, asked};
 use std::process::Abort;
 
 const ACCEPTED: Summary = Summary {
@@ -35,11 +34,6 @@ const FAULTS: [(&str, RunFault); 3] = [
 #[test]
 fn reports_every_fault(rt: HostRuntime) -> Tried {
     are_printed(&rt, rt.alloc(), &FAULTS)
-}
-
-#[test]
-fn without_arguments_a_run_is_asked_for(rt: HostRuntime) {
-    assert!(rt; matches!(asked(&[]), Request::Run));
 }
 
 #[test]
