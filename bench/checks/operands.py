@@ -40,6 +40,8 @@ class Subcommand:
     accepted: bytes
     rejected: bytes
     answer: Callable[[bytes, int, bytes], bytes]
+    # what standard error says where nothing is found
+    nothing: bytes = b""
     tried: int = 0
 
     @property
@@ -93,7 +95,8 @@ SUBCOMMANDS = [
     Subcommand(["set", "E:U", "--"], ACCEPTED, REJECTED, set_metrics),
     Subcommand(["find"], b"(" + ACCEPTED + b")", b'"' + REJECTED + b'"', find),
     Subcommand(["explain"], ACCEPTED, REJECTED, explain),
-    Subcommand(["audit"], b'{"vectorString":"' + ACCEPTED + b'"}', b'{"vectorString":"' + REJECTED + b'"}', audit),
+    Subcommand(["audit"], b'{"vectorString":"' + ACCEPTED + b'"}', b'{"vectorString":"' + REJECTED + b'"}', audit,
+               b"cvss: no vector was found\n"),
 ]
 
 
@@ -119,7 +122,7 @@ def try_files(command, room):
     long = b"x" * 5000
     command.expect(2, b"", b"cvss: " + long + b": File name too long (os error 36)\n", long, cwd=room)
     (room / "empty").touch()
-    command.expect(0, b"", b"", "empty", cwd=room)
+    command.expect(0, b"", command.nothing, "empty", cwd=room)
 
 
 def try_permission(command, room):
@@ -165,9 +168,9 @@ def try_streams(command, room):
     full = b"cvss: standard output: No space left on device (os error 28)\n"
     with open("/dev/full", "wb") as device:
         command.expect(2, b"", full, "list", stdout=device, cwd=room)
-        command.expect(0, b"", b"", "/dev/null", stdout=device)
+        command.expect(0, b"", command.nothing, "/dev/null", stdout=device)
     with open("/dev/null", "rb") as nothing:
-        command.expect(0, b"", b"", stdin=nothing)
+        command.expect(0, b"", command.nothing, stdin=nothing)
     folder = os.open(room, os.O_RDONLY)
     command.expect(2, b"", b"cvss: -: Is a directory (os error 21)\n", stdin=folder)
     command.expect(2, command.answers([command.accepted, command.rejected], b"list"),

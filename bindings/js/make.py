@@ -5,7 +5,6 @@ the version. Copies the licences.
 
 usage: bindings/js/make.py [--check]    with --check names the files that are out of date; status 1 if there are some
 """
-import base64
 import json
 import re
 import sys
@@ -18,6 +17,14 @@ MODULES = ("metrics", "module", "memory", "error", "vector", "find")
 NOTE = "// Written by bindings/js/make.py from bindings/js/src, cvss.wasm and bindings/metrics.json.\n"
 IMPORT = re.compile(r"^import [^;]*;\n", re.M)
 EXPORTED = re.compile(r"^export \{ (.*) \} from .*;$", re.M)
+# the digits of base 85: printable, and none that a string or a page reads otherwise
+DIGITS = "".join(chr(code) for code in range(33, 127) if chr(code) not in "\"$&'<>\\`")[:85]
+
+
+def digits_of(data):
+    """The bytes as text: five digits of base 85 for each four bytes, which zeros fill up."""
+    words = (int.from_bytes(data[at:at + 4].ljust(4, b"\0"), "big") for at in range(0, len(data), 4))
+    return "".join(DIGITS[word // 85 ** place % 85] for word in words for place in (4, 3, 2, 1, 0))
 
 
 def generated():
@@ -25,7 +32,10 @@ def generated():
     words = json.dumps(json.loads((ROOT / "bindings/metrics.json").read_text()), separators=(",", ":"))
     yield f'const version = "{(ROOT / "VERSION").read_text().strip()}";'
     yield f"const TABLES = {words};"
-    yield f'const BASE64 = "{base64.b64encode((HERE / "cvss.wasm").read_bytes()).decode()}";'
+    module = (HERE / "cvss.wasm").read_bytes()
+    yield f'const DIGITS = "{DIGITS}";'
+    yield f"const LENGTH = {len(module)};"
+    yield f'const TEXT = "{digits_of(module)}";'
 
 
 def body():

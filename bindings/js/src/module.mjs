@@ -1,14 +1,22 @@
-// The module of WebAssembly, whose functions are those of cvss.h. Its bytes are in this package as base64, so that it
-// is compiled when it is first needed, without a file or a request.
+// The module of WebAssembly, whose functions are those of cvss.h. Its bytes are in this package as digits of base 85, so
+// that it is compiled when it is first needed, without a file or a request.
 
-import { BASE64 } from "./generated.mjs";
+import { DIGITS, LENGTH, TEXT } from "./generated.mjs";
 import { start, wasm } from "./memory.mjs";
 
 let compiled = null;
 
+// Five digits are four bytes, the first of them the highest.
 function bytes() {
-  const text = atob(BASE64);
-  return Uint8Array.from({ length: text.length }, (_, index) => text.charCodeAt(index));
+  const values = new Uint8Array(128);
+  for (let digit = 0; digit < 85; digit += 1) values[DIGITS.charCodeAt(digit)] = digit;
+  const words = new DataView(new ArrayBuffer((TEXT.length / 5) * 4));
+  for (let at = 0; at < TEXT.length; at += 5) {
+    let word = 0;
+    for (let next = at; next < at + 5; next += 1) word = word * 85 + values[TEXT.charCodeAt(next)];
+    words.setUint32((at / 5) * 4, word);
+  }
+  return new Uint8Array(words.buffer, 0, LENGTH);
 }
 
 export function wasmModule() {
