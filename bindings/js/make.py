@@ -8,12 +8,13 @@ usage: bindings/js/make.py [--check]    with --check names the files that are ou
 import json
 import re
 import sys
+import zlib
 from pathlib import Path
 
 HERE = Path(__file__).resolve().parent
 ROOT = HERE.parent.parent
 # each after those that it needs at once
-MODULES = ("metrics", "module", "memory", "error", "vector", "find")
+MODULES = ("metrics", "inflate", "module", "memory", "error", "vector", "find")
 NOTE = "// Written by bindings/js/make.py from bindings/js/src, cvss.wasm and bindings/metrics.json.\n"
 IMPORT = re.compile(r"^import [^;]*;\n", re.M)
 EXPORTED = re.compile(r"^export \{ (.*) \} from .*;$", re.M)
@@ -35,7 +36,8 @@ def generated():
     module = (HERE / "cvss.wasm").read_bytes()
     yield f'const DIGITS = "{DIGITS}";'
     yield f"const LENGTH = {len(module)};"
-    yield f'const TEXT = "{digits_of(module)}";'
+    deflate = zlib.compressobj(9, zlib.DEFLATED, -15)
+    yield f'const TEXT = "{digits_of(deflate.compress(module) + deflate.flush())}";'
 
 
 def body():

@@ -1,7 +1,8 @@
-// The module of WebAssembly, whose functions are those of cvss.h. Its bytes are in this package as digits of base 85, so
-// that it is compiled when it is first needed, without a file or a request.
+// The module of WebAssembly, whose functions are those of cvss.h. Its bytes are in this package, compressed and as digits
+// of base 85, so that it is compiled when it is first needed, without a file or a request.
 
 import { DIGITS, LENGTH, TEXT } from "./generated.mjs";
+import { inflate } from "./inflate.mjs";
 import { start, wasm } from "./memory.mjs";
 
 let compiled = null;
@@ -16,7 +17,7 @@ function bytes() {
     for (let next = at; next < at + 5; next += 1) word = word * 85 + values[TEXT.charCodeAt(next)];
     words.setUint32((at / 5) * 4, word);
   }
-  return new Uint8Array(words.buffer, 0, LENGTH);
+  return inflate(new Uint8Array(words.buffer), LENGTH);
 }
 
 export function wasmModule() {
