@@ -14,12 +14,14 @@ import subprocess
 import sys
 import tempfile
 from dataclasses import dataclass
+from fractions import Fraction
 from pathlib import Path
 from typing import Callable
 
 ROOT = Path(__file__).resolve().parents[2]
 sys.path[:0] = [str(ROOT / "reference")]
 
+import accounts
 import complete
 import documents
 import explained
@@ -84,6 +86,24 @@ def explain(line, number, operand):
     return prefixed(operand, explained.written(explained.answer(line, allow_incomplete=False)).encode() + b"\n")
 
 
+def json_text(value):
+    """A JSON value without spaces, its members in the order of their names, and numbers as explanations have them."""
+    if isinstance(value, dict):
+        return "{" + ",".join(f"{json.dumps(name)}:{json_text(value[name])}" for name in sorted(value)) + "}"
+    return explained.decimal(value) if isinstance(value, Fraction) else json.dumps(value, ensure_ascii=False)
+
+
+def explain_object(line, number, operand):
+    scored = complete.answer(line)
+    if scored.startswith("error: "):
+        members = {"given": line.decode(), "line": number, "refused": scored.removeprefix("error: ")}
+    else:
+        members = accounts.answer(number, line)
+    file = f'{{"file":{json.dumps(operand.decode(), ensure_ascii=False)},' if operand else "{"
+    # the program escapes each byte below 32 by its number
+    return file.replace("\\n", "\\u000a").encode() + json_text(members)[1:].encode() + b"\n"
+
+
 def audit(line, number, operand):
     source = {"line": number} | ({"file": operand.decode()} if operand else {})
     return b"".join(json.dumps(members, sort_keys=True, separators=(",", ":"), ensure_ascii=False).encode() + b"\n"
@@ -95,6 +115,7 @@ SUBCOMMANDS = [
     Subcommand(["set", "E:U", "--"], ACCEPTED, REJECTED, set_metrics),
     Subcommand(["find"], b"(" + ACCEPTED + b")", b'"' + REJECTED + b'"', find),
     Subcommand(["explain"], ACCEPTED, REJECTED, explain),
+    Subcommand(["explain", "--json"], ACCEPTED, REJECTED, explain_object),
     Subcommand(["audit"], b'{"vectorString":"' + ACCEPTED + b'"}', b'{"vectorString":"' + REJECTED + b'"}', audit,
                b"cvss: no vector was found\n"),
 ]

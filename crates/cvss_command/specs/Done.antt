@@ -19,7 +19,6 @@ use Rattle.cvss_explain_json.specs.Answers as json
 use Rattle.cvss_explain_text.specs.Answers as text
 use Rattle.cvss_find.specs.Annotations.{annotate_rule}
 use Rattle.cvss_find.specs.Forms.{located_rule, objects_rule}
-use Rattle.cvss_lines.specs.Answers.{Rule}
 use Rattle.cvss_lines.specs.Runs.{Ends}
 use Rattle.cvss_lines.specs.declared.fault.RunFault.TheVariants.{Memory}
 use Rattle.cvss_program.specs.Exit.{after, nothing_served}
@@ -97,10 +96,18 @@ layout_of options = if options.flags.document then Whole else if options.operand
 abbrev pub audit_of : Options → audit.Audit
 audit_of options = record { layout = layout_of options; allow_incomplete = options.flags.allow_incomplete }
 
--- which explanations answer lines: objects, or texts for people. Vectors of CVSS v3 may lack base metrics, or not.
-abbrev pub explain_rule : Bool → Bool → Bool → Rule
-explain_rule true what_if allow_incomplete = json.IsAnswer allow_incomplete
-explain_rule false what_if allow_incomplete = text.IsAnswer what_if allow_incomplete
+-- each line is answered by an object that explains the score
+abbrev pub ExplainsByObjects : Bool → Endings
+ExplainsByObjects allow_incomplete prefix = Ends (json.IsAnswer allow_incomplete prefix)
+
+-- each line is answered by a text for people that explains the score
+abbrev pub ExplainsByTexts : Bool → Bool → Endings
+ExplainsByTexts what_if allow_incomplete = AnswersLines (text.IsAnswer what_if allow_incomplete)
+
+-- how an input is answered by `cvss explain`, by whether --json, --what-if and --allow-incomplete are given
+abbrev pub explain_ends : Bool → Bool → Bool → Endings
+explain_ends true what_if = ExplainsByObjects
+explain_ends false what_if = ExplainsByTexts what_if
 
 -- what each subcommand does
 abbrev pub Runs : Subcommand → Options → List (Vec ℕ) → (List ℕ → Option (List ℕ)) → Option (List ℕ) → Option (List ℕ) → Option (List ℕ) → Option (List ℕ) → Result Served ℕ → Type 0
@@ -111,7 +118,7 @@ Runs Find options arguments contents unread unread' written written' result =
     Answers (find_ends options.flags.json options.flags.annotate options.flags.all options.flags.allow_incomplete)
     options arguments contents unread unread' written written' result
 Runs Explain options arguments contents unread unread' written written' result =
-    Answers (AnswersLines (explain_rule options.flags.json options.flags.what_if options.flags.allow_incomplete)) options arguments contents unread unread' written written' result
+    Answers (explain_ends options.flags.json options.flags.what_if options.flags.allow_incomplete) options arguments contents unread unread' written written' result
 Runs Set options arguments contents unread unread' written written' result =
     SetsMetrics (joined_metrics options.words arguments) options arguments contents unread unread' written written' result
 Runs Triage options arguments contents unread unread' written written' result =

@@ -5,6 +5,7 @@ ghost use Rattle.cvss_command.specs.Done.{Does, Runs, SetsMetrics, audit_of, hel
 ghost use Rattle.cvss_command.specs.Requests.{request_of};
 ghost use Rattle.cvss_command.specs.Scoring.{WritesText};
 
+use crate::explain::explain;
 use crate::find::find_vectors;
 use crate::help::{
     AUDIT_USAGE, EXPLAIN_USAGE, FIND_USAGE, SCORE_USAGE, SET_USAGE, TRIAGE_USAGE, USAGE, VERSION,
@@ -13,7 +14,7 @@ use crate::help::{
 use crate::requests::{Options, Request, request_of};
 use crate::score::score;
 use crate::subcommand::Subcommand;
-use crate::tasks::{Explain, Set};
+use crate::tasks::Set;
 use crate::triage::triage_lines;
 use cvss_audit::{Audit, Layout};
 use cvss_lines::{RunFault, write_whole};
@@ -71,14 +72,15 @@ pub fn run_command<F: Files, R: Read, W: Write, E: Write>(
                     ))
                 }
                 Subcommand::Explain => {
-                    let answer = Explain {
+                    Ok(explain(
                         alloc,
-                        json: options.flags.json,
-                        what_if: options.flags.what_if,
-                        allow_incomplete: options.flags.allow_incomplete,
-                    };
-                    let task = EachLine { answer };
-                    Ok(serve_operands(alloc, &task, operands, files, reader, writer, report))
+                        options.flags,
+                        operands,
+                        files,
+                        reader,
+                        writer,
+                        report,
+                    ))
                 }
                 Subcommand::Set => set_metrics(
                     alloc, arguments, options, files, reader, writer, report,

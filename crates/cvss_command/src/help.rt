@@ -91,7 +91,8 @@ Shows how the score of each vector (v2, v3.0, v3.1, v4.0) is computed: each
 metric with its weight (v2, v3) or the levels that it counts in (v4.0), and the
 numbers on the way to the score. An empty line follows each explanation.
 
-  --json               one JSON object for each line, with all numbers
+  --json               one JSON object for each line, with all numbers; with
+                       several files first its file
   --what-if            for each value of each metric the score that counts all
                        metrics; an asterisk marks the vector's own value
   --allow-incomplete   explain v3 vectors that lack base metrics, which are

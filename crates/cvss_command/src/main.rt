@@ -3,6 +3,7 @@
 #![tactic(auto)]
 
 mod command;
+mod explain;
 mod find;
 mod flags;
 mod help;

@@ -2,14 +2,11 @@
 
 ghost use Rattle.cvss_answer.specs.Answers.{score_rule};
 ghost use Rattle.cvss_answer.specs.Setting.{IsSetAnswer};
-ghost use Rattle.cvss_command.specs.Done.{explain_rule};
-ghost use Rattle.cvss_command.specs.private.OneText.{explained_by_one_text, score_by_one_text, set_by_one_text};
+ghost use Rattle.cvss_command.specs.private.OneText.{score_by_one_text, set_by_one_text};
 ghost use Rattle.cvss_lines.specs.Runs.{Ends};
 ghost use Rattle.cvss_rows.specs.Rows.{IsRow};
 
 use cvss_answer::{answer_score, answer_with_metrics};
-use cvss_explain_json::answer_explained as answer_json;
-use cvss_explain_text::answer_explained as answer_text;
 use cvss_lines::{OutputBuffer, RunFault, Summary, serve};
 use cvss_program::{LineAnswer, Task};
 use cvss_rows::{Format, Rows};
@@ -63,43 +60,6 @@ impl Task for ScoreRow {
             prefix,
         };
         serve(&rows, alloc, reader, writer)
-    }
-}
-
-/// Explains the score.
-#[derive(Drop)]
-pub(crate) struct Explain {
-    pub(crate) alloc: Global,
-    /// As an object, and not as text for people.
-    pub(crate) json: bool,
-    /// Shows the scores that other values would give, unless an object is asked for.
-    pub(crate) what_if: bool,
-    /// A vector of CVSS v3 may lack base metrics.
-    pub(crate) allow_incomplete: bool,
-}
-
-impl LineAnswer for Explain {
-    ghost rule = { λ explain. explain_rule explain.json explain.what_if explain.allow_incomplete };
-
-    ghost one_text = { λ explain. explained_by_one_text explain.json explain.what_if explain.allow_incomplete };
-
-    fn answer_line(
-        &self,
-        number: u64,
-        line: &[u8],
-        answers: &mut OutputBuffer,
-    ) -> Result<bool, AllocError> {
-        if self.json {
-            answer_json(self.alloc, number, line, self.allow_incomplete, answers)
-        } else {
-            answer_text(
-                self.alloc,
-                line,
-                self.what_if,
-                self.allow_incomplete,
-                answers,
-            )
-        }
     }
 }
 

@@ -1,5 +1,5 @@
 -- The answers to lines, each of which is the text of a vector: explanations of scores as JSON objects.
-use Rattle.std.specs.Prelude.{◌≡◌, ◌⊎◌, ℕ, Bool, List, [], ◌∷◌, ◌++◌, codes, None, Some, if◌then◌else◌}
+use Rattle.std.specs.Prelude.{◌≡◌, ◌⊎◌, ℕ, Bool, List, [], ◌∷◌, ◌++◌, codes, drop, None, Some, if◌then◌else◌}
 use Rattle.std.specs.Str.{IsUtf8, is_utf8}
 use Rattle.cvss_any.specs.Complete.{missing_by}
 use Rattle.cvss_any.specs.Bytes.{ReportsWhyNot, bytes_error_text}
@@ -13,6 +13,7 @@ use Rattle.cvss_explain.specs.Explanation.{IsExplanationText}
 use Rattle.cvss_lines.specs.Answers.{Answer, Accepted, Refused}
 use Rattle.cvss_json_tree.specs.Texts.{IsTextOf}
 use Rattle.cvss_json_tree.specs.Objects.{Member, object_of}
+use Rattle.cvss_rows.specs.Cells.{object_start}
 use Rattle.serde_json.specs.Data.{Data, number as number_value, string, unsigned}
 
 -- the number of the line
@@ -51,9 +52,22 @@ pub record IsIncomplete (allow_incomplete : Bool) (number : ℕ) (line text : Li
   pub missing : missing_by allow_incomplete cvss ≡ Some metric
   pub is_text : IsTextOf (refusal_value number line (reason_text (Missing metric))) text
 
--- this is an answer to the line of this number: one text. Vectors of CVSS v3 may lack base metrics, or not.
-unfoldable pub IsAnswer : Bool → ℕ → List ℕ → Answer → Type 0
-IsAnswer allow_incomplete number line (Accepted (text ∷ [])) = IsAcceptance allow_incomplete number line text
-IsAnswer allow_incomplete number line (Refused (text ∷ [])) =
-    IsRefusal number line text ⊎ IsIncomplete allow_incomplete number line text
-IsAnswer allow_incomplete number line answer = ⊥
+-- the text of an object, with the file as its first member where answers have a prefix
+abbrev pub in_file : List ℕ → List ℕ → List ℕ
+in_file [] text = text
+in_file (byte ∷ bytes) text = object_start (byte ∷ bytes) ++ drop 1 text
+
+-- the text is such an object's, with the file where answers have a prefix
+pub record IsInFile (prefix : List ℕ) (IsOwn : List ℕ → Type 0) (text : List ℕ) : Type 0 where
+  pub own : List ℕ
+  pub is_own : IsOwn own
+  pub is : text ≡ in_file prefix own
+
+-- this is an answer to the line of this number, which is read of an input whose answers have a prefix or an empty one: one
+-- text. Vectors of CVSS v3 may lack base metrics, or not.
+unfoldable pub IsAnswer : Bool → List ℕ → ℕ → List ℕ → Answer → Type 0
+IsAnswer allow_incomplete prefix number line (Accepted (text ∷ [])) =
+    IsInFile prefix (IsAcceptance allow_incomplete number line) text
+IsAnswer allow_incomplete prefix number line (Refused (text ∷ [])) =
+    IsInFile prefix (λ own. IsRefusal number line own ⊎ IsIncomplete allow_incomplete number line own) text
+IsAnswer allow_incomplete prefix number line answer = ⊥

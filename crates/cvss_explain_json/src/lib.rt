@@ -3,4 +3,4 @@
 
 mod answer;
 
-pub use answer::answer_explained;
+pub use answer::Explaining;
