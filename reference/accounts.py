@@ -14,6 +14,7 @@ import sys
 from fractions import Fraction
 from math import floor
 
+import complete
 import reference
 import v2
 import v3
@@ -100,7 +101,7 @@ def digits(classes):
 def group_of_v4(name, own, macro, lower):
     """One group of metrics: its class, and what is taken on the way to the next lower one."""
     group = GROUPS[name]
-    distance, depth = v4.distance(group, own) if group else (0, 1)
+    distance, depth = v4.distance(group, v4.values_of(group, own)) if group else (0, 1)
     classes = [macro[int(letter) - 1] for letter in name.replace("EQ", "").split("+")]
     told = {"group": name, "class": digits(classes), "distance": distance, "depth": depth,
             "next": None, "nextValue": None, "gap": None, "taken": None}
@@ -145,10 +146,14 @@ def account(text):
             "severity": severity, **told}
 
 
-def answer(number, line):
+def answer(number, line, allow_incomplete=True):
     """The explanation of a line, with exact decimals."""
     try:
-        return {"line": number, **account(reference.text_of(line))}
+        text = reference.text_of(line)
+        numbers = account(text)
+        if not allow_incomplete:
+            complete.find_missing(text)
+        return {"line": number, **numbers}
     except reference.Refused as reason:
         given = {} if reason.kind == "encoding" else {"given": line.decode("utf-8")}
         return {"line": number, **given, "refused": str(reason)}

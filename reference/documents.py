@@ -8,9 +8,11 @@ answers are expected values for them.
 usage: reference/documents.py [--allow-incomplete] [--document] < DOCUMENTS
 """
 import json
+import re
 import sys
 from fractions import Fraction
-from math import floor
+from functools import lru_cache
+from math import floor, isinf
 from pathlib import Path
 
 import reference
@@ -32,6 +34,12 @@ NAMED_VERSIONS = {
     "cvssV2_0": [20], "cvssV3_0": [30], "cvssV3_1": [31], "cvssV4_0": [40],
     "cvss_v2": [20], "cvss_v3": [30, 31], "cvss_v4": [40],
 }
+
+
+# Two escapes that are a surrogate pair, half of one, or any other escape.
+ESCAPE = re.compile(r"\\u[dD][89abAB][0-9a-fA-F]{2}\\u[dD][c-fC-F][0-9a-fA-F]{2}|(\\u[dD][89a-fA-F])|\\.")
+STRING = re.compile(r'"(?:[^"\\]|\\.)*"')
+DEEPEST = 127
 
 
 class Vector:
@@ -56,6 +64,7 @@ class Vector:
             return []
         return [name for name in v3.BASE if name not in self.metrics]
 
+    @lru_cache(maxsize=10_000)
     def sub_scores(self):
         """Exploitability and impact as NVD gives them, rounded to the nearest tenth."""
         if self.version == 40:
@@ -79,6 +88,12 @@ class Vector:
             if self.version != 20:
                 members[f"{group}Severity"] = self.rating(tenths).upper()
         return members
+
+
+@lru_cache(maxsize=10_000)
+def vector_of(text):
+    """The vector that a text is; documents often say it again."""
+    return Vector(text)
 
 
 def is_number(value):
@@ -232,7 +247,7 @@ def answer_location(source, location, allow_incomplete):
         return {**members, "refused": "not a string"}, False
     members["given"] = text
     try:
-        vector = Vector(text)
+        vector = vector_of(text)
     except reference.Refused as reason:
         return {**members, "refused": str(reason)}, False
     members |= {"vector": vector.canonical, "scores": scores_of(vector), "severity": vector.severity}
@@ -248,12 +263,47 @@ def no_constant(word):
     raise ValueError(word)
 
 
+def double(word):
+    value = float(word)
+    if isinf(value):
+        raise ValueError(word)
+    return value
+
+
+def integer(word):
+    """An integer of at most 64 bits, or else a double."""
+    value = double(word)
+    return int(word) if -2 ** 63 <= int(word) < 2 ** 64 else value
+
+
+def nests_too_deep(text):
+    """Whether arrays and objects nest deeper than a document may, in a text that is JSON otherwise."""
+    depth = 0
+    for bracket in re.findall(r"[][{}]", STRING.sub("", text)):
+        depth += 1 if bracket in "[{" else -1
+        if depth > DEEPEST:
+            return True
+    return False
+
+
+def parsed(text):
+    """The document that a text is, in which no text has half of a surrogate pair (RFC 8259, 8.2) and each number is in the
+    range of a double (6)."""
+    try:
+        document = json.loads(text, parse_constant=no_constant, parse_float=double, parse_int=integer)
+    except RecursionError:
+        raise ValueError("too deep") from None
+    if any(escape.group(1) for escape in ESCAPE.finditer(text)) or nests_too_deep(text):
+        raise ValueError("no document here")
+    return document
+
+
 def answer(source, text, allow_incomplete=False):
     """The objects that answer a document, and whether nothing is found in it."""
     if not text.strip(b" \t\r\n"):
         return [], True
     try:
-        document = json.loads(text.decode("utf-8"), parse_constant=no_constant)
+        document = parsed(text.decode("utf-8"))
     except UnicodeDecodeError:
         return [{**source, "refused": "not UTF-8"}], False
     except ValueError:

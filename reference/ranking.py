@@ -23,9 +23,8 @@ EXAMPLES = {2: b"AV:N/AC:L/Au:N/C:N/I:N/A:N", 3: b"CVSS:3.1/AV:N",
 PREFIXES = {b"CVSS:4.0/": 4, b"CVSS:3.1/": 3, b"CVSS:3.0/": 3}
 
 
-def overall(text):
+def overall(version, vector):
     """The score in tenths that counts all defined metrics of the vector, and its rating."""
-    version, vector = setting.read(text)
     if version == 40:
         score = v4.score(vector)
         return score, v3.severity(score)
@@ -34,7 +33,7 @@ def overall(text):
     if version == 20:
         score = v2.scores(vector)[group]
         return score, v2.severity(score)
-    score = v3.scores(version % 10, vector)[group]
+    score = (v3.base, v3.temporal, v3.environmental)[group](version % 10, vector)
     return score, v3.severity(score)
 
 
@@ -84,7 +83,7 @@ def rank(lines, overrides, allow_incomplete):
             continue
         for given, metrics in overrides:
             text = holds(given, metrics, text) or text
-        score, severity = overall(text)
+        score, severity = overall(*setting.read(text))
         rows.append((-score, line, severity, text))
     return sorted(rows), bad
 

@@ -6,6 +6,7 @@ Reads lines on standard input and writes the answer to each on standard output. 
 with the crates: its answers are expected values for them.
 """
 import sys
+from functools import lru_cache
 
 import v2
 import v3
@@ -123,6 +124,7 @@ def read_v4(text):
     return canonical(pieces[:1], v4.METRICS, vector), score, v3.severity(score)
 
 
+@lru_cache(maxsize=100_000)
 def read(text):
     """The same for the version in the text, which is v2 if it has none."""
     pieces = text.split("/")

@@ -3,11 +3,13 @@
 A vector is a dictionary from metrics to the spellings of their values; scores are whole tenths.
 """
 from fractions import Fraction
+from functools import cache
 
 
 def weighed(text):
     """Values written as `spelling weight`, with commas between them."""
-    return dict(pair.split() for pair in text.split(","))
+    pairs = (pair.split() for pair in text.split(","))
+    return {spelling: Fraction(weight) for spelling, weight in pairs}
 
 
 IMPACT = weighed("N 0, P 0.275, C 0.660")
@@ -35,7 +37,7 @@ MANDATORY = ["AV", "AC", "Au", "C", "I", "A"]
 def weight(vector, name):
     """The weight of a metric, where an absent one counts as the guide says."""
     if name in vector:
-        return Fraction(METRICS[name][1][vector[name]])
+        return METRICS[name][1][vector[name]]
     return Fraction(0 if name in MANDATORY or name == "CDP" else 1)
 
 
@@ -81,8 +83,13 @@ def temporal_weight(vector):
     return weight(vector, "E") * weight(vector, "RL") * weight(vector, "RC")
 
 
+def temporal_of(score, vector):
+    """The temporal score by the base score, in tenths."""
+    return tenths(Fraction(score, 10) * temporal_weight(vector))
+
+
 def temporal(vector, impact):
-    return tenths(Fraction(base(vector, impact), 10) * temporal_weight(vector))
+    return temporal_of(base(vector, impact), vector)
 
 
 def environmental_number(vector, adjusted_temporal):
@@ -91,15 +98,18 @@ def environmental_number(vector, adjusted_temporal):
     return (score + (10 - score) * weight(vector, "CDP")) * weight(vector, "TD")
 
 
-def environmental(vector):
-    return tenths(environmental_number(vector, temporal(vector, adjusted_impact(vector))))
+@cache
+def base_scores(values):
+    """The base score and the adjusted base score by the base metrics and the requirements."""
+    vector = dict(values)
+    return base(vector, impact(vector, [None, None, None])), base(vector, adjusted_impact(vector))
 
 
 def scores(vector):
     """The published base, temporal and environmental score, in tenths."""
-    own = impact(vector, [None, None, None])
-    return [max(0, score) for score in
-            (base(vector, own), temporal(vector, own), environmental(vector))]
+    own, adjusted = base_scores(tuple((name, value) for name, value in vector.items() if name in (*MANDATORY, "CR", "IR", "AR")))
+    environmental = tenths(environmental_number(vector, temporal_of(adjusted, vector)))
+    return [max(0, score) for score in (own, temporal_of(own, vector), environmental)]
 
 
 def severity(score):

@@ -4,6 +4,7 @@ exact numbers.
 A vector is a dictionary from metrics to the spellings of their values; scores are whole tenths.
 """
 from fractions import Fraction
+from functools import cache
 from math import ceil, floor
 
 from v2 import weighed
@@ -40,7 +41,7 @@ def weight(vector, name):
     if name not in vector:
         return Fraction(0 if name in BASE else 1)
     changed = name == "PR" and is_changed(vector)
-    return Fraction((CHANGED_PRIVILEGES if changed else METRICS[name][1])[vector[name]])
+    return (CHANGED_PRIVILEGES if changed else METRICS[name][1])[vector[name]]
 
 
 def tenths(minor, x):
@@ -58,6 +59,11 @@ def sub_score(vector, requirements):
     return 1 - rests
 
 
+@cache
+def power(number, exponent):
+    return number ** exponent
+
+
 def is_changed(vector):
     return vector.get("S") == "C"
 
@@ -69,10 +75,10 @@ def exploitability(vector):
     return product
 
 
-def impact(vector, sub_score, power):
+def impact(vector, sub_score, raised):
     """The impact by the scope, below 0 where the scope is changed and nothing is hit."""
     if is_changed(vector):
-        return Fraction("7.52") * (sub_score - Fraction("0.029")) - Fraction("3.25") * power
+        return Fraction("7.52") * (sub_score - Fraction("0.029")) - Fraction("3.25") * raised
     return Fraction("6.42") * sub_score
 
 
@@ -86,7 +92,7 @@ def unrounded(vector, reached):
 
 def base_impact(vector):
     own = sub_score(vector, [1, 1, 1])
-    return impact(vector, own, (own - Fraction("0.02")) ** 15)
+    return impact(vector, own, power(own - Fraction("0.02"), 15))
 
 
 def base_number(vector):
@@ -113,9 +119,9 @@ def modified_sub_score(vector):
 
 def modified_impact(minor, own, reached):
     """The impact that these values give with the sub-score of the impacts that is reached."""
-    power = ((reached * Fraction("0.9731") - Fraction("0.02")) ** 13 if minor == 1
-             else (reached - Fraction("0.02")) ** 15)
-    return impact(own, reached, power)
+    raised = (power(reached * Fraction("0.9731") - Fraction("0.02"), 13) if minor == 1
+              else power(reached - Fraction("0.02"), 15))
+    return impact(own, reached, raised)
 
 
 def modified_unrounded(minor, own, reached):
@@ -132,12 +138,25 @@ def temporal_weight(vector):
     return weight(vector, "E") * weight(vector, "RL") * weight(vector, "RC")
 
 
+def temporal(minor, vector):
+    return tenths(minor, Fraction(base(minor, vector), 10) * temporal_weight(vector))
+
+
+@cache
+def first_score(minor, values):
+    """What the first rounding of the environmental score gives for effective values."""
+    return tenths(minor, modified_number(minor, dict(values)))
+
+
+def environmental(minor, vector):
+    requirements = {name: vector.get(name, "X") for name in ("CR", "IR", "AR")}
+    first = first_score(minor, (*modified(vector).items(), *requirements.items()))
+    return tenths(minor, Fraction(first, 10) * temporal_weight(vector))
+
+
 def scores(minor, vector):
     """The base, temporal and environmental score, in tenths."""
-    first = tenths(minor, modified_number(minor, vector))
-    rest = temporal_weight(vector)
-    return [base(minor, vector), tenths(minor, Fraction(base(minor, vector), 10) * rest),
-            tenths(minor, Fraction(first, 10) * rest)]
+    return [base(minor, vector), temporal(minor, vector), environmental(minor, vector)]
 
 
 def severity(score):

@@ -134,24 +134,29 @@ def level_sums(group):
     return sums
 
 
-def distance(group, own):
+def values_of(group, own):
+    """The effective values of the metrics of a group."""
+    return tuple(own[name.removeprefix("M")] for name in GROUPS[group])
+
+
+@cache
+def distance(group, values):
     """The steps of severity that the values lie below the worst of their class, and the depth of
     the class."""
-    values = [own[name.removeprefix("M")] for name in GROUPS[group]]
     sums = level_sums(group)[group(*values)]
     level = sum(METRICS[name][1][value] for name, value in zip(GROUPS[group], values))
     return level - min(sums), max(sums) - min(sums) + 1
 
 
-def proportion(group, own):
+@cache
+def proportion(group, values):
     """How far the values lie below the worst of their class, by the depth of the class."""
-    return Fraction(*distance(group, own))
+    return Fraction(*distance(group, values))
 
 
 def macro_vector(own):
     """The classes of the effective values, EQ1 to EQ6."""
-    eq1, eq2, (eq3, eq6), eq4 = (group(*(own[name.removeprefix("M")] for name in names))
-                                 for group, names in GROUPS.items())
+    eq1, eq2, (eq3, eq6), eq4 = (group(*values_of(group, own)) for group in GROUPS)
     return eq1, eq2, eq3, eq4, "APU".index(own["E"]), eq6
 
 
@@ -159,6 +164,7 @@ def macro_vector(own):
 PLACES = {access: [0], complexity: [1], vulnerable: [5, 2], subsequent: [3], None: [4]}
 
 
+@cache
 def lower_classes(macro):
     """By group the next lower macro vector, where there is one.
 
@@ -191,7 +197,7 @@ def number(vector):
     if not has_impact(own):
         return Fraction(0)
     value, lower = class_values(own)
-    mean = sum((value - below) * proportion(group, own) for group, below in lower.items() if group)
+    mean = sum((value - below) * proportion(group, values_of(group, own)) for group, below in lower.items() if group)
     return value - Fraction(mean) / max(1, len(lower))
 
 

@@ -21,12 +21,13 @@ METRICS = {20: v2.METRICS, 30: v3.METRICS, 31: v3.METRICS, 40: v4.METRICS}
 
 def scores(line):
     """The tenths of the overall score for each metric's values, and for each metric the value that the vector has; a
-    metric that it lacks is not defined."""
+    metric that it lacks is not defined, except a base metric, which has no such value (v3.1 specification, table 15)."""
     version, vector = setting.read(reference.text_of(line))
     metrics = METRICS[version]
-    changed = {name: {value: ranking.overall(setting.with_metrics(line, f"{name}:{value}".encode()))[0] for value in values}
+    changed = {name: {value: ranking.overall(version, {**vector, name: value})[0] for value in values}
                for name, (_, values) in metrics.items()}
-    own = {name: vector.get(name, "ND" if version == 20 else "X") for name in metrics}
+    undefined = "ND" if version == 20 else "X"
+    own = {name: vector.get(name, undefined if undefined in values else "") for name, (_, values) in metrics.items()}
     return changed, own
 
 

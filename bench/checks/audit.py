@@ -4,7 +4,9 @@
 - Each document of bench/documents, in the shape that its tool writes, has planted errors: all are found, and nothing
   else.
 - Files with one document a line and files that are one document are distinguished.
-- Drawn documents of all forms are answered as by reference/documents.py.
+- Documents that are drawn in the form of each tool have planted errors: all are found, and nothing else.
+- Drawn documents of all forms, and lines that are almost documents, are answered as by reference/documents.py, one per
+  line, in files or printed over many lines.
 
 usage: bench/checks/audit.py [COUNT [SEED]]
 """
@@ -16,9 +18,11 @@ import tempfile
 from pathlib import Path
 
 ROOT = Path(__file__).resolve().parents[2]
-sys.path[:0] = [str(ROOT / "reference")]
+sys.path[:0] = [str(ROOT / "reference"), str(ROOT / "bench/inputs")]
 
 import documents
+import hostile
+import planted
 import v2
 import v3
 import v4
@@ -46,8 +50,8 @@ PLANTED = {
 }
 
 
-def audit(*arguments, given=b""):
-    done = subprocess.run([PROGRAM, "audit", *arguments], input=given, capture_output=True, check=False)
+def audit(*arguments, given=b"", cwd=None):
+    done = subprocess.run([PROGRAM, "audit", *arguments], input=given, cwd=cwd, capture_output=True, check=False)
     note = b"" if done.stdout else b"cvss: no vector was found\n"
     if done.returncode == 2 or done.stderr != note:
         sys.exit(f"cvss audit {arguments}: status {done.returncode}, {done.stderr}")
@@ -98,14 +102,99 @@ def try_layouts():
     print(f"{len(cases)} files with one document a line, or with one")
 
 
-def answer_file(data, allow_incomplete=False):
-    parts = [({"line": number}, line) for number, line in enumerate(documents.reference.lines_of(data), 1)]
+def answer_file(data, allow_incomplete=False, of_file=None, by_line=None):
+    of_file = {} if of_file is None else {"file": of_file}
+    parts = [(of_file | {"line": number}, line) for number, line in enumerate(documents.reference.lines_of(data), 1)]
     answers, clean = [], True
-    for source, text in parts if documents.is_by_line(data) else [({}, data)]:
+    for source, text in parts if (documents.is_by_line(data) if by_line is None else by_line) else [(of_file, data)]:
         more, agree = documents.answer(source, text, allow_incomplete)
         answers += more
         clean &= agree
     return (0 if clean else 1), answers
+
+
+def damaged(draw, line):
+    """A document that probably is none any more."""
+    at = draw.randrange(len(line))
+    other = draw.choice((b"", line[at:at + 1] * 2, bytes([draw.randrange(256)]), draw.choice((b"e", b"0", b"-", b",", b'"', b"\\", b"]", b"1e999", b"\xff"))))
+    return (line[:at] + other + line[at + draw.choice((0, 1)):]).replace(b"\n", b" ")
+
+
+def lines_of_documents(draw, count):
+    """Lines of which most are documents, each with what is planted in it, or None for what is no such document."""
+    lines = []
+    for _ in range(count):
+        document, _, found = planted.drawn(draw)
+        lines.append((json.dumps(document, ensure_ascii=draw.random() < 0.5).encode(), found))
+        chance = draw.random()
+        if chance < 0.05:
+            lines.append((damaged(draw, lines[-1][0]), None))
+        elif chance < 0.1:
+            lines.append((hostile.line(draw), None))
+    return lines
+
+
+def expect_planted(answers, documents_by_source):
+    """Ends if in one of these documents something else is found than what is planted."""
+    found = {source: [] for source in documents_by_source}
+    for answer in answers:
+        source = answer.get("file"), answer.get("line")
+        if finding(answer) and source in found:
+            reasons = [each["member"] for each in answer["differs"]] if "differs" in answer else [finding(answer)]
+            found[source].append((answer["at"], sorted(reasons)))
+    for source, wanted in documents_by_source.items():
+        expect(sorted(found[source]), wanted, f"what is planted in {source}")
+
+
+def try_layout(draw, room, lines, allow_incomplete):
+    """Audits these lines: from standard input, in files with one document a line, or each in a file of its own. Returns how
+    many vectors were found."""
+    options = ["--allow-incomplete"] if allow_incomplete else []
+    layout = draw.choice(("standard input", "file", "files", "each"))
+    names = ["standard input"]
+    if layout == "each":
+        lines = [line for line in lines if line[1] is not None]
+        files = {f"{number}.json": [line] for number, line in enumerate(lines)}
+    else:
+        names = hostile.NAMES[:1 if layout != "files" else 3]
+        starts = [0, *sorted(draw.randrange(len(lines)) for _ in names[1:]), len(lines)]
+        files = {name: lines[start:end] for name, start, end in zip(names, starts, starts[1:])}
+    wanted, status, by_source = [], 0, {}
+    for name, own in files.items():
+        if layout == "each":
+            data = own[0][0] if draw.random() < 0.3 else json.dumps(json.loads(own[0][0]), indent=draw.choice((1, "\t", "\r"))).encode()
+        else:
+            data = b"".join(text + draw.choice((b"\n", b"\n", b"\r\n")) for text, _ in own)
+        (room / name).write_bytes(data)
+        of_file = name if len(files) > 1 else None
+        is_read_by_line = True if layout == "standard input" else documents.is_by_line(data)
+        own_status, answers = answer_file(data, allow_incomplete, of_file, is_read_by_line)
+        wanted += answers
+        status |= own_status
+        for number, (_, found) in enumerate(own, 1):
+            if found is not None and (is_read_by_line or layout == "each"):
+                by_source[of_file, number if is_read_by_line else None] = found
+    if layout == "standard input":
+        actual = audit(*options, given=data)
+    else:
+        actual = audit(*options, *files, cwd=room)
+    if actual != (status, wanted):
+        here, there = next((pair for pair in zip(actual[1], wanted) if pair[0] != pair[1]), (len(actual[1]), len(wanted)))
+        sys.exit(f"cvss audit, {layout}: {actual[0]}, {here}\nand not\n{status}, {there}")
+    expect_planted(actual[1], by_source)
+    return len(wanted)
+
+
+def compare_planted(count, seed):
+    draw = random.Random(seed)
+    tried = vectors = 0
+    with tempfile.TemporaryDirectory() as folder:
+        while tried < count:
+            lines = lines_of_documents(draw, min(500, count - tried))
+            vectors += try_layout(draw, Path(folder), lines, draw.random() < 0.3)
+            tried += sum(found is not None for _, found in lines)
+    print(f"{tried} documents in the forms of {len(planted.FORMS)} tools (seed {seed}) with {vectors} vectors: all that is planted is found,"
+          " and nothing else")
 
 
 class Drawing:
@@ -145,7 +234,7 @@ class Drawing:
 
     def known(self, text):
         try:
-            return documents.Vector(text) if isinstance(text, str) else None
+            return documents.vector_of(text) if isinstance(text, str) else None
         except documents.reference.Refused:
             return None
 
@@ -231,6 +320,7 @@ def main():
     seed = int(sys.argv[2]) if len(sys.argv) > 2 else random.randrange(10**6)
     try_stored()
     try_layouts()
+    compare_planted(count, seed)
     compare_drawn(count, seed)
 
 

@@ -1,12 +1,10 @@
 #!/usr/bin/env python3
-"""Tries the built command `cvss` from outside: its arguments, vectors and files in one run, its hints, rows and
-completion, and drawn lines beside reference/complete.py.
+"""Tries the built command `cvss` from outside: its arguments, vectors and files in one run, its hints, streams that are
+full, and its completion.
 
-usage: bench/checks/command.py [COUNT [SEED]]
+usage: bench/checks/command.py
 """
-import json
 import os
-import random
 import re
 import subprocess
 import sys
@@ -14,12 +12,6 @@ import tempfile
 from pathlib import Path
 
 ROOT = Path(__file__).resolve().parents[2]
-sys.path[:0] = [str(ROOT / "reference"), str(ROOT / "bench/inputs")]
-
-import complete
-import lines
-import rows
-
 PROGRAM = ROOT / "crates/cvss_command/out/cvss_command"
 V2 = b"AV:N/AC:L/Au:N/C:N/I:N/A:C"
 V2_ANSWER = V2 + b" 7.8 high\n"
@@ -128,53 +120,13 @@ def try_help(room):
     assert done.returncode == 0, done.returncode
 
 
-def try_lines(count, seed):
-    """Drawn lines beside the second implementation, by each task."""
-    draw = random.Random(seed)
-    drawn = [lines.line(draw, "all", draw.choice(("base", "full", "any", "refused", "refused"))).encode() for _ in range(count)]
-    given = b"".join(line + b"\n" for line in drawn)
-    tasks = [(["score"], {}), (["score", "--allow-incomplete"], {"allow_incomplete": True})]
-    for metrics in (["E:U"], ["E:A", "MAV:L"], ["c:h", "i:H", "A:N"], ["RL:OF"], ["MSI:S", "CR:H", "CR:L"], ["Q"], ["S:C/PR:L"]):
-        tasks.append((["set", *metrics], {"metrics": "/".join(metrics).encode()}))
-    for arguments, asked in tasks:
-        answers = [complete.answer(line, **asked) for line in drawn]
-        status = int(any(answer.startswith("error: ") for answer in answers))
-        expect(status, "".join(answer + "\n" for answer in answers).encode(), b"", *arguments, given=given)
-    return count * len(tasks)
-
-
-def compare_rows(form, actual, expected):
-    """JSON is compared as members and values, in order, since it may escape a byte in several ways."""
-    if form == "json":
-        actual, expected = ([json.loads(line, object_pairs_hook=list) for line in text.splitlines()] for text in (actual, expected))
-    assert actual == expected, next(pair for pair in zip(actual.splitlines() if form == "tsv" else actual, expected.splitlines() if form == "tsv" else expected) if pair[0] != pair[1])
-
-
-def try_rows(room, count, seed):
-    """Rows of drawn lines beside reference/rows.py, from standard input and from two files."""
-    draw = random.Random(seed)
-    odd = [b"", b"a\tb\\c\rd:e/f", b'x:"\x01\x1f\x7f/AV:N', b"\xff\t\\", "AV:\u00e9/AC:L".encode(), CUT]
-    drawn = odd + [lines.line(draw, "all", draw.choice(("base", "full", "any", "refused"))).encode() for _ in range(count)]
-    given = b"".join(line + b"\n" for line in drawn)
-    (room / "one").write_bytes(given)
-    odd_name = 'two\t"'
-    (room / odd_name).write_bytes(V2)
-    header = "\t".join(rows.COLUMNS).encode() + b"\n"
-    for form in ("tsv", "json"):
-        for allow in ((), ("--allow-incomplete",)):
-            done = subprocess.run([PROGRAM, "score", f"--{form}", *allow], input=given, capture_output=True, check=False)
-            expected = b"".join(rows.row(form, line, bool(allow)) + b"\n" for line in drawn)
-            assert done.returncode == 1 and not done.stderr, done
-            compare_rows(form, done.stdout, (header if form == "tsv" else b"") + expected)
-        both = b"".join(rows.row(form, line, file=name) + b"\n"
-                        for name, of in ((b"one", drawn), (odd_name.encode(), [V2])) for line in of)
-        done = subprocess.run([PROGRAM, "score", f"--{form}", "one", odd_name], cwd=room, capture_output=True, check=False)
-        compare_rows(form, done.stdout, (b"file\t" + header if form == "tsv" else b"") + both)
+def try_header(room):
+    """The head of the columns where no line follows it."""
+    header = b"given\tvector\tversion\tbase\ttemporal\tenvironmental\tscore\tseverity\tnomenclature\terror\n"
     with open("/dev/full", "wb") as device:
         expect(2, b"", b"cvss: standard output: No space left on device (os error 28)\n", "score", "--tsv", V2, stdout=device)
     expect(2, header, b"cvss: gone" + NO_FILE, "score", "--tsv", "gone", cwd=room)
     expect(0, header, b"", "score", "--tsv")
-    return 4 * len(drawn)
 
 
 def try_completion():
@@ -194,7 +146,6 @@ def try_completion():
 
 
 def main():
-    count = int(sys.argv[1]) if len(sys.argv) > 1 else 2_000
     with tempfile.TemporaryDirectory() as folder:
         room = Path(folder)
         try_arguments()
@@ -202,12 +153,9 @@ def main():
         try_notes()
         try_operands(room)
         try_help(room)
-        seed = int(sys.argv[2]) if len(sys.argv) > 2 else 2
-        in_rows = try_rows(room, count, seed)
+        try_header(room)
     try_completion()
-    answers = try_lines(count, seed)
-    print(f"cvss: {tried} runs end as they should; {answers} answers are those of reference/complete.py, {in_rows} rows those of"
-          " reference/rows.py")
+    print(f"cvss: {tried} runs end as they should")
 
 
 if __name__ == "__main__":

@@ -1,17 +1,19 @@
 #!/usr/bin/env python3
 """Compares what `cvss explain` writes, as JSON, as text and with --what-if, with accounts.py, explained.py and what_if.py.
 
-The lines are random: vectors with each metric, vectors in any order and case, and rejected ones; with
-`whole` also all vectors with base metrics alone, of each version. A number has at most seven decimals
-and is exact if the exact number has no more; otherwise it is less than 10^-6 from it.
+The lines are random: vectors with each metric, vectors in any order and case, rejected ones and lines that are almost
+vectors, in files; with `whole` also all vectors with base metrics alone, of each version. A number has at most seven
+decimals and is exact if the exact number has no more; otherwise it is less than 10^-6 from it. WHAT_IF is how many lines
+are answered with --what-if.
 
-usage: bench/checks/compare_explained.py [whole] [COUNT [SEED]]
+usage: bench/checks/compare_explained.py [whole] [COUNT [SEED [WHAT_IF]]]
 """
 import json
 import random
 import re
 import subprocess
 import sys
+import tempfile
 from fractions import Fraction
 from pathlib import Path
 
@@ -21,11 +23,14 @@ sys.path[:0] = [str(ROOT / "reference"), str(ROOT / "bench/inputs")]
 import accounts
 import complete
 import explained
+import hostile
 import lines
+import reference
 import what_if
 import whole_sets
 
-COMMAND = [ROOT / "crates/cvss_command/out/cvss_command", "explain", "--allow-incomplete"]
+COMMAND = [ROOT / "crates/cvss_command/out/cvss_command", "explain"]
+ALLOW = "--allow-incomplete"
 CLOSE = Fraction(1, 1_000_000)
 AT_ONCE = 20_000
 
@@ -66,28 +71,33 @@ def is_as_written(line):
     return again == line
 
 
-def run(given, *options):
-    """What the command writes for lines, and its status."""
-    data = "".join(f"{line}\n" for line in given).encode("utf-8")
-    done = subprocess.run([*COMMAND, *options], input=data, capture_output=True, check=False)
+def run(given, end, *options, room=None):
+    """The lines of some files, or of standard input if there is one without a name, each with its number, and the answer of
+    the command, which an end follows; and its status."""
+    data = given.get("-", b"")
+    done = subprocess.run([*COMMAND, *options, *given], input=data, cwd=room, capture_output=True, check=False)
     if done.stderr:
         sys.exit(f"cvss explain: {done.stderr!r}")
-    return done.stdout.decode("utf-8"), done.returncode
+    read = [(f"{name}:" if len(given) > 1 else "", number, line) for name, content in given.items()
+            for number, line in enumerate(reference.lines_of(content), 1)]
+    answers = done.stdout.decode("utf-8").split(end)
+    if answers.pop() != "" or len(answers) != len(read):
+        sys.exit(f"cvss explain {options} answers {len(answers)} of {len(read)} lines")
+    if not all(answer.startswith(front) for (front, _, _), answer in zip(read, answers)):
+        sys.exit(f"cvss explain {options}: an answer without the name of its file")
+    return [(number, line, answer.removeprefix(front)) for (front, number, line), answer in zip(read, answers)], done.returncode
 
 
-def compare_json(given):
+def compare_json(given, *options, room=None):
     """Ends if an object is another than that of accounts.py, or the status is."""
-    out, status = run(given, "--json")
-    answers = out.splitlines()
-    if len(answers) != len(given):
-        sys.exit(f"cvss explain --json answers {len(answers)} of {len(given)} lines")
+    answers, status = run(given, "\n", "--json", *options, room=room)
     refused = False
-    for number, (line, text) in enumerate(zip(answers, given), 1):
-        expected = accounts.answer(number, text.encode("utf-8"))
+    for number, line, answer in answers:
+        expected = accounts.answer(number, line, ALLOW in options)
         refused = refused or "refused" in expected
-        found = difference(json.loads(line, parse_float=Fraction), expected)
-        if found or not is_as_written(line):
-            sys.exit(f"{text}: {found or line}")
+        found = difference(json.loads(answer, parse_float=Fraction), expected)
+        if found or not is_as_written(answer):
+            sys.exit(f"{line[:500]}: {found or answer}")
     if status != int(refused):
         sys.exit(f"cvss explain --json: status {status}")
 
@@ -102,57 +112,75 @@ def is_line(actual, expected):
     return found is not None and all(is_number(Fraction(own), exact) for own, exact in zip(found.groups(), numbers))
 
 
-def compare_text(given):
+def compare_text(given, *options, room=None):
     """Ends if a text is another than that of explained.py, or the status is."""
-    out, status = run(given)
-    answers = out.split("\n\n")
-    if answers.pop() != "" or len(answers) != len(given):
-        sys.exit(f"cvss explain answers {len(answers)} of {len(given)} lines")
+    answers, status = run(given, "\n\n", *options, room=room)
     refused = False
-    for text, answer in zip(given, answers):
-        expected = explained.answer(text.encode("utf-8"))
+    for _, line, answer in answers:
+        expected = explained.answer(line, ALLOW in options)
         refused = refused or expected[0][0].startswith("error: ")
         written = answer.split("\n")
         if len(written) != len(expected) or not all(map(is_line, written, expected)):
-            sys.exit(f"{text}: {answer}\nand not\n{explained.written(expected)}")
+            sys.exit(f"{line[:500]}: {answer}\nand not\n{explained.written(expected)}")
     if status != int(refused):
         sys.exit(f"cvss explain: status {status}")
 
 
-def compare_what_if(given):
+def scores_in(rows):
+    """The scores in tenths by metric and value that rows have, and the values that are marked; a text if a row is wrong."""
+    scores, marked = {}, {}
+    for row in rows:
+        if not re.fullmatch(r"  [A-Za-z]+ *(  [ *][A-Za-z]+ \d+\.\d)+", row):
+            return row
+        name, *cells = row.split()
+        values = cells[::2]
+        scores[name] = {value.lstrip("*"): int(score.replace(".", "")) for value, score in zip(values, cells[1::2])}
+        marked[name] = "".join(value[1:] for value in values if value.startswith("*"))
+    return scores, marked
+
+
+def compare_what_if(given, *options, room=None):
     """Ends if the scores that other values would give are others than those of what_if.py."""
-    out, status = run(given, "--what-if")
-    answers = out.split("\n\n")
-    if answers.pop() != "" or len(answers) != len(given) or status != 0:
-        sys.exit(f"cvss explain --what-if: status {status}, and {len(answers)} answers to {len(given)} lines")
-    for text, answer in zip(given, answers):
+    answers, status = run(given, "\n\n", "--what-if", *options, room=room)
+    refused = False
+    for _, line, answer in answers:
         heading, *rows = answer.split("\n")
-        if heading != complete.answer(text.encode("utf-8"), allow_incomplete=True):
-            sys.exit(f"{text}: {heading}")
-        actual, marked = {}, {}
-        for row in rows:
-            if not re.fullmatch(r"  [A-Za-z]+ *(  [ *][A-Za-z]+ \d+\.\d)+", row):
-                sys.exit(f"{text}: {row}")
-            name, *cells = row.split()
-            values, scores = cells[::2], cells[1::2]
-            actual[name] = {value.lstrip("*"): int(score.replace(".", "")) for value, score in zip(values, scores)}
-            marked[name] = "".join(value[1:] for value in values if value.startswith("*"))
-        if (actual, marked) != what_if.scores(text.encode("utf-8")):
-            sys.exit(f"{text}: {answer}\nand not\n{what_if.scores(text.encode('utf-8'))}")
-    print(f"cvss explain --what-if: {len(given)} vectors, with the scores of what_if.py")
+        expected = complete.answer(line, allow_incomplete=ALLOW in options)
+        is_refused = expected.startswith("error: ")
+        scores = ({}, {}) if is_refused else what_if.scores(line)
+        if heading != expected or scores_in(rows) != scores:
+            sys.exit(f"{line[:500]}: {answer}\nand not {expected}\n{scores}")
+        refused = refused or is_refused
+    if status != int(refused):
+        sys.exit(f"cvss explain --what-if: status {status}")
 
 
 def compare_all(name, given):
     for start in range(0, len(given), AT_ONCE):
-        compare_json(given[start:start + AT_ONCE])
-        compare_text(given[start:start + AT_ONCE])
+        data = {"-": "".join(f"{line}\n" for line in given[start:start + AT_ONCE]).encode()}
+        compare_json(data, ALLOW)
+        compare_text(data, ALLOW)
     print(f"cvss explain: {len(given)} {name}, explained as accounts.py and explained.py do")
+
+
+def compare_files(draw, count, *compare):
+    """Compares over files of so many lines, of which many are almost vectors; returns how many there are."""
+    tried = 0
+    with tempfile.TemporaryDirectory() as folder:
+        room = Path(folder)
+        while tried < count:
+            given = hostile.files(draw, room, min(AT_ONCE // 10, count - tried))
+            options = [ALLOW] if draw.random() < 0.5 else []
+            for each in compare:
+                each(given, *options, room=room)
+            tried += sum(len(reference.lines_of(data)) for data in given.values())
+    return tried
 
 
 def try_stored():
     """The objects that answer stored lines, whose bytes are checked too."""
     given, answers = ((ROOT / "bench/stored" / name).read_bytes() for name in ("explain.lines", "explain.answers"))
-    done = subprocess.run([*COMMAND, "--json"], input=given, capture_output=True, check=False)
+    done = subprocess.run([*COMMAND, ALLOW, "--json"], input=given, capture_output=True, check=False)
     if (done.returncode, done.stdout, done.stderr) != (1, answers, b""):
         sys.exit(f"cvss explain --json: the answers to bench/stored/explain.lines are {done}")
 
@@ -172,10 +200,10 @@ def main():
     compare_all("drawn vectors with each metric",
                 [lines.line(draw, "all", "every") for _ in range(count)])
     compare_all("drawn vectors of v4.0", [lines.line(draw, "v4", "full") for _ in range(count)])
-    compare_all("drawn lines, some refused",
-                [lines.line(draw, "all", draw.choice(("full", "any", "refused", "mixed")))
-                 for _ in range(count // 5)])
-    compare_what_if([lines.line(draw, "all", draw.choice(("base", "full", "every"))) for _ in range(max(count // 20, 1))])
+    tried = compare_files(draw, count // 5, compare_json, compare_text)
+    print(f"cvss explain: {tried} drawn lines in files, some rejected, explained as accounts.py and explained.py do")
+    tried = compare_files(draw, int(arguments[2]) if len(arguments) > 2 else count // 20, compare_what_if)
+    print(f"cvss explain --what-if: {tried} drawn lines in files, some rejected, with the scores of what_if.py")
 
 
 if __name__ == "__main__":

@@ -1,9 +1,11 @@
 #!/usr/bin/env python3
-"""Compares what the built `cvss find` writes with finding.py, over random texts: lines, annotated lines and objects.
+"""Compares what the built `cvss find` writes with finding.py, over random texts and lines that are almost vectors, in files
+and on standard input: lines, annotated lines and objects.
 
 usage: bench/checks/compare_found.py [COUNT [SEED]]
 """
 import json
+import random
 import subprocess
 import sys
 import tempfile
@@ -13,6 +15,7 @@ ROOT = Path(__file__).resolve().parents[2]
 sys.path[:0] = [str(ROOT / "reference"), str(ROOT / "bench/inputs")]
 
 import finding
+import hostile
 import reference
 import texts
 
@@ -29,6 +32,7 @@ COMPONENT = "error: invalid CVSS metric group component: "
 MISSING = "error: missing mandatory CVSSv3 UI (User Interaction) metric"
 CUT = b"CVSS:3.1/AV:N/AC:L/PR:N"
 HINT = b"cvss: hint: write the prefix of a vector as `CVSS:3.1/`\n"
+AT_ONCE = 5_000
 SCORES = ("base", "temporal", "environmental", "score")
 CASES = [
     (b"score 9.8 (" + V3 + b").", [(12, V3_ANSWER)]),
@@ -62,6 +66,22 @@ def run(given, *arguments):
     return subprocess.run([PROGRAM, "find", *arguments], input=given, capture_output=True, check=False)
 
 
+def run_over(room, written, *arguments):
+    """What the program writes about these files, or about standard input."""
+    return subprocess.run([PROGRAM, "find", *arguments, *written], input=written.get("-", b""), cwd=room, capture_output=True,
+                          check=False)
+
+
+def lines_of(written):
+    """Each line of the files with its number, and with the name of its file if there are several."""
+    return [(name if len(written) > 1 else None, number, line) for name, content in written.items()
+            for number, line in enumerate(reference.lines_of(content), 1)]
+
+
+def fronted(name, answer):
+    return (b"" if name is None else name.encode() + b":") + answer
+
+
 def try_stored():
     """The answers to stored lines."""
     lines, answers = ((ROOT / "bench/stored" / name).read_bytes() for name in ("find.lines", "find.answers"))
@@ -78,45 +98,46 @@ def try_cases():
             sys.exit(f"cvss find: {text}: {actual}, finding.py {list(finding.answers(text))}, and not {expected}")
 
 
-def compare(given, *arguments):
-    """Ends if the program writes something else, or has another status; otherwise returns the answers."""
-    expected = list(finding.answers(given, bool(arguments)))
-    done = run(given, *arguments)
-    actual = done.stdout.decode("utf-8").splitlines(keepends=True)
+def compare(room, written, *arguments):
+    """Ends if the program writes something else, or has another status; otherwise returns how many answers there are."""
+    answers = [(name, number, place, answer) for name, number, line in lines_of(written)
+               for place, answer in finding.reported(line, bool(arguments))]
+    expected = [fronted(name, f"{number}:{place + 1} {answer}".encode()) for name, number, place, answer in answers]
+    done = run_over(room, written, *arguments)
+    actual = done.stdout.split(b"\n")[:-1]
     for here, there in zip(actual, expected):
         if here != there:
             sys.exit(f"cvss find writes {here!r}, and not {there!r}")
-    if not expected:
-        sys.exit("the drawn texts have no vector: nothing was tried")
     if len(actual) != len(expected):
         sys.exit(f"cvss find writes {len(actual)} lines, and not {len(expected)}")
-    rejected = any(answer.split(" ", 1)[1].startswith("error: ") for answer in expected)
+    rejected = any(answer.startswith("error: ") for *_, answer in answers)
     if done.returncode != int(rejected) or not is_hint(done.stderr):
         sys.exit(f"cvss find: status {done.returncode}, standard error {done.stderr!r}")
     return len(expected)
 
 
-def try_annotated(lines, given):
+def try_annotated(room, written):
     """Each line is repeated, with the answer of its first match or of each."""
+    lines = lines_of(written)
     for arguments in ((), ("--all",), ("--allow-incomplete",), ("--all", "--allow-incomplete")):
-        expected = [finding.annotated(line, "--all" in arguments, "--allow-incomplete" in arguments) for line in lines]
-        done = run(given, "--annotate", *arguments)
+        expected = [finding.annotated(line, "--all" in arguments, "--allow-incomplete" in arguments) for *_, line in lines]
+        done = run_over(room, written, "--annotate", *arguments)
         actual = done.stdout.split(b"\n")
         assert actual.pop() == b"" and len(actual) == len(lines), f"{len(actual)} lines, and not {len(lines)}"
-        for here, there in zip(actual, expected):
-            assert here == there, f"cvss find --annotate {arguments} writes {here!r}, and not {there!r}"
-        rejected = any(b"\terror: " in line[len(text):] for line, text in zip(expected, lines))
+        for (name, *_), here, there in zip(lines, actual, expected):
+            assert here == fronted(name, there), f"cvss find --annotate {arguments} writes {here!r}, and not {there!r}"
+        rejected = any(b"\terror: " in answer[len(line):] for answer, (*_, line) in zip(expected, lines))
         assert done.returncode == int(rejected), done.returncode
         assert is_hint(done.stderr), done.stderr
 
 
-def try_objects(lines, given):
+def try_objects(room, written):
     """Each match is an object, whose members are compared in their order."""
     for arguments in ((), ("--allow-incomplete",), ("--all", "--annotate")):
         expected = [{name: value / 10 if name in SCORES and value is not None else value for name, value in found.items()}
-                    for number, line in enumerate(lines, 1)
-                    for found in finding.objects(number, line, "--allow-incomplete" in arguments)]
-        done = run(given, "--json", *arguments)
+                    for file, number, line in lines_of(written)
+                    for found in finding.objects(number, line, "--allow-incomplete" in arguments, file)]
+        done = run_over(room, written, "--json", *arguments)
         actual = [json.loads(line, object_pairs_hook=list) for line in done.stdout.splitlines()]
         for found in expected:
             found["text"] = found["text"].decode("ascii")
@@ -125,6 +146,10 @@ def try_objects(lines, given):
             assert here == list(there.items()), f"cvss find --json writes {here!r}, and not {there!r}"
         assert done.returncode == int(any(found["error"] for found in expected)), done.returncode
         assert is_hint(done.stderr), done.stderr
+
+
+def line(draw):
+    return draw.choice((texts.text, hostile.line))(draw).replace(b"\n", b" ")
 
 
 def is_hint(error):
@@ -160,17 +185,20 @@ def main():
     count = int(sys.argv[1]) if len(sys.argv) > 1 else 5_000
     try_stored()
     try_cases()
-    drawn = texts.drawn(count, int(sys.argv[2]) if len(sys.argv) > 2 else 2)
-    # the last line has no end, and each tenth ends with a carriage return too
-    ends = (b"\r\n" if number % 10 == 9 else b"\n" for number in range(count - 1))
-    given = b"".join(line for pair in zip(drawn, [*ends, b""]) for line in pair)
-    answered = compare(given) + compare(given, "--allow-incomplete")
-    read = list(reference.lines_of(given))
-    try_annotated(read, given)
-    try_objects(read, given)
+    draw = random.Random(int(sys.argv[2]) if len(sys.argv) > 2 else 2)
+    drawn = answered = 0
+    with tempfile.TemporaryDirectory() as folder:
+        room = Path(folder)
+        while drawn < count:
+            written = hostile.files(draw, room, min(AT_ONCE, count - drawn), line)
+            answered += compare(room, written) + compare(room, written, "--allow-incomplete")
+            try_annotated(room, written)
+            try_objects(room, written)
+            drawn += len(lines_of(written))
+    assert answered > drawn / 4, f"the drawn lines have {answered} vectors: that tries too little"
     try_hints()
     try_files()
-    print(f"cvss find: {len(CASES)} texts, and {count} drawn ones with {answered} answers, which are those of finding.py")
+    print(f"cvss find: {len(CASES)} texts, and {drawn} drawn lines with {answered} answers, which are those of finding.py")
 
 
 if __name__ == "__main__":

@@ -1,8 +1,8 @@
 #!/usr/bin/env python3
 """Compares what the built `cvss triage` writes with ranking.py, over drawn lists.
 
-A list has lines of all versions with ids before or after the vector, and some lines without a vector, with several or
-with a rejected one; it is split over files, or comes from standard input. Metrics are set by words and by profiles in any
+A list has lines of all versions with ids before or after the vector, and some lines without a vector, with several, with
+a rejected one or of any bytes; it is split over files, or comes from standard input. Metrics are set by words and by profiles in any
 order, some of which no version has.
 
 usage: bench/checks/compare_ranked.py [COUNT [SEED]]
@@ -16,6 +16,7 @@ from pathlib import Path
 ROOT = Path(__file__).resolve().parents[2]
 sys.path[:0] = [str(ROOT / "reference"), str(ROOT / "bench/inputs")]
 
+import hostile
 import lines
 import ranking
 import texts
@@ -76,7 +77,7 @@ def expect(arguments, given, wanted):
 def line(draw, rejected):
     """A line with an id, of which some have no row."""
     if draw.random() < rejected:
-        return texts.text(draw).replace(b"\n", b"")
+        return draw.choice((texts.text, hostile.line))(draw).replace(b"\n", b"")
     text = lines.line(draw, "all", draw.choice(("base", "full", "any")))
     name = draw.choice(IDS) % draw.randrange(100_000)
     return draw.choice((f"{name} {text}", f"{text} {name}", f"{name} ({text}).", text)).encode()
