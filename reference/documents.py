@@ -287,8 +287,8 @@ def nests_too_deep(text):
 
 
 def parsed(text):
-    """The document that a text is, in which no text has half of a surrogate pair (RFC 8259, 8.2) and each number is in the
-    range of a double (6)."""
+    """The document that a text is, in which no text has half of a surrogate pair (RFC 8259, 8.2) and each number is in
+    the range of a double (6)."""
     try:
         document = json.loads(text, parse_constant=no_constant, parse_float=double, parse_int=integer)
     except RecursionError:

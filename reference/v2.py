@@ -107,7 +107,8 @@ def base_scores(values):
 
 def scores(vector):
     """The published base, temporal and environmental score, in tenths."""
-    own, adjusted = base_scores(tuple((name, value) for name, value in vector.items() if name in (*MANDATORY, "CR", "IR", "AR")))
+    of_base = (*MANDATORY, "CR", "IR", "AR")
+    own, adjusted = base_scores(tuple((name, value) for name, value in vector.items() if name in of_base))
     environmental = tenths(environmental_number(vector, temporal_of(adjusted, vector)))
     return [max(0, score) for score in (own, temporal_of(own, vector), environmental)]
 

@@ -20,8 +20,9 @@ METRICS = {20: v2.METRICS, 30: v3.METRICS, 31: v3.METRICS, 40: v4.METRICS}
 
 
 def scores(line):
-    """The tenths of the overall score for each metric's values, and for each metric the value that the vector has; a
-    metric that it lacks is not defined, except a base metric, which has no such value (v3.1 specification, table 15)."""
+    """The tenths of the overall score for each metric's values, and for each metric the value that the vector has. A
+    metric that it lacks is not defined, except a base metric, which has no such value (v3.1 specification, section 6,
+    table 15)."""
     version, vector = setting.read(reference.text_of(line))
     metrics = METRICS[version]
     changed = {name: {value: ranking.overall(version, {**vector, name: value})[0] for value in values}

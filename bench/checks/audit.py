@@ -116,7 +116,8 @@ def answer_file(data, allow_incomplete=False, of_file=None, by_line=None):
 def damaged(draw, line):
     """A document that probably is none any more."""
     at = draw.randrange(len(line))
-    other = draw.choice((b"", line[at:at + 1] * 2, bytes([draw.randrange(256)]), draw.choice((b"e", b"0", b"-", b",", b'"', b"\\", b"]", b"1e999", b"\xff"))))
+    mark = draw.choice((b"e", b"0", b"-", b",", b'"', b"\\", b"]", b"1e999", b"\xff"))
+    other = draw.choice((b"", line[at:at + 1] * 2, bytes([draw.randrange(256)]), mark))
     return (line[:at] + other + line[at + draw.choice((0, 1)):]).replace(b"\n", b" ")
 
 
@@ -147,8 +148,8 @@ def expect_planted(answers, documents_by_source):
 
 
 def try_layout(draw, room, lines, allow_incomplete):
-    """Audits these lines: from standard input, in files with one document a line, or each in a file of its own. Returns how
-    many vectors were found."""
+    """Audits these lines: from standard input, in files with one document a line, or each in a file of its own. Returns
+    how many vectors were found."""
     options = ["--allow-incomplete"] if allow_incomplete else []
     layout = draw.choice(("standard input", "file", "files", "each"))
     names = ["standard input"]
@@ -162,7 +163,9 @@ def try_layout(draw, room, lines, allow_incomplete):
     wanted, status, by_source = [], 0, {}
     for name, own in files.items():
         if layout == "each":
-            data = own[0][0] if draw.random() < 0.3 else json.dumps(json.loads(own[0][0]), indent=draw.choice((1, "\t", "\r"))).encode()
+            data = own[0][0]
+            if draw.random() < 0.7:
+                data = json.dumps(json.loads(data), indent=draw.choice((1, "\t", "\r"))).encode()
         else:
             data = b"".join(text + draw.choice((b"\n", b"\n", b"\r\n")) for text, _ in own)
         (room / name).write_bytes(data)
@@ -179,7 +182,8 @@ def try_layout(draw, room, lines, allow_incomplete):
     else:
         actual = audit(*options, *files, cwd=room)
     if actual != (status, wanted):
-        here, there = next((pair for pair in zip(actual[1], wanted) if pair[0] != pair[1]), (len(actual[1]), len(wanted)))
+        pairs = zip(actual[1], wanted)
+        here, there = next((pair for pair in pairs if pair[0] != pair[1]), (len(actual[1]), len(wanted)))
         sys.exit(f"cvss audit, {layout}: {actual[0]}, {here}\nand not\n{status}, {there}")
     expect_planted(actual[1], by_source)
     return len(wanted)
@@ -193,8 +197,8 @@ def compare_planted(count, seed):
             lines = lines_of_documents(draw, min(500, count - tried))
             vectors += try_layout(draw, Path(folder), lines, draw.random() < 0.3)
             tried += sum(found is not None for _, found in lines)
-    print(f"{tried} documents in the forms of {len(planted.FORMS)} tools (seed {seed}) with {vectors} vectors: all that is planted is found,"
-          " and nothing else")
+    print(f"{tried} documents in the forms of {len(planted.FORMS)} tools (seed {seed}) with {vectors} vectors: all that"
+          " is planted is found, and nothing else")
 
 
 class Drawing:

@@ -3,8 +3,8 @@
 
 The lines are random: vectors with each metric, vectors in any order and case, rejected ones and lines that are almost
 vectors, in files; with `whole` also all vectors with base metrics alone, of each version. A number has at most seven
-decimals and is exact if the exact number has no more; otherwise it is less than 10^-6 from it. WHAT_IF is how many lines
-are answered with --what-if.
+decimals and is exact if the exact number has no more; otherwise it is less than 10^-6 from it. WHAT_IF is how many
+lines are answered with --what-if.
 
 usage: bench/checks/compare_explained.py [whole] [COUNT [SEED [WHAT_IF]]]
 """
@@ -72,8 +72,8 @@ def is_as_written(line):
 
 
 def run(given, end, *options, room=None):
-    """The lines of some files, or of standard input if there is one without a name, each with its number, and the answer of
-    the command, which an end follows; and its status."""
+    """The number, the line and the answer for each line of the files or of standard input, where an end follows each
+    answer; and the status."""
     data = given.get("-", b"")
     done = subprocess.run([*COMMAND, *options, *given], input=data, cwd=room, capture_output=True, check=False)
     if done.stderr:
@@ -85,7 +85,8 @@ def run(given, end, *options, room=None):
         sys.exit(f"cvss explain {options} answers {len(answers)} of {len(read)} lines")
     if not all(answer.startswith(front) for (front, _, _), answer in zip(read, answers)):
         sys.exit(f"cvss explain {options}: an answer without the name of its file")
-    return [(number, line, answer.removeprefix(front)) for (front, number, line), answer in zip(read, answers)], done.returncode
+    answered = [(number, line, answer.removeprefix(front)) for (front, number, line), answer in zip(read, answers)]
+    return answered, done.returncode
 
 
 def compare_json(given, *options, room=None):
@@ -127,7 +128,7 @@ def compare_text(given, *options, room=None):
 
 
 def scores_in(rows):
-    """The scores in tenths by metric and value that rows have, and the values that are marked; a text if a row is wrong."""
+    """The scores in tenths by metric and value that rows have, and the values that are marked; a wrong row, if any."""
     scores, marked = {}, {}
     for row in rows:
         if not re.fullmatch(r"  [A-Za-z]+ *(  [ *][A-Za-z]+ \d+\.\d)+", row):

@@ -1,6 +1,6 @@
 #!/usr/bin/env python3
-"""Compares what the built `cvss find` writes with finding.py, over random texts and lines that are almost vectors, in files
-and on standard input: lines, annotated lines and objects.
+"""Compares what the built `cvss find` writes with finding.py, over random texts and lines that are almost vectors, in
+files and on standard input: lines, annotated lines and objects.
 
 usage: bench/checks/compare_found.py [COUNT [SEED]]
 """
@@ -68,8 +68,8 @@ def run(given, *arguments):
 
 def run_over(room, written, *arguments):
     """What the program writes about these files, or about standard input."""
-    return subprocess.run([PROGRAM, "find", *arguments, *written], input=written.get("-", b""), cwd=room, capture_output=True,
-                          check=False)
+    words = [PROGRAM, "find", *arguments, *written]
+    return subprocess.run(words, input=written.get("-", b""), cwd=room, capture_output=True, check=False)
 
 
 def lines_of(written):
@@ -99,7 +99,7 @@ def try_cases():
 
 
 def compare(room, written, *arguments):
-    """Ends if the program writes something else, or has another status; otherwise returns how many answers there are."""
+    """Ends if the program writes something else or has another status; otherwise returns how many answers there are."""
     answers = [(name, number, place, answer) for name, number, line in lines_of(written)
                for place, answer in finding.reported(line, bool(arguments))]
     expected = [fronted(name, f"{number}:{place + 1} {answer}".encode()) for name, number, place, answer in answers]
@@ -120,7 +120,8 @@ def try_annotated(room, written):
     """Each line is repeated, with the answer of its first match or of each."""
     lines = lines_of(written)
     for arguments in ((), ("--all",), ("--allow-incomplete",), ("--all", "--allow-incomplete")):
-        expected = [finding.annotated(line, "--all" in arguments, "--allow-incomplete" in arguments) for *_, line in lines]
+        is_all, allow = "--all" in arguments, "--allow-incomplete" in arguments
+        expected = [finding.annotated(line, is_all, allow) for *_, line in lines]
         done = run_over(room, written, "--annotate", *arguments)
         actual = done.stdout.split(b"\n")
         assert actual.pop() == b"" and len(actual) == len(lines), f"{len(actual)} lines, and not {len(lines)}"
@@ -198,7 +199,8 @@ def main():
     assert answered > drawn / 4, f"the drawn lines have {answered} vectors: that tries too little"
     try_hints()
     try_files()
-    print(f"cvss find: {len(CASES)} texts, and {drawn} drawn lines with {answered} answers, which are those of finding.py")
+    print(f"cvss find: {len(CASES)} texts, and {drawn} drawn lines with {answered} answers, which are those of"
+          " finding.py")
 
 
 if __name__ == "__main__":

@@ -1,9 +1,9 @@
 #!/usr/bin/env python3
 """Compares what the built `cvss triage` writes with ranking.py, over drawn lists.
 
-A list has lines of all versions with ids before or after the vector, and some lines without a vector, with several, with
-a rejected one or of any bytes; it is split over files, or comes from standard input. Metrics are set by words and by profiles in any
-order, some of which no version has.
+A list has lines of all versions with ids before or after the vector, and some lines without a vector, with several,
+with a rejected one or of any bytes; it is split over files, or comes from standard input. Metrics are set by words and
+by profiles in any order, some of which no version has.
 
 usage: bench/checks/compare_ranked.py [COUNT [SEED]]
 """

@@ -1,7 +1,7 @@
 #!/usr/bin/env python3
-"""Compares what the built `cvss score` and `cvss set` write with complete.py and rows.py, over drawn lines, many of them
-almost vectors: as answers, columns and objects, with incomplete vectors and without, from standard input, a file, several
-files and words. The metrics to set are drawn too.
+"""Compares what the built `cvss score` and `cvss set` write with complete.py and rows.py, over drawn lines, many of
+them almost vectors: as answers, columns and objects, with incomplete vectors and without, from standard input, a file,
+several files and words. The metrics to set are drawn too.
 
 usage: bench/checks/compare_scored.py [COUNT [SEED]]
 """
@@ -27,14 +27,16 @@ HEADER = "\t".join(rows.COLUMNS).encode() + b"\n"
 CUT = b"CVSS:3.1/AV:N/AC:L/PR:N/UI:N/S:U/C:H"
 ODD = [b"", b"a\tb\\c\rd:e/f", b'x:"\x01\x1f\x7f/AV:N', b"\xff\t\\", "AV:\u00e9/AC:L".encode(), CUT]
 # Metrics by hand, and how drawn ones are made wrong.
-METRICS = (["E:U"], ["E:A", "MAV:L"], ["c:h", "i:H", "A:N"], ["RL:OF"], ["MSI:S", "CR:H", "CR:L"], ["Q"], ["S:C/PR:L"], ["E:U", ""])
+METRICS = (["E:U"], ["E:A", "MAV:L"], ["c:h", "i:H", "A:N"], ["RL:OF"], ["MSI:S", "CR:H", "CR:L"], ["Q"],
+           ["S:C/PR:L"], ["E:U", ""])
 WRONG = "", "x", ":", "E:", ":A", "E:Q", "E::U", "CVSS:3.1", "E:\u00dc", "/", "AV:N/", "e"
 AT_ONCE = 5_000
 
 
 def run(room, words, written):
     """What the program writes about these files, or about standard input."""
-    done = subprocess.run([PROGRAM, *words, *written], input=written.get("-", b""), cwd=room, capture_output=True, check=False)
+    done = subprocess.run([PROGRAM, *words, *written], input=written.get("-", b""), cwd=room, capture_output=True,
+                          check=False)
     if done.stderr:
         sys.exit(f"cvss {words}: {done.stderr[:300]}")
     return done
@@ -91,7 +93,8 @@ def metrics(draw):
     for _ in range(draw.choice((1, 1, 1, 2, 3, 6))):
         _, parts = lines.components(draw, draw.choice(list(lines.VERSIONS)), 1)
         word = "/".join(draw.sample(parts, draw.choice((1, 1, 1, 2))))
-        words.append(draw.choice((word, word, word, lines.in_some_case(draw, word), draw.choice(WRONG) if draw.random() < 0.3 else word)))
+        chance = draw.random()
+        words.append(draw.choice(WRONG) if chance < 0.06 else lines.in_some_case(draw, word) if chance < 0.25 else word)
     return words
 
 
@@ -147,10 +150,11 @@ def main():
         for own in METRICS:
             try_files(draw, room, 20, lambda *files, own=own: compare_set(*files, own))
         while set_lines < count:
-            set_lines += try_files(draw, room, draw.randrange(1, 200), lambda *files: compare_set(*files, metrics(draw)))
+            size = draw.randrange(1, 200)
+            set_lines += try_files(draw, room, size, lambda *files: compare_set(*files, metrics(draw)))
             sets += 1
-    print(f"cvss score: {scored} drawn lines in each form, and {of_words} words; cvss set: {set_lines} drawn lines, with {sets} drawn"
-          " settings: the answers are those of complete.py, the rows those of rows.py")
+    print(f"cvss score: {scored} drawn lines in each form, and {of_words} words; cvss set: {set_lines} drawn lines,"
+          f" with {sets} drawn settings: the answers are those of complete.py, the rows those of rows.py")
 
 
 if __name__ == "__main__":

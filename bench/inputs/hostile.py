@@ -2,8 +2,8 @@
 """Writes random lines of which many are almost vectors, and files of such lines.
 
 A line is a vector, valid or rejected, or is made from one: a byte of it is dropped, doubled or replaced by any other,
-its prefix is that of another version, it is cut off, in another case, among others or repeated into a long line; or it is
-empty, blank, or one of texts.py. The same seed gives the same lines.
+its prefix is that of another version, it is cut off, in another case, among others or repeated into a long line; or it
+is empty, blank, or one of texts.py. The same seed gives the same lines.
 
 usage: bench/inputs/hostile.py COUNT [SEED]
 """
@@ -14,10 +14,12 @@ import lines
 import texts
 
 KINDS = "base", "full", "every", "any", "refused"
-PREFIXES = ("", "CVSS:2.0/", "CVSS:3.0/", "CVSS:3.1/", "CVSS:4.0/", "CVSS:3.2/", "CVSS:4.1/", "CVSS:31/", "CVSS:3.10/", "CVSS:/", "cvss:3.1/",
-            "CVSS/", "CVSS:v3.1/", "CVSS:3.1//", "3.1/", "CVSS:CVSS:3.1/", "CVSS:\u0663.1/", "CVSS:3.1/CVSS:3.1/", "CVSS3.1/")
+PREFIXES = ("", "CVSS:2.0/", "CVSS:3.0/", "CVSS:3.1/", "CVSS:4.0/", "CVSS:3.2/", "CVSS:4.1/", "CVSS:31/", "CVSS:3.10/",
+            "CVSS:/", "cvss:3.1/", "CVSS/", "CVSS:v3.1/", "CVSS:3.1//", "3.1/", "CVSS:CVSS:3.1/", "CVSS:\u0663.1/",
+            "CVSS:3.1/CVSS:3.1/", "CVSS3.1/")
 BLANK = b"", b" ", b"\t", b"\r", b" \t ", b"/", b":", b"\0", b"\xef\xbb\xbf", b"\xff"
-AROUND = b" ", b"\t", b"\r", b"(", b")", b'"', b"\xc2\xa0", b"\xef\xbb\xbf", b"\xff", b".", b"/", b"\\", b"\x1b[1m", b"\0"
+AROUND = (b" ", b"\t", b"\r", b"(", b")", b'"', b"\xc2\xa0", b"\xef\xbb\xbf", b"\xff", b".", b"/", b"\\", b"\x1b[1m",
+          b"\0")
 JOINTS = b" ", b",", b"", b"/", b";", b"\t", b"\r", b"//", b"|", b"\xff"
 NAMES = "list", "with space", "\u00e9", 'quo"te', "tab\there", "back\\slash"
 LONG = 70_000
@@ -32,7 +34,8 @@ def mutated(draw):
     line = bytearray(vector(draw))
     for _ in range(draw.choice((1, 1, 1, 2, 5))):
         at = draw.randrange(len(line))
-        other = draw.choice((b"", bytes(line[at:at + 1] * 2), bytes([draw.randrange(256)]), draw.choice(b"/:.ACNHLX").to_bytes(1, "big")))
+        known, any_byte = bytes([draw.choice(b"/:.ACNHLX")]), bytes([draw.randrange(256)])
+        other = draw.choice((b"", bytes(line[at:at + 1] * 2), any_byte, known))
         line[at:at + 1] = other.replace(b"\n", b"\r")
         if not line:
             break
@@ -74,15 +77,17 @@ def long(draw):
     """A line that no buffer of a usual size holds, in one of fifty."""
     if draw.random() < 0.98:
         return vector(draw)
-    return draw.choice((lambda: vector(draw) * (LONG // 40), lambda: b"x" * LONG, lambda: vector(draw) + b" " * LONG,
-                        lambda: b"CVSS:3.1/" + b"E:X/" * (LONG // 4), lambda: b"AV:" + b"N" * LONG, lambda: b" " * LONG + vector(draw)))()
+    own = vector(draw)
+    return draw.choice((own * (LONG // 40), b"x" * LONG, own + b" " * LONG, b" " * LONG + own, b"AV:" + b"N" * LONG,
+                        b"CVSS:3.1/" + b"E:X/" * (LONG // 4)))
 
 
 def spread(draw):
     return draw.choice((draw.choice(BLANK), texts.text(draw).replace(b"\n", b" ")))
 
 
-MAKERS = vector, vector, vector, mutated, mutated, misfit, cut, incomplete, in_other_case, surrounded, several, long, spread
+MAKERS = (vector, vector, vector, mutated, mutated, misfit, cut, incomplete, in_other_case, surrounded, several, long,
+          spread)
 
 
 def line(draw):
@@ -97,8 +102,8 @@ def content(draw, given):
 
 
 def files(draw, room, count, make=line):
-    """Writes so many lines to files of a folder, and returns the contents of these by their names, which are operands; or one
-    content by a hyphen, for standard input."""
+    """Writes so many lines to files of a folder, and returns the contents of these by their names, which are operands;
+    or one content by a hyphen, for standard input."""
     names = draw.sample(NAMES, draw.choice((1, 1, 2, 3)))
     written = {}
     for left, name in zip(range(len(names), 0, -1), names):

@@ -1,9 +1,9 @@
 #!/usr/bin/env python3
 """Writes random JSON documents in the forms that tools write, one per line, with planted errors.
 
-Each says of its vectors what is right, by reference/documents.py, except for what is planted: a score, a rating or another
-member that is wrong, a member's name that says another version, a vector that is rejected, lacks base metrics or is no
-string. Around it are objects that look like vectors and are none. The same seed gives the same documents.
+Each says of its vectors what is right, by reference/documents.py, except for what is planted: a score, a rating or
+another member that is wrong, a member's name that says another version, a vector that is rejected, lacks base metrics
+or is no string. Around it are objects that look like vectors and are none. The same seed gives the same documents.
 
 usage: bench/inputs/planted.py COUNT [SEED]
 """
@@ -22,16 +22,19 @@ OF_CVE = {20: "cvssV2_0", 30: "cvssV3_0", 31: "cvssV3_1", 40: "cvssV4_0"}
 OF_CSAF = {20: "cvss_v2", 30: "cvss_v3", 31: "cvss_v3", 40: "cvss_v4"}
 OF_NVD = {20: "cvssMetricV2", 30: "cvssMetricV30", 31: "cvssMetricV31", 40: "cvssMetricV40"}
 LINE_VERSIONS = {20: "v2", 30: "v3.0", 31: "v3.1", 40: "v4"}
-WORDS = "NONE LOW MEDIUM HIGH CRITICAL High none low medium high critical NETWORK LOCAL UNCHANGED PARTIAL REQUIRED X".split()
+WORDS = """NONE LOW MEDIUM HIGH CRITICAL High none low medium high critical NETWORK LOCAL UNCHANGED PARTIAL REQUIRED
+X""".split()
 NO_STRINGS = 3.1, 0, True, False, [], {}, ["AV:N"], {"AV": "N"}
-OTHERS = ({"method": "OWASP", "vector": "SL:1/M:1/O:0/S:2", "score": 5, "severity": "high"}, {"type": "Ubuntu", "score": "high"},
-          {"vectorString": None, "baseScore": 9.8}, {"vector": "north", "score": 1}, {"cvss": "AV:N", "baseSeverity": "HIGH"},
-          {"other": {"type": "ssvc", "content": {"version": "2.0.3"}}}, {"score": "CVSS:3.1/AV:N"}, {"description": "CVSS:3.1/AV:N"})
+OTHERS = ({"method": "OWASP", "vector": "SL:1/M:1/O:0/S:2", "score": 5, "severity": "high"},
+          {"type": "Ubuntu", "score": "high"}, {"vectorString": None, "baseScore": 9.8},
+          {"vector": "north", "score": 1}, {"cvss": "AV:N", "baseSeverity": "HIGH"},
+          {"other": {"type": "ssvc", "content": {"version": "2.0.3"}}},
+          {"score": "CVSS:3.1/AV:N"}, {"description": "CVSS:3.1/AV:N"})
 
 
 class Planted:
-    """A document being drawn, and what is planted in it: the object with each vector, and the members that are wrong there
-    or why it is found."""
+    """A document being drawn, and what is planted in it: the object with each vector, and the members that are wrong
+    there or why it is found."""
 
     def __init__(self, draw, rate):
         self.draw = draw
@@ -46,7 +49,8 @@ class Planted:
 
     def vector(self, versions=(20, 30, 31, 31, 40)):
         """The text of a vector, what it is, and its fault, if it has one."""
-        text = lines.line(self.draw, LINE_VERSIONS[self.draw.choice(versions)], self.draw.choice(("base", "base", "full", "any")))
+        kind = self.draw.choice(("base", "base", "full", "any"))
+        text = lines.line(self.draw, LINE_VERSIONS[self.draw.choice(versions)], kind)
         known = documents.vector_of(text)
         if not self.chance(self.rate / 3):
             return text, known, None
@@ -62,7 +66,8 @@ class Planted:
 
     def refused(self, text):
         for _ in range(20):
-            other = self.draw.choice((text + "/", text + "/x", " " + text, text.lower(), text[:-1], text + "/E:Q", text + "\u00e9", text * 2, text[1:], "x"))
+            other = self.draw.choice((text + "/", text + "/x", " " + text, text.lower(), text[:-1], text + "/E:Q",
+                                      text + "\u00e9", text * 2, text[1:], "x"))
             try:
                 reference.read(other)
             except reference.Refused:
@@ -72,8 +77,11 @@ class Planted:
     def wrong(self, value):
         """Another value of the same kind."""
         if isinstance(value, float):
-            return self.draw.choice([other for other in (self.draw.randrange(101) / 10, value + 0.05, value - 1, 0, 10, 11) if other != value])
-        choices = [*WORDS, *documents.VERSION_NAMES.values()] if value not in documents.METHODS.values() else list(documents.METHODS.values())
+            choices = [self.draw.randrange(101) / 10, value + 0.05, value - 1, 0, 10, 11]
+        elif value in documents.METHODS.values():
+            choices = documents.METHODS.values()
+        else:
+            choices = [*WORDS, *documents.VERSION_NAMES.values()]
         return self.draw.choice([other for other in choices if other != value])
 
     def finish(self, holder, fault, places, already=()):
@@ -117,10 +125,13 @@ class Planted:
         return [make() if self.chance(0.85) else self.draw.choice(OTHERS) for _ in range(self.draw.randrange(1, 5))]
 
     def cve(self):
-        records = self.several(lambda: {"format": "CVSS", "scenarios": [{"lang": "en", "value": "GENERAL"}], **self.named_record(OF_CVE)})
+        scenarios = [{"lang": "en", "value": "GENERAL"}]
+        records = self.several(lambda: {"format": "CVSS", "scenarios": scenarios, **self.named_record(OF_CVE)})
         split = self.draw.randrange(len(records) + 1)
-        return {"dataType": "CVE_RECORD", "dataVersion": "5.1", "cveMetadata": {"cveId": self.number(), "state": "PUBLISHED"},
-                "containers": {"cna": {"metrics": records[:split]}, "adp": [{"title": "CISA ADP Vulnrichment", "metrics": records[split:]}]}}
+        return {"dataType": "CVE_RECORD", "dataVersion": "5.1",
+                "cveMetadata": {"cveId": self.number(), "state": "PUBLISHED"},
+                "containers": {"cna": {"metrics": records[:split]},
+                               "adp": [{"title": "CISA ADP Vulnrichment", "metrics": records[split:]}]}}
 
     def nvd_entry(self):
         text, known, fault = self.vector()
@@ -130,7 +141,8 @@ class Planted:
             entry[member] = tenths / 10
         if known.version == 20:
             entry["baseSeverity"] = known.rating(known.score).upper()
-        self.finish(holder, fault, places + [(entry, name) for name in entry if name not in ("source", "type", "cvssData")])
+        places += [(entry, name) for name in entry if name not in ("source", "type", "cvssData")]
+        self.finish(holder, fault, places)
         return OF_NVD[known.version], entry
 
     def nvd(self):
@@ -139,21 +151,24 @@ class Planted:
             for name, entry in (self.nvd_entry() for _ in range(self.draw.randrange(1, 5))):
                 metrics.setdefault(name, []).append(entry)
             return {"cve": {"id": self.number(), "metrics": metrics, "weaknesses": [], "references": []}}
-        return {"resultsPerPage": 2, "format": "NVD_CVE", "version": "2.0", "vulnerabilities": self.several(vulnerability)}
+        return {"resultsPerPage": 2, "format": "NVD_CVE", "version": "2.0",
+                "vulnerabilities": self.several(vulnerability)}
 
     def osv_severity(self):
         text, known, fault = self.vector()
         holder = {"type": documents.OSV_TYPES[known.version], "score": text}
         already = ()
         if fault is None and self.chance(self.rate):
-            holder["type"] = self.draw.choice([other for other in documents.OSV_TYPES.values() if other != holder["type"]])
+            others = [other for other in documents.OSV_TYPES.values() if other != holder["type"]]
+            holder["type"] = self.draw.choice(others)
             already = ("type",)
         self.finish(holder, fault, [], already)
         return holder
 
     def osv(self):
-        return {"schema_version": "1.6.0", "id": "OSV-2024-1", "aliases": [self.number()], "severity": self.several(self.osv_severity),
-                "affected": [{"package": {"ecosystem": "PyPI", "name": "x"}, "severity": self.several(self.osv_severity)}]}
+        affected = {"package": {"ecosystem": "PyPI", "name": "x"}, "severity": self.several(self.osv_severity)}
+        return {"schema_version": "1.6.0", "id": "OSV-2024-1", "aliases": [self.number()],
+                "severity": self.several(self.osv_severity), "affected": [affected]}
 
     def csaf(self):
         """CSAF 2.0 has scores, and 2.1 metrics."""
@@ -162,7 +177,8 @@ class Planted:
                 return {"products": ["P-1"], **self.named_record(OF_CSAF)}
             return {"products": ["P-2"], "content": self.named_record(OF_CSAF)}
         return {"document": {"category": "csaf_vex", "tracking": {"id": "EX-2024-1", "version": "1"}},
-                "vulnerabilities": [{"cve": self.number(), "scores": self.several(score)} for _ in range(self.draw.randrange(1, 3))]}
+                "vulnerabilities": [{"cve": self.number(), "scores": self.several(score)}
+                                    for _ in range(self.draw.randrange(1, 3))]}
 
     def github_score(self):
         text, known, fault = self.vector()
@@ -171,7 +187,8 @@ class Planted:
         return {OF_CSAF[known.version]: holder}
 
     def github(self):
-        return {"ghsa_id": "GHSA-2222-3333-4444", "cve_id": self.number(), "cvss_severities": self.github_score(), "severity": "high"}
+        return {"ghsa_id": "GHSA-2222-3333-4444", "cve_id": self.number(), "severity": "high",
+                "cvss_severities": self.github_score()}
 
     def rating(self):
         text, known, fault = self.vector()
@@ -186,18 +203,21 @@ class Planted:
 
     def cyclonedx(self):
         return {"bomFormat": "CycloneDX", "specVersion": "1.5", "version": 1,
-                "vulnerabilities": [{"bom-ref": "x", "id": self.number(), "ratings": self.several(self.rating)} for _ in range(self.draw.randrange(1, 3))]}
+                "vulnerabilities": [{"bom-ref": "x", "id": self.number(), "ratings": self.several(self.rating)}
+                                    for _ in range(self.draw.randrange(1, 3))]}
 
     def grype_score(self):
         text, known, fault = self.vector()
         holder = {"source": "nvd@nist.gov", "version": documents.VERSION_NAMES[known.version], "vector": text,
-                  "metrics": {"baseScore": known.score / 10, "exploitabilityScore": 1, "impactScore": 2}, "vendorMetadata": {}}
+                  "metrics": {"baseScore": known.score / 10, "exploitabilityScore": 1, "impactScore": 2},
+                  "vendorMetadata": {}}
         self.finish(holder, fault, [(holder, "version"), (holder["metrics"], "baseScore")])
         return holder
 
     def grype(self):
-        return {"matches": [{"vulnerability": {"id": self.number(), "severity": "High", "cvss": self.several(self.grype_score)},
-                             "relatedVulnerabilities": [{"id": self.number(), "cvss": self.several(self.grype_score)}]}]}
+        related = {"id": self.number(), "cvss": self.several(self.grype_score)}
+        own = {"id": self.number(), "severity": "High", "cvss": self.several(self.grype_score)}
+        return {"matches": [{"vulnerability": own, "relatedVulnerabilities": [related]}]}
 
     def trivy_source(self):
         holder = {}
@@ -210,8 +230,9 @@ class Planted:
         return holder
 
     def trivy(self):
-        return {"SchemaVersion": 2, "Results": [{"Target": "x", "Vulnerabilities": [
-            {"VulnerabilityID": self.number(), "Severity": "HIGH", "CVSS": {"nvd": self.trivy_source(), "redhat": self.trivy_source()}}]}]}
+        vulnerability = {"VulnerabilityID": self.number(), "Severity": "HIGH",
+                         "CVSS": {"nvd": self.trivy_source(), "redhat": self.trivy_source()}}
+        return {"SchemaVersion": 2, "Results": [{"Target": "x", "Vulnerabilities": [vulnerability]}]}
 
     def advisory(self):
         text, _, fault = self.vector()
@@ -221,12 +242,14 @@ class Planted:
         return {"advisory": holder, "versions": {"patched": [">=1.2.3"]}}
 
     def cargo_audit(self):
-        return {"database": {"advisory-count": 600}, "vulnerabilities": {"found": True, "list": self.several(self.advisory)}}
+        return {"database": {"advisory-count": 600},
+                "vulnerabilities": {"found": True, "list": self.several(self.advisory)}}
 
     def assessment(self):
         text, known, fault = self.vector()
-        holder = {"type": "security_CvssV3VulnAssessmentRelationship", "spdxId": f"urn:{self.number()}", "security_vectorString": text,
-                  "security_score": known.score / 10, "security_severity": known.rating(known.score)}
+        holder = {"type": "security_CvssV3VulnAssessmentRelationship", "spdxId": f"urn:{self.number()}",
+                  "security_vectorString": text, "security_score": known.score / 10,
+                  "security_severity": known.rating(known.score)}
         self.finish(holder, fault, [(holder, "security_score"), (holder, "security_severity")])
         return holder
 
