@@ -1,4 +1,5 @@
 pub mod Inputs
+pub mod Reports
 pub mod Rows
 pub mod Settings
 pub mod Triage

@@ -6,6 +6,7 @@ mod inputs;
 mod lines;
 mod overrides;
 mod report;
+mod reported;
 mod rows;
 mod settings;
 mod triage;

@@ -3,6 +3,7 @@
 ghost use Rattle.std.specs.Prelude.{◌≡◌, ◌++◌, IfOk, OnOk, map};
 ghost use Rattle.cvss_lines.specs.Lines.{lines as lines_of_text};
 ghost use Rattle.cvss_triage.specs.Inputs.{lines_in, lines_of_input};
+ghost use Rattle.cvss_triage.specs.Reports.{starts_of};
 
 use cvss_lines::first_line;
 use std::alloc::{AllocError, Global};
@@ -17,7 +18,8 @@ pub(crate) struct Lines<'a> {
 
 /// The lines of inputs, of which those without bytes have none.
 pub(crate) fn lines_of(alloc: Global, inputs: &[Option<Vec<u8>>]) -> Result<Lines<'_>, AllocError>
-    ensures { IfOk result (λ all. map (λ line. line.now) all.lines.items ≡ lines_in inputs.now) }
+    ensures lines { IfOk result (λ all. map (λ line. line.now) all.lines.items ≡ lines_in inputs.now) }
+    ensures starts { IfOk result (λ all. all.starts.items ≡ starts_of inputs.now) }
 {
     let mut lines = Vec::new(alloc);
     let mut starts = Vec::new(alloc);

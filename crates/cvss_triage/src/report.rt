@@ -2,13 +2,12 @@
 
 use crate::lines::{Lines, push_lines};
 use crate::overrides::{for_all_versions, override_by};
+use crate::reported::{bad_report, unknown_line_text, unknown_text};
 use crate::settings::{SettingKind, SettingText};
-use cvss_answer::write_error;
-use cvss_lines::{OutputBuffer, write_whole};
-use cvss_program::{are_many, has_name, source_of};
-use cvss_rank::{BadLine, Reason, holds_for_some};
+use cvss_lines::write_whole;
+use cvss_program::are_many;
+use cvss_rank::{BadLine, holds_for_some};
 use std::alloc::{AllocError, Global};
-use std::fmt;
 use std::io::Write;
 
 /// Reports the metrics that hold for no vector of any version.
@@ -27,7 +26,10 @@ pub(crate) fn report_unknown<E: Write>(
         };
         match it.setting.kind {
             SettingKind::Metrics if holds_for_some(for_all_versions(text)) => {}
-            SettingKind::Metrics => report_metrics(None, text, alloc, report)?,
+            SettingKind::Metrics => {
+                let unknown = unknown_text(alloc, text)?;
+                let _ = write_whole(report, &unknown.bytes);
+            }
             SettingKind::Profile => report_profile(it.setting.word, text, alloc, report)?,
         }
     }
@@ -47,26 +49,10 @@ fn report_profile<E: Write>(
         if let Some(it) = override_by(line)
             && !holds_for_some(it)
         {
-            report_metrics(Some((name, index)), line, alloc, report)?;
+            let unknown = unknown_line_text(alloc, name, index, line)?;
+            let _ = write_whole(report, &unknown.bytes);
         }
     }
-    Ok(())
-}
-
-fn report_metrics<E: Write>(
-    place: Option<(&[u8], usize)>,
-    metrics: &[u8],
-    alloc: Global,
-    report: &mut E,
-) -> Result<(), AllocError> {
-    let mut text = started(alloc)?;
-    if let Some((name, index)) = place {
-        push_place(Some(name), index, &mut text)?;
-    }
-    text.push(b"not a metric of any version: ")?;
-    text.push(metrics)?;
-    text.push(b"\n")?;
-    let _ = write_whole(report, &text.bytes);
     Ok(())
 }
 
@@ -85,67 +71,8 @@ pub(crate) fn report_bad<E: Write>(
 ) -> Result<(), AllocError> {
     let many = are_many(operands);
     for it in bad {
-        let input = lines.starts.iter().rposition(|start| *start <= it.index);
-        let start = input.and_then(|input| lines.starts.get(input).copied());
-        let name = input.and_then(|input| operands.get(input));
-        let mut text = started(alloc)?;
-        let named = name.filter(|name| many && has_name(source_of(name)));
-        let index = it.index.saturating_sub(start.unwrap_or(0));
-        push_place(named.map(|name| name.as_slice()), index, &mut text)?;
-        push_reason(alloc, &it.reason, &mut text)?;
+        let text = bad_report(alloc, it, &lines.starts, many, operands)?;
         let _ = write_whole(report, &text.bytes);
     }
     Ok(())
-}
-
-/// A report's beginning.
-fn started(alloc: Global) -> Result<OutputBuffer, AllocError> {
-    let mut text = OutputBuffer {
-        bytes: Vec::new(alloc),
-    };
-    text.push(b"cvss: ")?;
-    Ok(text)
-}
-
-/// Appends the name of a file, if there is one, and the number of the line of an index, counted from 1.
-fn push_place(
-    name: Option<&[u8]>,
-    index: usize,
-    text: &mut OutputBuffer,
-) -> Result<(), AllocError> {
-    if let Some(name) = name {
-        text.push(name)?;
-        text.push(b": ")?;
-    }
-    match push_number(index.saturating_add(1), text) {
-        Ok(()) => Ok(()),
-        Err(_) => Err(AllocError),
-    }
-}
-
-fn push_number(number: usize, text: &mut OutputBuffer) -> fmt::Result {
-    use std::fmt::Write;
-    write!(text, "line {number}: ")
-}
-
-/// Appends why a line has no row, and a byte 10.
-fn push_reason(
-    alloc: Global,
-    reason: &Reason<'_>,
-    text: &mut OutputBuffer,
-) -> Result<(), AllocError> {
-    match reason {
-        Reason::NoVector => text.push(b"no vector\n"),
-        Reason::SeveralVectors => text.push(b"several vectors\n"),
-        Reason::Rejected(error) => {
-            let mut answer = OutputBuffer {
-                bytes: Vec::new(alloc),
-            };
-            write_error(*error, &mut answer)?;
-            match answer.bytes.strip_prefix(b"error: ") {
-                Some(words) => text.push(words),
-                None => Ok(()),
-            }
-        }
-    }
 }

@@ -8,7 +8,7 @@ returns g c =
     let asked = c.args.asked.now in
     let ranking = c.in_ok-ranking.ranking in
     let served = c.served_of-served in
-    let lines = ap (map (λ (line : Bor (List ℕ)). line.now)) c.deref.ensures.value ∙ c.in_ok-lines.ensures in
+    let lines = ap (map (λ (line : Bor (List ℕ)). line.now)) c.deref.ensures.value ∙ c.in_ok-lines.ensures.lines in
     record {
       ranking = ranking;
       is = subst (λ lines. IsRanking c.args.overrides.now asked.allow_incomplete lines ranking) lines c.in_ok-ranking.ensures;
