@@ -18,6 +18,7 @@ use cvss_v3_metric::MetricValue;
 impl Vector {
     /// The vector whose canonical text this is, where that is seen at once: `None` says nothing of
     /// the text. It takes no memory.
+    #[inline(always)]
     pub fn read_canonical(text: &[u8]) -> Option<Vector>
         ensures canonical { IfSome result (λ vector. text.now ≡ canonical_text v3 vector) }
         ensures well_formed { IfSome result (λ vector. IsWellFormed v3 vector) }

@@ -22,6 +22,7 @@ use cvss_v4_metric::supplemental::ProviderUrgency;
 impl Vector {
     /// The vector whose canonical text this is, where that is seen at once: `None` says nothing of
     /// the text. It takes no memory.
+    #[inline(always)]
     pub fn read_canonical(text: &[u8]) -> Option<Vector>
         ensures canonical { IfSome result (λ vector. text.now ≡ canonical_text v4 vector) }
         ensures well_formed { IfSome result (λ vector. IsWellFormed v4 vector) }

@@ -238,6 +238,7 @@ fn modified(first: u8, second: u8) -> Option<MetricType>
 }
 
 /// Reads a value into its place, which has to be empty.
+#[inline(always)]
 fn fill<M: MetricValue>(place: &mut Option<M>, text: &[u8]) -> Result<(), ComponentError>
     ensures { IsFilled (λ x. uppercased (spelling_at M.KIND (M.rank x))) place.old (uppercased text.now) result place.new }
 {
