@@ -72,20 +72,22 @@ def is_as_written(line):
 
 
 def run(given, end, *options, room=None):
-    """The number, the line and the answer for each line of the files or of standard input, where an end follows each
-    answer; and the status."""
+    """The number, the line and the answer without the file's name for each line of the files or of standard input, where
+    an end follows each answer; and the status."""
     data = given.get("-", b"")
     done = subprocess.run([*COMMAND, *options, *given], input=data, cwd=room, capture_output=True, check=False)
     if done.stderr:
         sys.exit(f"cvss explain: {done.stderr!r}")
-    read = [(f"{name}:" if len(given) > 1 else "", number, line) for name, content in given.items()
+    own, named = ("{", '{{"file":{},'.format) if "--json" in options else ("", "{}:".format)
+    names = {name: json.dumps(name, ensure_ascii=False) if own else name for name in given}
+    read = [(named(names[name]) if len(given) > 1 else own, number, line) for name, content in given.items()
             for number, line in enumerate(reference.lines_of(content), 1)]
     answers = done.stdout.decode("utf-8").split(end)
     if answers.pop() != "" or len(answers) != len(read):
         sys.exit(f"cvss explain {options} answers {len(answers)} of {len(read)} lines")
     if not all(answer.startswith(front) for (front, _, _), answer in zip(read, answers)):
         sys.exit(f"cvss explain {options}: an answer without the name of its file")
-    answered = [(number, line, answer.removeprefix(front)) for (front, number, line), answer in zip(read, answers)]
+    answered = [(number, line, own + answer.removeprefix(front)) for (front, number, line), answer in zip(read, answers)]
     return answered, done.returncode
 
 
