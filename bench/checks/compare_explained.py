@@ -1,5 +1,5 @@
 #!/usr/bin/env python3
-"""Compares what `cvss explain` writes, as JSON, as text and with --what-if, with accounts.py, explained.py and what_if.py.
+"""Compares what `cvss explain` writes, as JSON, text and with --what-if, with accounts.py, explained.py and what_if.py.
 
 The lines are random: vectors with each metric, vectors in any order and case, rejected ones and lines that are almost
 vectors, in files; with `whole` also all vectors with base metrics alone, of each version. A number has at most seven
@@ -72,14 +72,15 @@ def is_as_written(line):
 
 
 def run(given, end, *options, room=None):
-    """The number, the line and the answer without the file's name for each line of the files or of standard input, where
-    an end follows each answer; and the status."""
+    """The number, the line and the answer without the file's name for each line of the files or of standard input,
+    where an end follows each answer; and the status."""
     data = given.get("-", b"")
     done = subprocess.run([*COMMAND, *options, *given], input=data, cwd=room, capture_output=True, check=False)
     if done.stderr:
         sys.exit(f"cvss explain: {done.stderr!r}")
     own, named = ("{", '{{"file":{},'.format) if "--json" in options else ("", "{}:".format)
-    names = {name: json.dumps(name, ensure_ascii=False) if own else name for name in given}
+    # the program escapes each byte below 32 by its number
+    names = {name: json.dumps(name, ensure_ascii=False).replace("\\t", "\\u0009") if own else name for name in given}
     read = [(named(names[name]) if len(given) > 1 else own, number, line) for name, content in given.items()
             for number, line in enumerate(reference.lines_of(content), 1)]
     answers = done.stdout.decode("utf-8").split(end)
@@ -87,8 +88,8 @@ def run(given, end, *options, room=None):
         sys.exit(f"cvss explain {options} answers {len(answers)} of {len(read)} lines")
     if not all(answer.startswith(front) for (front, _, _), answer in zip(read, answers)):
         sys.exit(f"cvss explain {options}: an answer without the name of its file")
-    answered = [(number, line, own + answer.removeprefix(front)) for (front, number, line), answer in zip(read, answers)]
-    return answered, done.returncode
+    answers = [own + answer.removeprefix(front) for (front, _, _), answer in zip(read, answers)]
+    return [(number, line, answer) for (_, number, line), answer in zip(read, answers)], done.returncode
 
 
 def compare_json(given, *options, room=None):
@@ -109,7 +110,8 @@ def is_line(actual, expected):
     """Whether a line of text has these texts, and numbers that are close enough to these."""
     if actual == explained.written([expected])[:-1]:
         return True
-    pattern = "".join(re.escape(part) if isinstance(part, str) else r"(-?\d+\.(?:\d|\d{1,6}[1-9]))" for part in expected)
+    number = r"(-?\d+\.(?:\d|\d{1,6}[1-9]))"
+    pattern = "".join(re.escape(part) if isinstance(part, str) else number for part in expected)
     found = re.fullmatch(pattern, actual)
     numbers = [part for part in expected if isinstance(part, Fraction)]
     return found is not None and all(is_number(Fraction(own), exact) for own, exact in zip(found.groups(), numbers))
