@@ -1,4 +1,5 @@
 pub mod AcceptedLemmas
+mod CutLemmas
 mod EndLemmas
 mod FindLemmas
 pub mod FoundLemmas

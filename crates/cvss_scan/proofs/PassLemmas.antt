@@ -1,9 +1,12 @@
 -- Why what has no slash and no `%` is passed over.
-use Rattle.std.proofs.Common.{◌≡◌, ◌≢◌, ℕ, ◌+◌, ◌-◌, ◌<◌, ◌≤◌, Bool, true, false, ◌||◌, not, eqb, List, [], ◌∷◌, ◌++◌, get_or, length, take, drop, refl, sym, ap, ap₂, ◌∙◌, subst, arith, length-take-le, take-append-drop, take-take, drop-drop, get_or-take}
-use Rattle.std.proofs.lemmas.Bool.{ne_eqb, or_parts}
+use Rattle.std.proofs.Common.{◌≡◌, ◌≢◌, ℕ, suc, ◌+◌, ◌-◌, ◌<◌, ◌≤◌, Bool, true, false, ◌||◌, not, eqb, ltb, inl, inr, List, [], ◌∷◌, ◌++◌, get_or, length, take, drop, refl, sym, ap, ap₂, ◌∙◌, subst, arith, length-take-le, take-append-drop, take-take, drop-drop, get_or-take}
+use Rattle.std.proofs.lemmas.Bool.{eq-eqb, ne_eqb, or_parts}
+use Rattle.std.proofs.lemmas.Bool.Decides.{leb_tells}
+use Rattle.std.proofs.lemmas.List.{take_all}
 use Rattle.std.proofs.lemmas.List.Elements.{All-nil, All-cons, All-from_get_or}
-use Rattle.std.proofs.lemmas.List.Folds.{list_any-append, list_any_none}
+use Rattle.std.proofs.lemmas.List.Folds.{list_any-append, list_any_at, list_any_none}
 use Rattle.cvss_base.specs.Text.{has, slash}
+use Rattle.cvss_lines.specs.Search.{IsFirstOf}
 use Rattle.cvss_scan.proofs.EndLemmas.{before_and_last}
 use Rattle.cvss_scan.specs.Parts.{is_run_byte, without_dividers, parts_of, percent, unencoded}
 use Rattle.cvss_scan.specs.Mentions.{IsFound, label_of, mention_of, placed_from}
@@ -22,6 +25,14 @@ none_before byte text end place before within none = list_any_none (λ each. eqb
     let differs = none k (omega (arith, at, before)) in
     let same = get_or-take place text k 0 at in
     ne_eqb (get_or (take place text) k 0) byte (λ is. differs (sym same ∙ is))))
+
+-- a byte is in a text exactly if the first of it is within the text
+pub has_by_first : (byte : ℕ) (text : List ℕ) (place : ℕ) → IsFirstOf byte byte text place → ltb place (length text) ≡ has byte text
+has_by_first byte text place first = elim (leb_tells (suc place) (length text)) [
+  | inl within ↦ within.0 ∙ sym (list_any_at (λ each. eqb each byte) text place 0 (omega (arith, within.1))
+      (eq-eqb _ byte (elim (first.found (omega (arith, within.1))) [ inl is ↦ is | inr is ↦ is ])))
+  | inr past ↦ past.0 ∙ sym (sym (ap (has byte) (take_all place text (omega (arith, past.1)))) ∙ none_before byte text place place (omega arith) first.within first.without_one)
+]
 
 -- nor in what is cut from a text without it
 none_in_both : (byte : ℕ) (text front back : List ℕ) → text ≡ front ++ back → has byte text ≡ false → (has byte front ≡ false) × (has byte back ≡ false)

@@ -10,5 +10,5 @@ mod prefix;
 
 pub use mention::Mention;
 pub use mentions::Mentions;
-pub use part::{first_part, is_vector_byte};
+pub use part::{first_part, has_percent, is_vector_byte};
 pub use prefix::begins_with_prefix;

@@ -4,11 +4,11 @@ ghost use Rattle.std.specs.Prelude.{◌≡◌, ◌↔◌, ◌+◌, ◌<◌, ◌�
 ghost use Rattle.cvss_any.specs.Answers.{HasScore};
 ghost use Rattle.cvss_any.specs.Dispatch.{DenotesCvss};
 ghost use Rattle.cvss_any.specs.declared.vector.Cvss.{Cvss};
-ghost use Rattle.cvss_scan.specs.Mentions.{IsFound, is_meant, label_of, mention_of};
+ghost use Rattle.cvss_scan.specs.Mentions.{IsFound, label_of, mention_of};
 ghost use Rattle.cvss_scan.specs.MentionsLeft.{as_placed};
 
 use crate::part::{unencoded, without_dividers};
-use crate::prefix::{begins_exactly, begins_loosely, begins_with_prefix, label_length};
+use crate::prefix::{begins_loosely, begins_with_prefix, label_length};
 use cvss_any::Cvss;
 
 /// A match of a vector in a text: bytes that are accepted as a vector, or that were meant as one.
@@ -74,15 +74,8 @@ fn is_found(text: &[u8]) -> bool
     ensures { IsTrue result ↔ IsFound text.now }
 {
     if text.contains(&b'/') {
-        is_meant(text) || Cvss::read_bytes(text).is_some()
+        begins_with_prefix(text) || Cvss::read_bytes(text).is_some()
     } else {
         begins_loosely(text)
     }
-}
-
-/// Whether a text was meant as a vector.
-fn is_meant(text: &[u8]) -> bool
-    ensures { result ≡ is_meant text.now }
-{
-    begins_exactly(text) && text.contains(&b'/') || begins_loosely(text)
 }

@@ -1,9 +1,11 @@
 //! How a text is cut into parts.
 
-ghost use Rattle.std.specs.Prelude.{◌≡◌, ◌≢◌, ℕ, ◌<◌, ◌≤◌, ◌∷◌, length, take, drop, slice_index};
-ghost use Rattle.cvss_scan.specs.Parts.{before_percent, begins_part, is_divider, is_run_byte, is_vector_byte, without_dividers, parts_of, unencoded};
+ghost use Rattle.std.specs.Prelude.{◌≡◌, ◌<◌, ◌≤◌, ◌∷◌, false, true, length, take, drop};
+ghost use Rattle.cvss_base.specs.Text.{has};
+ghost use Rattle.cvss_scan.specs.Parts.{before_percent, begins_part, is_divider, is_like, is_run_byte, is_vector_byte, without_dividers, parts_of, percent, unencoded};
 
 use crate::prefix::begins_with_prefix;
+use cvss_lines::either_or_len;
 
 /// The length of the first part of a text that has bytes.
 pub fn first_part(text: &[u8]) -> usize
@@ -28,9 +30,40 @@ pub fn first_part(text: &[u8]) -> usize
     text.len() - left.len()
 }
 
+/// 0 for each byte before which no text is cut: the bytes of runs, but not `C` and `c`. 1 for others.
+const MARKS: [u8; 256] = [
+    1, 1, 1, 1, 1, 1, 1, 1, 1, 1, 1, 1, 1, 1, 1, 1, 1, 1, 1, 1, 1, 1, 1, 1, 1, 1, 1, 1, 1, 1, 1, 1,
+    1, 1, 1, 1, 1, 0, 1, 1, 1, 1, 1, 1, 1, 1, 0, 0, 0, 0, 0, 0, 0, 0, 0, 0, 0, 0, 0, 1, 1, 1, 1, 1,
+    1, 0, 0, 1, 0, 0, 0, 0, 0, 0, 0, 0, 0, 0, 0, 0, 0, 0, 0, 0, 0, 0, 0, 0, 0, 0, 0, 1, 1, 1, 1, 1,
+    1, 0, 0, 1, 0, 0, 0, 0, 0, 0, 0, 0, 0, 0, 0, 0, 0, 0, 0, 0, 0, 0, 0, 0, 0, 0, 0, 1, 1, 1, 1, 1,
+    1, 1, 1, 1, 1, 1, 1, 1, 1, 1, 1, 1, 1, 1, 1, 1, 1, 1, 1, 1, 1, 1, 1, 1, 1, 1, 1, 1, 1, 1, 1, 1,
+    1, 1, 1, 1, 1, 1, 1, 1, 1, 1, 1, 1, 1, 1, 1, 1, 1, 1, 1, 1, 1, 1, 1, 1, 1, 1, 1, 1, 1, 1, 1, 1,
+    1, 1, 1, 1, 1, 1, 1, 1, 1, 1, 1, 1, 1, 1, 1, 1, 1, 1, 1, 1, 1, 1, 1, 1, 1, 1, 1, 1, 1, 1, 1, 1,
+    1, 1, 1, 1, 1, 1, 1, 1, 1, 1, 1, 1, 1, 1, 1, 1, 1, 1, 1, 1, 1, 1, 1, 1, 1, 1, 1, 1, 1, 1, 1, 1,
+];
+
 /// Whether a text is cut before these bytes.
 #[inline(always)]
 fn begins_part(bytes: &[u8]) -> bool
+    ensures { result ≡ begins_part bytes.now }
+{
+    match bytes {
+        [byte, ..] => mark_of(*byte) != 0 && begins_part_in_full(bytes),
+        [] => false,
+    }
+}
+
+/// 0 only for bytes of runs that are no first letter of a prefix.
+#[inline(always)]
+fn mark_of(byte: u8) -> u8
+    ensures run { result ≡ 0 → is_run_byte byte ≡ true }
+    ensures letter { result ≡ 0 → is_like 67 byte ≡ false }
+{
+    MARKS[byte as usize]
+}
+
+/// Whether a text is cut before these bytes, without the table.
+fn begins_part_in_full(bytes: &[u8]) -> bool
     ensures { result ≡ begins_part bytes.now }
 {
     match bytes {
@@ -90,17 +123,12 @@ pub(crate) fn unencoded(part: &[u8]) -> &[u8]
 fn before_percent(text: &[u8]) -> &[u8]
     ensures { result.now ≡ before_percent text.now }
 {
-    &text[..percent_or_len(text)]
+    &text[..either_or_len(text, b'%', b'%')]
 }
 
-/// The place of the first `%`, or the length where there is none.
-fn percent_or_len(text: &[u8]) -> usize
-    ensures within { result ≤ length text.now }
-    ensures before { (k : ℕ) → k < result → slice_index text.now k ≢ 37 }
-    ensures found { result < length text.now → slice_index text.now result ≡ 37 }
+/// Whether a text has a `%`.
+pub fn has_percent(text: &[u8]) -> bool
+    ensures { result ≡ has percent text.now }
 {
-    match text.iter().position(|byte| *byte == b'%') {
-        Some(place) => place,
-        None => text.len(),
-    }
+    either_or_len(text, b'%', b'%') < text.len()
 }

@@ -23,13 +23,14 @@ pub(crate) fn begins_exactly(text: &[u8]) -> bool
 pub(crate) fn begins_loosely(text: &[u8]) -> bool
     ensures { result ≡ begins_loosely text.now }
 {
-    begins_like(b"CVSS:0.0/AV:", text)
-        || begins_like(b"CVSS0.0/AV:", text)
-        || begins_like(b"CVSSV0.0/AV:", text)
-        || begins_like(b"CVSS:0.0%2FAV:", text)
-        || begins_like(b"CVSS:0.0%2FAV%3A", text)
-        || begins_like(b"CVSS%3A0.0/AV%3A", text)
-        || begins_like(b"CVSS%3A0.0%2FAV%3A", text)
+    begins_like(b"CVSS", text)
+        && (begins_like(b"CVSS:0.0/AV:", text)
+            || begins_like(b"CVSS0.0/AV:", text)
+            || begins_like(b"CVSSV0.0/AV:", text)
+            || begins_like(b"CVSS:0.0%2FAV:", text)
+            || begins_like(b"CVSS:0.0%2FAV%3A", text)
+            || begins_like(b"CVSS%3A0.0/AV%3A", text)
+            || begins_like(b"CVSS%3A0.0%2FAV%3A", text))
 }
 
 /// Whether the bytes begin with bytes as those of a pattern.
