@@ -15,7 +15,7 @@ use cvss_answer::{answer_score, write_canonical};
 use cvss_any::{Cvss, Published};
 use cvss_lines::{OutputBuffer, RunFault, Service};
 use cvss_rows::{Format, write_cells};
-use cvss_scan::{Mention, Mentions, begins_with_prefix};
+use cvss_scan::{Mention, Mentions, begins_with_prefix, has_percent};
 use std::alloc::{AllocError, Global};
 use std::cell::Cell;
 use std::fmt::Write as FmtWrite;
@@ -175,7 +175,7 @@ impl Line<'_> {
             self.entry.number (decoded bytes.now)
             answers.old.bytes.items answers.new.bytes.items) }
     {
-        if bytes.contains(&b'%') {
+        if has_percent(bytes) {
             let bytes = decoded(alloc, bytes)?;
             self.answer_text(form, alloc, &bytes, answers)
         } else {
