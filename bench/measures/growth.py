@@ -45,12 +45,12 @@ PROSE = (b"The service parses the header of a request before its length is known
 
 # The texts of `cvss find` in the same way: of that many bytes, or what is named that often.
 TEXTS = {
-    "prose without a vector": (18, lambda size: (PROSE * (size // len(PROSE) + 1))[:size]),
-    "`CVSS:` again and again": (13.2, lambda size: b"CVSS:" * size),
-    "the same, and a slash at the end": (300, lambda size: b"CVSS:" * size + b"/"),
-    "`CVSS:/` again and again": (234, lambda size: b"CVSS:/" * size),
-    "colons": (12.3, lambda size: b":" * size),
-    "slashes": (40, lambda size: b"/" * size),
+    "prose without a vector": (8.3, lambda size: (PROSE * (size // len(PROSE) + 1))[:size]),
+    "`CVSS:` again and again": (4.4, lambda size: b"CVSS:" * size),
+    "the same, and a slash at the end": (252, lambda size: b"CVSS:" * size + b"/"),
+    "`CVSS:/` again and again": (198, lambda size: b"CVSS:/" * size),
+    "colons": (3.8, lambda size: b":" * size),
+    "slashes": (22.3, lambda size: b"/" * size),
 }
 
 # The documents of `cvss audit`: the same bound, and by the size in bytes of what kind it is, and of
