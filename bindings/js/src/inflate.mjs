@@ -67,7 +67,13 @@ function codesOfBlock({ take, symbolOf }) {
   return [codesOf(read.slice(0, literals)), codesOf(read.slice(literals))];
 }
 
-// So many bytes, compressed in blocks that each bring their codes.
+// The codes of a block that brings none.
+function fixedCodes() {
+  const lengths = new Array(288).fill(8).fill(9, 144, 256).fill(7, 256, 280);
+  return [codesOf(lengths), codesOf(new Array(30).fill(5))];
+}
+
+// So many bytes, each compressed: no block is stored as it is.
 export function inflate(source, length) {
   const reader = readerOf(source);
   const { take, symbolOf } = reader;
@@ -75,8 +81,9 @@ export function inflate(source, length) {
   let size = 0;
   for (let isLast = 0; isLast === 0;) {
     isLast = take(1);
-    if (take(2) !== 2) throw new Error("a block has no codes of its own");
-    const [literals, distances] = codesOfBlock(reader);
+    const kind = take(2);
+    if (kind !== 1 && kind !== 2) throw new Error("a block is not compressed");
+    const [literals, distances] = kind === 1 ? fixedCodes() : codesOfBlock(reader);
     for (let symbol = symbolOf(literals); symbol !== 256; symbol = symbolOf(literals)) {
       if (symbol < 256) bytes[size++] = symbol;
       else {
