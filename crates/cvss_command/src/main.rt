@@ -2,24 +2,11 @@
 //! subcommand for each thing that it does.
 #![tactic(auto)]
 
-mod command;
-mod explain;
-mod find;
-mod flags;
-mod help;
-mod hint;
-mod requests;
-mod score;
-mod subcommand;
 mod taking;
-mod tasks;
-mod triage;
 
-pub use command::run_command;
 use cvss_lines::{RunFault, write_whole};
 use cvss_program::{Served, SystemFiles, WatchedReader, WatchedWriter, arguments, exit_status};
-use help::USAGE;
-use hint::first_hint;
+use cvss_subcommands::{USAGE, first_hint, run_command};
 use std::io::{self, ErrorKind, Write};
 use std::process::ExitCode;
 use taking::Taking;

@@ -1,0 +1,11 @@
+use Rattle.std.proofs.Common.{◌∙◌, ap, inl, subst}
+use Rattle.std.specs.Io.KnownBytes.{Appends}
+use Rattle.cvss_rows.specs.Rows.{header_text}
+use Rattle.cvss_subcommands.proofs.score.serve_table.Goals as goal
+
+pub returns-in-Ok : goal.returns-in-Ok
+returns-in-Ok g c =
+    let before = g.W.Write.contents c.args.writer.now in
+    let after = g.W.Write.contents c.write_whole.new.writer in
+    let is = c.as_bytes.ensures.value ∙ c.header-names.ensures ∙ ap header_text c.are_many.ensures in
+    inl (after, subst (λ text. Appends before after text) is c.in-Ok.ensures.ok, c.serve_operands.ensures)

@@ -1,0 +1,138 @@
+-- What the command does, by what its arguments ask for.
+use Rattle.std.specs.Prelude.{◌≡◌, ◌⊎◌, ℕ, ◌-◌, ◌==◌, Bool, true, false, List, ◌∷◌, flat_map, length, take, drop, Option, Some, None, Result, Ok, Err, IsOkAnd, if◌then◌else◌}
+use Rattle.std.specs.Global.{Vec}
+use Rattle.std.specs.Io.KnownBytes.{Keeps}
+use Rattle.std.specs.Str.{IsUtf8}
+use Rattle.cvss_answer.specs.Setting.{IsSetAnswer}
+use Rattle.cvss_subcommands.specs.Scoring.{AnswersLines, Scores, WritesText}
+use Rattle.cvss_subcommands.specs.Triaging.{settings_of}
+use Rattle.cvss_audit.specs.Task.{audit_ends}
+use Rattle.cvss_audit.specs.declared.task.Audit as audit
+use Rattle.cvss_audit.specs.declared.task.Layout.{Layout}
+use Rattle.cvss_audit.specs.declared.task.Layout.TheVariants.{Lines, Whole, Either}
+use Rattle.cvss_subcommands.specs.declared.requests.Options.{Options}
+use Rattle.cvss_subcommands.specs.declared.requests.Request.{Request}
+use Rattle.cvss_subcommands.specs.declared.requests.Request.TheVariants.{Help, Version, Wrong, Run}
+use Rattle.cvss_subcommands.specs.declared.subcommand.Subcommand.{Subcommand}
+use Rattle.cvss_subcommands.specs.declared.subcommand.Subcommand.TheVariants.{Score, Find, Explain, Set, Triage, Audit}
+use Rattle.cvss_explain_json.specs.Answers as json
+use Rattle.cvss_explain_text.specs.Answers as text
+use Rattle.cvss_find.specs.Annotations.{annotate_rule}
+use Rattle.cvss_find.specs.Forms.{located_rule, objects_rule}
+use Rattle.cvss_lines.specs.Runs.{Ends}
+use Rattle.cvss_lines.specs.declared.fault.RunFault.TheVariants.{Memory}
+use Rattle.cvss_program.specs.Exit.{after, nothing_served}
+use Rattle.cvss_program.specs.Operands.{Endings, ServesAll}
+use Rattle.cvss_program.specs.declared.served.Served.{Served}
+use Rattle.cvss_triage.specs.Triage.{Triages}
+
+-- the help on a subcommand or on all, of these texts
+abbrev pub help_of : List ℕ → List ℕ → List ℕ → List ℕ → List ℕ → List ℕ → List ℕ → Option Subcommand → List ℕ
+help_of all score find explain set triage audit None = all
+help_of all score find explain set triage audit (Some Score) = score
+help_of all score find explain set triage audit (Some Find) = find
+help_of all score find explain set triage audit (Some Explain) = explain
+help_of all score find explain set triage audit (Some Set) = set
+help_of all score find explain set triage audit (Some Triage) = triage
+help_of all score find explain set triage audit (Some Audit) = audit
+
+-- each line is answered by what is found in it
+abbrev pub FindsVectors : Bool → Endings
+FindsVectors allow_incomplete prefix = Ends (located_rule allow_incomplete prefix)
+
+-- each line is answered by an object for what is found in it
+abbrev pub FindsObjects : Bool → Endings
+FindsObjects allow_incomplete prefix = Ends (objects_rule allow_incomplete prefix)
+
+-- each line is repeated with the answers to what is found in it, or to the first of that
+abbrev pub AnnotatesLines : Bool → Bool → Endings
+AnnotatesLines all allow_incomplete prefix = Ends (annotate_rule all allow_incomplete prefix)
+
+-- how an input is answered by `cvss find`, by whether --json, --annotate, --all and --allow-incomplete are given
+abbrev pub find_ends : Bool → Bool → Bool → Bool → Endings
+find_ends true annotate all = FindsObjects
+find_ends false true all = AnnotatesLines all
+find_ends false false all = FindsVectors
+
+-- each of the metrics after a slash
+abbrev pub with_slash : List (Vec ℕ) → List ℕ
+with_slash metrics = flat_map (λ metric. 47 ∷ metric.items) metrics
+
+-- so many arguments after the subcommand
+abbrev pub metrics_of : ℕ → List (Vec ℕ) → List (Vec ℕ)
+metrics_of count arguments = take count (drop 1 arguments)
+
+-- these, with slashes between them
+abbrev pub joined_metrics : ℕ → List (Vec ℕ) → List ℕ
+joined_metrics count arguments = drop 1 (with_slash (metrics_of count arguments))
+
+-- the last so many of the arguments
+abbrev pub operands_of : ℕ → List (Vec ℕ) → List (Vec ℕ)
+operands_of count arguments = drop (length arguments - count) arguments
+
+-- nothing is read or written
+pub record Idle (unread unread' written written' : Option (List ℕ)) (result expected : Result Served ℕ) : Type 0 where
+  pub ended : result ≡ expected
+  pub unread_kept : Keeps unread unread'
+  pub written_kept : Keeps written written'
+
+-- the operands are answered
+abbrev pub Answers : Endings → Options → List (Vec ℕ) → (List ℕ → Option (List ℕ)) → Option (List ℕ) → Option (List ℕ) → Option (List ℕ) → Option (List ℕ) → Result Served ℕ → Type 0
+Answers ends options arguments contents unread unread' written written' result =
+    IsOkAnd result (ServesAll ends contents (operands_of options.operands arguments) unread unread' written written')
+
+-- the metrics are set in the vectors of the operands, unless they are no text or memory runs out
+abbrev pub SetsMetrics : List ℕ → Options → List (Vec ℕ) → (List ℕ → Option (List ℕ)) → Option (List ℕ) → Option (List ℕ) → Option (List ℕ) → Option (List ℕ) → Result Served ℕ → Type 0
+SetsMetrics metrics options arguments contents unread unread' written written' result =
+    Answers (AnswersLines (IsSetAnswer metrics)) options arguments contents unread unread' written written' result
+    ⊎ (¬ (IsUtf8 metrics) × Idle unread unread' written written' result (Err (length arguments - 1)))
+    ⊎ Idle unread unread' written written' result (Ok (after nothing_served (Err Memory)))
+
+-- how inputs hold their documents: each is one if that is asked for, standard input has one a line where no operand is
+-- given, and else it is seen from each input
+abbrev pub layout_of : Options → Layout
+layout_of options = if options.flags.document then Whole else if options.operands == 0 then Lines else Either
+
+abbrev pub audit_of : Options → audit.Audit
+audit_of options = record { layout = layout_of options; allow_incomplete = options.flags.allow_incomplete }
+
+-- each line is answered by an object that explains the score
+abbrev pub ExplainsByObjects : Bool → Endings
+ExplainsByObjects allow_incomplete prefix = Ends (json.IsAnswer allow_incomplete prefix)
+
+-- each line is answered by a text for people that explains the score
+abbrev pub ExplainsByTexts : Bool → Bool → Endings
+ExplainsByTexts what_if allow_incomplete = AnswersLines (text.IsAnswer what_if allow_incomplete)
+
+-- how an input is answered by `cvss explain`, by whether --json, --what-if and --allow-incomplete are given
+abbrev pub explain_ends : Bool → Bool → Bool → Endings
+explain_ends true what_if = ExplainsByObjects
+explain_ends false what_if = ExplainsByTexts what_if
+
+-- what each subcommand does
+abbrev pub Runs : Subcommand → Options → List (Vec ℕ) → (List ℕ → Option (List ℕ)) → Option (List ℕ) → Option (List ℕ) → Option (List ℕ) → Option (List ℕ) → Result Served ℕ → Type 0
+Runs Score options arguments contents unread unread' written written' result =
+    IsOkAnd result (Scores options.flags.json options.flags.tsv options.flags.allow_incomplete contents (operands_of options.operands arguments)
+    unread unread' written written')
+Runs Find options arguments contents unread unread' written written' result =
+    Answers (find_ends options.flags.json options.flags.annotate options.flags.all options.flags.allow_incomplete)
+    options arguments contents unread unread' written written' result
+Runs Explain options arguments contents unread unread' written written' result =
+    Answers (explain_ends options.flags.json options.flags.what_if options.flags.allow_incomplete) options arguments contents unread unread' written written' result
+Runs Set options arguments contents unread unread' written written' result =
+    SetsMetrics (joined_metrics options.words arguments) options arguments contents unread unread' written written' result
+Runs Triage options arguments contents unread unread' written written' result =
+    IsOkAnd result (Triages (settings_of (metrics_of options.words arguments)) options.flags.keep_going options.flags.allow_incomplete contents
+    (operands_of options.operands arguments) unread unread' written written')
+Runs Audit options arguments contents unread unread' written written' result =
+    Answers (audit_ends (audit_of options)) options arguments contents unread unread' written written' result
+
+abbrev pub Does : Request → (Option Subcommand → List ℕ) → List ℕ → List (Vec ℕ) → (List ℕ → Option (List ℕ)) → Option (List ℕ) → Option (List ℕ) → Option (List ℕ) → Option (List ℕ) → Result Served ℕ → Type 0
+Does (Help of) help version arguments contents unread unread' written written' result =
+    IsOkAnd result (WritesText (help of) written written') × Keeps unread unread'
+Does Version help version arguments contents unread unread' written written' result =
+    IsOkAnd result (WritesText version written written') × Keeps unread unread'
+Does (Wrong left) help version arguments contents unread unread' written written' result =
+    Idle unread unread' written written' result (Err left)
+Does (Run subcommand options) help version arguments contents unread unread' written written' result =
+    Runs subcommand options arguments contents unread unread' written written' result

@@ -1,0 +1,47 @@
+-- The options of subcommands.
+use Rattle.std.specs.Prelude.{Bool, true, false, List, ℕ, codes}
+use Rattle.cvss_subcommands.specs.declared.flags.Flag.{Flag}
+use Rattle.cvss_subcommands.specs.declared.flags.Flag.TheVariants.{Json, Tsv, AllowIncomplete, Annotate, All, WhatIf, KeepGoing, Document, Set, Profile}
+use Rattle.cvss_subcommands.specs.declared.flags.Flags.{Flags}
+
+-- how an option is written
+abbrev pub flag_name : Flag → List ℕ
+flag_name Json = codes "--json"
+flag_name Tsv = codes "--tsv"
+flag_name AllowIncomplete = codes "--allow-incomplete"
+flag_name Annotate = codes "--annotate"
+flag_name All = codes "--all"
+flag_name WhatIf = codes "--what-if"
+flag_name KeepGoing = codes "--keep-going"
+flag_name Document = codes "--document"
+flag_name Set = codes "--set"
+flag_name Profile = codes "--profile"
+
+-- the word after it is its value
+abbrev pub has_value : Flag → Bool
+has_value = elim [ Set ↦ true | Profile ↦ true | _ ↦ false ]
+
+abbrev pub no_flags : Flags
+no_flags = record {
+  json = false;
+  tsv = false;
+  allow_incomplete = false;
+  annotate = false;
+  all = false;
+  what_if = false;
+  keep_going = false;
+  document = false;
+}
+
+-- one more option is given; what has a value is read where it is used
+abbrev pub with_flag : Flag → Flags → Flags
+with_flag Json flags = record flags { json = true }
+with_flag Tsv flags = record flags { tsv = true }
+with_flag AllowIncomplete flags = record flags { allow_incomplete = true }
+with_flag Annotate flags = record flags { annotate = true }
+with_flag All flags = record flags { all = true }
+with_flag WhatIf flags = record flags { what_if = true }
+with_flag KeepGoing flags = record flags { keep_going = true }
+with_flag Document flags = record flags { document = true }
+with_flag Set flags = flags
+with_flag Profile flags = flags

@@ -1,0 +1,93 @@
+-- What the arguments of a command ask for. What is not understood is reported by how many words there are from it on.
+use Rattle.std.specs.Prelude.{ℕ, suc, ◌-◌, ◌==◌, ◌&&◌, Bool, true, false, List, [], ◌∷◌, length, find, codes, Option, Some, None, if◌then◌else◌, bytes_eq}
+use Rattle.std.specs.Global.{Vec}
+use Rattle.cvss_subcommands.specs.Flags.{flag_name, has_value, no_flags, with_flag}
+use Rattle.cvss_subcommands.specs.Subcommands.{flags_of, name_of, sets_metrics, subcommands}
+use Rattle.cvss_subcommands.specs.declared.flags.Flag.{Flag}
+use Rattle.cvss_subcommands.specs.declared.flags.Flags.{Flags}
+use Rattle.cvss_subcommands.specs.declared.requests.Request.{Request}
+use Rattle.cvss_subcommands.specs.declared.requests.Request.TheVariants.{Help, Version, Wrong, Run}
+use Rattle.cvss_subcommands.specs.declared.requests.Word.{Word}
+use Rattle.cvss_subcommands.specs.declared.requests.Word.TheVariants as kind
+use Rattle.cvss_subcommands.specs.declared.subcommand.Subcommand.{Subcommand}
+
+-- the word begins with a hyphen, and is not one alone
+abbrev pub is_option : List ℕ → Bool
+is_option [] = false
+is_option (byte ∷ []) = false
+is_option (byte ∷ next ∷ bytes) = byte == 45
+
+-- the flag of this name that a subcommand has
+abbrev pub flag_of : Subcommand → List ℕ → Option Flag
+flag_of subcommand word = find (λ flag. bytes_eq word (flag_name flag)) (flags_of subcommand)
+
+-- the option that is known, if it is
+abbrev pub option_word : Option Flag → Word
+option_word (Some flag) = kind.Flag flag
+option_word None = kind.Unknown
+
+-- what a word after a subcommand is, where it is no value of an option
+abbrev pub word_of : Subcommand → List ℕ → Word
+word_of subcommand word =
+    if bytes_eq word (codes "--") then kind.End
+    else if bytes_eq word (codes "--help") then kind.Help
+    else if is_option word then option_word (flag_of subcommand word)
+    else if sets_metrics subcommand then kind.Metric
+    else kind.Operand
+
+-- a subcommand after so many words of options and metrics, with so many operands; where metrics are set, there has to be one
+abbrev pub found : Subcommand → Flags → ℕ → ℕ → ℕ → Request
+found subcommand flags words left operands =
+    if sets_metrics subcommand && (words == 0) then Wrong left
+    else Run subcommand (record { flags = flags; words = words; operands = operands })
+
+-- the words after a subcommand, of which there are so many: options with their values, metrics, and after these or after
+-- `--` the operands, which are counted. The Boolean: a value of an option is due.
+abbrev pub read_words : Subcommand → ℕ → Flags → Bool → List (Vec ℕ) → Request
+read_words subcommand count flags true [] = Wrong 0
+read_words subcommand count flags false [] = found subcommand flags count 0 0
+read_words subcommand count flags true (value ∷ words) = read_words subcommand count flags false words
+read_words subcommand count flags false (word ∷ words) = elim (word_of subcommand word.items) [
+  | kind.End ↦ found subcommand flags (count - suc (length words)) (suc (length words)) (length words)
+  | kind.Help ↦ Help (Some subcommand)
+  | kind.Flag flag ↦ read_words subcommand count (with_flag flag flags) (has_value flag) words
+  | kind.Unknown ↦ Wrong (suc (length words))
+  | kind.Metric ↦ read_words subcommand count flags false words
+  | kind.Operand ↦ found subcommand flags (count - suc (length words)) (suc (length words)) (suc (length words))
+]
+
+-- the subcommand of this name
+abbrev pub named : List ℕ → Option Subcommand
+named word = find (λ subcommand. bytes_eq word (name_of subcommand)) subcommands
+
+-- the help on a subcommand
+abbrev pub help_on : Option Subcommand → Request
+help_on (Some subcommand) = Help (Some subcommand)
+help_on None = Wrong 1
+
+-- the words after `help`
+abbrev pub help_request : List (Vec ℕ) → Request
+help_request [] = Help None
+help_request (word ∷ []) = if bytes_eq word.items (codes "help") then Help None else help_on (named word.items)
+help_request (word ∷ next ∷ words) = Wrong (suc (length words))
+
+-- nothing more is understood after a word
+abbrev pub alone : Request → List (Vec ℕ) → Request
+alone request [] = request
+alone request (word ∷ words) = Wrong (suc (length words))
+
+-- the first word, where it is no subcommand, and the words after it
+abbrev pub other_request : List ℕ → List (Vec ℕ) → Request
+other_request word words =
+    if bytes_eq word (codes "help") then help_request words
+    else if bytes_eq word (codes "--help") then alone (Help None) words
+    else if bytes_eq word (codes "--version") then alone Version words
+    else Wrong (suc (length words))
+
+-- what all arguments ask for
+abbrev pub request_of : List (Vec ℕ) → Request
+request_of [] = Wrong 0
+request_of (word ∷ words) = elim (named word.items) [
+  | Some subcommand ↦ read_words subcommand (length words) no_flags false words
+  | None ↦ other_request word.items words
+]

@@ -1,0 +1,31 @@
+-- The subcommands, with their names and options.
+use Rattle.std.specs.Prelude.{Bool, true, false, ℕ, List, [], ◌∷◌, codes}
+use Rattle.cvss_subcommands.specs.declared.flags.Flag.{Flag}
+use Rattle.cvss_subcommands.specs.declared.flags.Flag.TheVariants.{All, AllowIncomplete, Annotate, Document, Json, KeepGoing, Profile, Tsv, WhatIf}
+use Rattle.cvss_subcommands.specs.declared.flags.Flag.TheVariants as flag
+use Rattle.cvss_subcommands.specs.declared.subcommand.Subcommand.{Subcommand}
+use Rattle.cvss_subcommands.specs.declared.subcommand.Subcommand.TheVariants.{Score, Find, Explain, Set, Triage, Audit}
+
+abbrev pub subcommands : List Subcommand
+subcommands = Score ∷ Find ∷ Explain ∷ Set ∷ Triage ∷ Audit ∷ []
+
+abbrev pub name_of : Subcommand → List ℕ
+name_of Score = codes "score"
+name_of Find = codes "find"
+name_of Explain = codes "explain"
+name_of Set = codes "set"
+name_of Triage = codes "triage"
+name_of Audit = codes "audit"
+
+-- the options that it has
+unfoldable pub flags_of : Subcommand → List Flag
+flags_of Score = Json ∷ Tsv ∷ AllowIncomplete ∷ []
+flags_of Find = Json ∷ Annotate ∷ All ∷ AllowIncomplete ∷ []
+flags_of Explain = Json ∷ WhatIf ∷ AllowIncomplete ∷ []
+flags_of Set = []
+flags_of Triage = flag.Set ∷ Profile ∷ KeepGoing ∷ AllowIncomplete ∷ []
+flags_of Audit = AllowIncomplete ∷ Document ∷ []
+
+-- its first words are metrics, and its operands follow `--`
+abbrev pub sets_metrics : Subcommand → Bool
+sets_metrics = elim [ Set ↦ true | _ ↦ false ]

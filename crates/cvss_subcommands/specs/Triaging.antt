@@ -1,0 +1,23 @@
+-- What the options of `cvss triage` set.
+use Rattle.std.specs.Prelude.{ℕ, List, [], ◌∷◌, Option, None, Some, if◌then◌else◌, bytes_eq}
+use Rattle.std.specs.Global.{Vec}
+use Rattle.cvss_subcommands.specs.Flags.{flag_name}
+use Rattle.cvss_subcommands.specs.declared.flags.Flag.TheVariants.{Set, Profile as ProfileFlag}
+use Rattle.cvss_triage.specs.declared.settings.SettingKind.{SettingKind}
+use Rattle.cvss_triage.specs.declared.settings.SettingKind.TheVariants.{Metrics, Profile}
+
+-- what the word after an option says, if the option sets metrics
+abbrev pub kind_of : List ℕ → Option SettingKind
+kind_of word =
+    if bytes_eq word (flag_name Set) then Some Metrics
+    else if bytes_eq word (flag_name ProfileFlag) then Some Profile
+    else None
+
+-- what words set, of which the first is the value of an option of this kind, if there is one
+abbrev pub settings_after : Option SettingKind → List (Vec ℕ) → List (SettingKind × List ℕ)
+settings_after kind [] = []
+settings_after (Some kind) (word ∷ words) = (kind, word.items) ∷ settings_after None words
+settings_after None (word ∷ words) = settings_after (kind_of word.items) words
+
+abbrev pub settings_of : List (Vec ℕ) → List (SettingKind × List ℕ)
+settings_of words = settings_after None words

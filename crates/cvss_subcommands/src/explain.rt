@@ -1,0 +1,102 @@
+//! `cvss explain`.
+
+ghost use Rattle.cvss_subcommands.specs.Done.{explain_ends};
+ghost use Rattle.cvss_subcommands.specs.private.OneText.{explained_by_one_text};
+ghost use Rattle.cvss_explain_json.specs.Answers as json;
+ghost use Rattle.cvss_explain_text.specs.Answers as text;
+ghost use Rattle.cvss_lines.specs.Runs.{Ends};
+ghost use Rattle.cvss_program.specs.Operands.{ServesAll};
+
+use crate::flags::Flags;
+use cvss_explain_json::Explaining;
+use cvss_explain_text::answer_explained;
+use cvss_lines::{OutputBuffer, RunFault, Summary, serve};
+use cvss_program::{EachLine, Files, LineAnswer, Served, Task, WatchedReader, serve_operands};
+use std::alloc::{AllocError, Global};
+use std::io::{Read, Write};
+
+/// Explains the scores of the vectors of the operands.
+pub(crate) fn explain<F: Files, R: Read, W: Write, E: Write>(
+    alloc: Global,
+    flags: Flags,
+    operands: &[Vec<u8>],
+    files: &F,
+    reader: &mut WatchedReader<R>,
+    writer: &mut W,
+    report: &mut E,
+) -> Served
+    ensures { ServesAll (explain_ends flags.json flags.what_if flags.allow_incomplete)
+        (F.contents files.now) operands.now
+        (R.remaining reader.old.reader) (R.remaining reader.new.reader)
+        (W.contents writer.old) (W.contents writer.new) result }
+{
+    let allow_incomplete = flags.allow_incomplete;
+    if flags.json {
+        let task = ExplainObjects { allow_incomplete };
+        serve_operands(alloc, &task, operands, files, reader, writer, report)
+    } else {
+        let answer = ExplainText {
+            alloc,
+            what_if: flags.what_if,
+            allow_incomplete,
+        };
+        let task = EachLine { answer };
+        serve_operands(alloc, &task, operands, files, reader, writer, report)
+    }
+}
+
+/// Explains the score by an object.
+#[derive(Drop)]
+struct ExplainObjects {
+    /// A vector of CVSS v3 may lack base metrics.
+    allow_incomplete: bool,
+}
+
+impl Task for ExplainObjects {
+    ghost ends = { λ explain prefix. Ends (json.IsAnswer explain.allow_incomplete prefix) };
+
+    fn serve_input<R: Read, W: Write>(
+        &self,
+        alloc: Global,
+        prefix: &[u8],
+        reader: &mut R,
+        writer: &mut W,
+    ) -> Result<Summary, RunFault> {
+        let explaining = Explaining {
+            allow_incomplete: self.allow_incomplete,
+            prefix,
+        };
+        serve(&explaining, alloc, reader, writer)
+    }
+}
+
+/// Explains the score by a text for people.
+#[derive(Drop)]
+struct ExplainText {
+    alloc: Global,
+    /// Shows the scores that other values would give.
+    what_if: bool,
+    /// A vector of CVSS v3 may lack base metrics.
+    allow_incomplete: bool,
+}
+
+impl LineAnswer for ExplainText {
+    ghost rule = { λ explain. text.IsAnswer explain.what_if explain.allow_incomplete };
+
+    ghost one_text = { λ explain. explained_by_one_text explain.what_if explain.allow_incomplete };
+
+    fn answer_line(
+        &self,
+        _number: u64,
+        line: &[u8],
+        answers: &mut OutputBuffer,
+    ) -> Result<bool, AllocError> {
+        answer_explained(
+            self.alloc,
+            line,
+            self.what_if,
+            self.allow_incomplete,
+            answers,
+        )
+    }
+}

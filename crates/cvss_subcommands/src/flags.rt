@@ -1,0 +1,94 @@
+//! The options of subcommands.
+
+ghost use Rattle.std.specs.Prelude.{◌≡◌};
+ghost use Rattle.cvss_subcommands.specs.Flags.{flag_name, has_value, no_flags, with_flag};
+
+/// An option of some subcommands.
+#[derive(Clone, Copy, Drop)]
+pub(crate) enum Flag {
+    Json,
+    Tsv,
+    AllowIncomplete,
+    Annotate,
+    All,
+    WhatIf,
+    KeepGoing,
+    Document,
+    /// A metric and its value, as `E:A`, is the next word.
+    Set,
+    /// The name of a file is the next word.
+    Profile,
+}
+
+/// Which options are given, of those that have no value.
+#[derive(Clone, Copy, Drop)]
+pub(crate) struct Flags {
+    pub(crate) json: bool,
+    pub(crate) tsv: bool,
+    pub(crate) allow_incomplete: bool,
+    pub(crate) annotate: bool,
+    pub(crate) all: bool,
+    pub(crate) what_if: bool,
+    pub(crate) keep_going: bool,
+    pub(crate) document: bool,
+}
+
+impl Flag {
+    pub(crate) fn name(self) -> &'static str
+        ensures { result.now ≡ flag_name self }
+    {
+        match self {
+            Flag::Json => "--json",
+            Flag::Tsv => "--tsv",
+            Flag::AllowIncomplete => "--allow-incomplete",
+            Flag::Annotate => "--annotate",
+            Flag::All => "--all",
+            Flag::WhatIf => "--what-if",
+            Flag::KeepGoing => "--keep-going",
+            Flag::Document => "--document",
+            Flag::Set => "--set",
+            Flag::Profile => "--profile",
+        }
+    }
+
+    /// Whether the next word is its value.
+    pub(crate) fn has_value(self) -> bool
+        ensures { result ≡ has_value self }
+    {
+        matches!(self, Flag::Set | Flag::Profile)
+    }
+}
+
+impl Flags {
+    pub(crate) fn none() -> Flags
+        ensures { result ≡ no_flags }
+    {
+        Flags {
+            json: false,
+            tsv: false,
+            allow_incomplete: false,
+            annotate: false,
+            all: false,
+            what_if: false,
+            keep_going: false,
+            document: false,
+        }
+    }
+
+    #[rattlefmt::skip]
+    pub(crate) fn with(self, flag: Flag) -> Flags
+        ensures { result ≡ with_flag flag self }
+    {
+        match flag {
+            Flag::Json => Flags { json: true, ..self },
+            Flag::Tsv => Flags { tsv: true, ..self },
+            Flag::AllowIncomplete => Flags { allow_incomplete: true, ..self },
+            Flag::Annotate => Flags { annotate: true, ..self },
+            Flag::All => Flags { all: true, ..self },
+            Flag::WhatIf => Flags { what_if: true, ..self },
+            Flag::KeepGoing => Flags { keep_going: true, ..self },
+            Flag::Document => Flags { document: true, ..self },
+            Flag::Set | Flag::Profile => self,
+        }
+    }
+}

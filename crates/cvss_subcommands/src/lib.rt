@@ -1,0 +1,18 @@
+//! What the command `cvss` does: its arguments, its subcommands, and a task for each.
+#![tactic(auto)]
+
+mod command;
+mod explain;
+mod find;
+mod flags;
+mod help;
+mod hint;
+mod requests;
+mod score;
+mod subcommand;
+mod tasks;
+mod triage;
+
+pub use command::run_command;
+pub use help::USAGE;
+pub use hint::{Hint, first_hint};

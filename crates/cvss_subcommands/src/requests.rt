@@ -1,0 +1,197 @@
+//! What the arguments of the command ask for.
+
+ghost use Rattle.std.specs.Prelude.{◌≡◌, bytes_eq, false, length};
+ghost use Rattle.cvss_subcommands.specs.Flags.{no_flags};
+ghost use Rattle.cvss_subcommands.specs.Requests.{alone as alone_of, flag_of, found, help_request as help_of, is_option, named as named_by, read_words, request_of, word_of};
+
+use crate::flags::{Flag, Flags};
+use crate::subcommand::Subcommand;
+
+/// What the command is asked for.
+#[derive(Drop)]
+pub(crate) enum Request {
+    /// The help on a subcommand, or on all.
+    Help(Option<Subcommand>),
+    /// The version.
+    Version,
+    /// The arguments are not understood: so many are left from the first that is not, or none is where
+    /// one is missing.
+    Wrong(usize),
+    Run(Subcommand, Options),
+}
+
+/// What follows a subcommand.
+#[derive(Drop)]
+pub(crate) struct Options {
+    pub(crate) flags: Flags,
+    /// How many arguments after the subcommand are flags, values of flags and metrics.
+    pub(crate) words: usize,
+    /// How many of the last arguments are vectors and files.
+    pub(crate) operands: usize,
+}
+
+/// What a word after a subcommand is.
+#[derive(Drop)]
+pub(crate) enum Word {
+    /// `--`, after which all words are operands.
+    End,
+    Help,
+    Flag(Flag),
+    /// A flag that the subcommand does not have.
+    Unknown,
+    /// What is set in vectors.
+    Metric,
+    Operand,
+}
+
+/// What arguments ask for.
+pub(crate) fn request_of(arguments: &[Vec<u8>]) -> Request
+    ensures { result ≡ request_of arguments.now }
+{
+    let Some((word, words)) = arguments.split_first() else {
+        return Request::Wrong(0);
+    };
+    if let Some(subcommand) = named(word) {
+        read_words(subcommand, words)
+    } else if is(word, "help") {
+        help_request(words)
+    } else if is(word, "--help") {
+        alone(Request::Help(None), words)
+    } else if is(word, "--version") {
+        alone(Request::Version, words)
+    } else {
+        Request::Wrong(arguments.len())
+    }
+}
+
+/// The subcommand of this name.
+fn named(word: &[u8]) -> Option<Subcommand>
+    ensures { result ≡ named_by word.now }
+{
+    let all = Subcommand::ALL.iter();
+    all.copied().find(|subcommand| is(word, subcommand.name()))
+}
+
+/// What the words after a subcommand ask for.
+fn read_words(subcommand: Subcommand, words: &[Vec<u8>]) -> Request
+    ensures { result ≡ read_words subcommand (length words.now) no_flags false words.now }
+{
+    let mut flags = Flags::none();
+    let mut value = false;
+    let mut left = words;
+    while let Some((word, rest)) = left.split_first() {
+        if value {
+            value = false;
+        } else {
+            match word_of(subcommand, word) {
+                Word::End => {
+                    let read = words.len().saturating_sub(left.len());
+                    return found(subcommand, flags, read, left.len(), rest.len());
+                }
+                Word::Help => return Request::Help(Some(subcommand)),
+                Word::Unknown => return Request::Wrong(left.len()),
+                Word::Operand => {
+                    let read = words.len().saturating_sub(left.len());
+                    return found(subcommand, flags, read, left.len(), left.len());
+                }
+                Word::Metric => {}
+                Word::Flag(flag) => {
+                    flags = flags.with(flag);
+                    value = flag.has_value();
+                }
+            }
+        }
+        left = rest;
+    }
+    if value {
+        Request::Wrong(0)
+    } else {
+        found(subcommand, flags, words.len(), 0, 0)
+    }
+}
+
+fn word_of(subcommand: Subcommand, word: &[u8]) -> Word
+    ensures { result ≡ word_of subcommand word.now }
+{
+    if is(word, "--") {
+        Word::End
+    } else if is(word, "--help") {
+        Word::Help
+    } else if is_option(word) {
+        match flag_of(subcommand, word) {
+            Some(flag) => Word::Flag(flag),
+            None => Word::Unknown,
+        }
+    } else if subcommand.sets_metrics() {
+        Word::Metric
+    } else {
+        Word::Operand
+    }
+}
+
+/// The flag of this name that a subcommand has.
+fn flag_of(subcommand: Subcommand, word: &[u8]) -> Option<Flag>
+    ensures { result ≡ flag_of subcommand word.now }
+{
+    let known = subcommand.flags().iter();
+    known.copied().find(|flag| is(word, flag.name()))
+}
+
+/// The request of a subcommand after so many words and with so many operands, where there has to be a
+/// metric if the subcommand sets metrics.
+fn found(
+    subcommand: Subcommand,
+    flags: Flags,
+    words: usize,
+    left: usize,
+    operands: usize,
+) -> Request
+    ensures { result ≡ found subcommand flags words left operands }
+{
+    if subcommand.sets_metrics() && words == 0 {
+        return Request::Wrong(left);
+    }
+    let options = Options {
+        flags,
+        words,
+        operands,
+    };
+    Request::Run(subcommand, options)
+}
+
+fn help_request(words: &[Vec<u8>]) -> Request
+    ensures { result ≡ help_of words.now }
+{
+    match words {
+        [] => Request::Help(None),
+        [word] if is(word, "help") => Request::Help(None),
+        [word] => match named(word) {
+            Some(subcommand) => Request::Help(Some(subcommand)),
+            None => Request::Wrong(1),
+        },
+        [_, more @ ..] => Request::Wrong(more.len()),
+    }
+}
+
+/// The request, if no more words follow.
+fn alone(request: Request, words: &[Vec<u8>]) -> Request
+    ensures { result ≡ alone_of request words.now }
+{
+    match words {
+        [] => request,
+        _ => Request::Wrong(words.len()),
+    }
+}
+
+fn is(word: &[u8], text: &str) -> bool
+    ensures { result ≡ bytes_eq word.now text.now }
+{
+    word == text.as_bytes()
+}
+
+/// Whether a word begins with a hyphen, and is not one alone.
+fn is_option(word: &[u8]) -> bool
+    ensures { result ≡ is_option word.now }
+{
+    matches!(word, [b'-', _, ..])
+}

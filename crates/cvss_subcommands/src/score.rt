@@ -1,0 +1,80 @@
+//! `cvss score`.
+
+ghost use Rattle.std.specs.Prelude.{◌≡◌};
+ghost use Rattle.cvss_subcommands.specs.Scoring.{Scores, ServesTable};
+
+use crate::flags::Flags;
+use crate::tasks::{Score, ScoreRow};
+use cvss_lines::write_whole;
+use cvss_program::{EachLine, Files, Served, WatchedReader, are_many, serve_operands};
+use cvss_rows::{Format, header};
+use std::alloc::Global;
+use std::io::{Read, Write};
+
+/// Scores the vectors of the operands.
+pub(crate) fn score<F: Files, R: Read, W: Write, E: Write>(
+    alloc: Global,
+    flags: Flags,
+    operands: &[Vec<u8>],
+    files: &F,
+    reader: &mut WatchedReader<R>,
+    writer: &mut W,
+    report: &mut E,
+) -> Served
+    ensures { Scores flags.json flags.tsv flags.allow_incomplete (F.contents files.now) operands.now
+        (R.remaining reader.old.reader) (R.remaining reader.new.reader)
+        (W.contents writer.old) (W.contents writer.new) result }
+{
+    let allow_incomplete = flags.allow_incomplete;
+    if flags.json {
+        let format = Format::Json;
+        let task = ScoreRow {
+            format,
+            allow_incomplete,
+        };
+        serve_operands(alloc, &task, operands, files, reader, writer, report)
+    } else if flags.tsv {
+        serve_table(
+            alloc,
+            allow_incomplete,
+            operands,
+            files,
+            reader,
+            writer,
+            report,
+        )
+    } else {
+        let task = EachLine {
+            answer: Score { allow_incomplete },
+        };
+        serve_operands(alloc, &task, operands, files, reader, writer, report)
+    }
+}
+
+/// Scores the vectors of the operands in rows, after the names of the columns.
+fn serve_table<F: Files, R: Read, W: Write, E: Write>(
+    alloc: Global,
+    allow_incomplete: bool,
+    operands: &[Vec<u8>],
+    files: &F,
+    reader: &mut WatchedReader<R>,
+    writer: &mut W,
+    report: &mut E,
+) -> Served
+    ensures { ServesTable allow_incomplete (F.contents files.now) operands.now
+        (R.remaining reader.old.reader) (R.remaining reader.new.reader)
+        (W.contents writer.old) (W.contents writer.new) result }
+{
+    let names = header(are_many(operands));
+    match write_whole(writer, names.as_bytes()) {
+        Ok(()) => {
+            let format = Format::Tsv;
+            let task = ScoreRow {
+                format,
+                allow_incomplete,
+            };
+            serve_operands(alloc, &task, operands, files, reader, writer, report)
+        }
+        Err(fault) => Served::nothing().after(Err(fault)),
+    }
+}

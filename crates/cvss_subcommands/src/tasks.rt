@@ -1,0 +1,86 @@
+//! What the subcommands do with a line.
+
+ghost use Rattle.cvss_answer.specs.Answers.{score_rule};
+ghost use Rattle.cvss_answer.specs.Setting.{IsSetAnswer};
+ghost use Rattle.cvss_subcommands.specs.private.OneText.{score_by_one_text, set_by_one_text};
+ghost use Rattle.cvss_lines.specs.Runs.{Ends};
+ghost use Rattle.cvss_rows.specs.Rows.{IsRow};
+
+use cvss_answer::{answer_score, answer_with_metrics};
+use cvss_lines::{OutputBuffer, RunFault, Summary, serve};
+use cvss_program::{LineAnswer, Task};
+use cvss_rows::{Format, Rows};
+use std::alloc::{AllocError, Global};
+use std::io::{Read, Write};
+
+/// Scores the vector.
+#[derive(Drop)]
+pub(crate) struct Score {
+    /// A vector of CVSS v3 may lack base metrics.
+    pub(crate) allow_incomplete: bool,
+}
+
+impl LineAnswer for Score {
+    ghost rule = { λ score. score_rule score.allow_incomplete };
+
+    ghost one_text = { λ score. score_by_one_text score.allow_incomplete };
+
+    #[inline(always)]
+    fn answer_line(
+        &self,
+        _number: u64,
+        line: &[u8],
+        answers: &mut OutputBuffer,
+    ) -> Result<bool, AllocError> {
+        answer_score(line, self.allow_incomplete, answers)
+    }
+}
+
+/// Scores the vector, in a row.
+#[derive(Drop)]
+pub(crate) struct ScoreRow {
+    pub(crate) format: Format,
+    /// A vector of CVSS v3 may lack base metrics.
+    pub(crate) allow_incomplete: bool,
+}
+
+impl Task for ScoreRow {
+    ghost ends = { λ row prefix. Ends (IsRow row.format row.allow_incomplete prefix) };
+
+    fn serve_input<R: Read, W: Write>(
+        &self,
+        alloc: Global,
+        prefix: &[u8],
+        reader: &mut R,
+        writer: &mut W,
+    ) -> Result<Summary, RunFault> {
+        let rows = Rows {
+            format: self.format,
+            allow_incomplete: self.allow_incomplete,
+            prefix,
+        };
+        serve(&rows, alloc, reader, writer)
+    }
+}
+
+/// Sets metrics in the vector, and scores it.
+#[derive(Drop)]
+pub(crate) struct Set<'a> {
+    /// With slashes between them.
+    pub(crate) metrics: &'a str,
+}
+
+impl LineAnswer for Set<'_> {
+    ghost rule = { λ set. IsSetAnswer set.metrics.now };
+
+    ghost one_text = { λ set. set_by_one_text set.metrics.now };
+
+    fn answer_line(
+        &self,
+        _number: u64,
+        line: &[u8],
+        answers: &mut OutputBuffer,
+    ) -> Result<bool, AllocError> {
+        answer_with_metrics(line, self.metrics, answers)
+    }
+}
