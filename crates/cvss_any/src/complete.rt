@@ -24,6 +24,7 @@ impl Cvss {
     }
 
     /// The first base metric that the vector lacks, unless it may lack some.
+    #[inline(always)]
     pub fn missing_by(&self, allow_incomplete: bool) -> Option<MetricType>
         ensures { result ≡ missing_by allow_incomplete self.now }
     {
@@ -47,32 +48,18 @@ fn missing_of_v3(vector: &v3::Vector) -> Option<MetricType>
 }
 
 #[inline(always)]
-pub(crate) fn first_missing_v3(vector: &v3::Vector) -> Option<base_v3::MetricType>
+fn first_missing_v3(vector: &v3::Vector) -> Option<base_v3::MetricType>
     ensures { result ≡ first_missing_v3 vector.now }
 {
-    if vector.av.is_none() {
-        return Some(base_v3::MetricType::AV);
+    match vector {
+        v3::Vector { av: None, .. } => Some(base_v3::MetricType::AV),
+        v3::Vector { ac: None, .. } => Some(base_v3::MetricType::AC),
+        v3::Vector { pr: None, .. } => Some(base_v3::MetricType::PR),
+        v3::Vector { ui: None, .. } => Some(base_v3::MetricType::UI),
+        v3::Vector { s: None, .. } => Some(base_v3::MetricType::S),
+        v3::Vector { c: None, .. } => Some(base_v3::MetricType::C),
+        v3::Vector { i: None, .. } => Some(base_v3::MetricType::I),
+        v3::Vector { a: None, .. } => Some(base_v3::MetricType::A),
+        _ => None,
     }
-    if vector.ac.is_none() {
-        return Some(base_v3::MetricType::AC);
-    }
-    if vector.pr.is_none() {
-        return Some(base_v3::MetricType::PR);
-    }
-    if vector.ui.is_none() {
-        return Some(base_v3::MetricType::UI);
-    }
-    if vector.s.is_none() {
-        return Some(base_v3::MetricType::S);
-    }
-    if vector.c.is_none() {
-        return Some(base_v3::MetricType::C);
-    }
-    if vector.i.is_none() {
-        return Some(base_v3::MetricType::I);
-    }
-    if vector.a.is_none() {
-        return Some(base_v3::MetricType::A);
-    }
-    None
 }
