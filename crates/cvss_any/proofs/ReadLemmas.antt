@@ -36,8 +36,8 @@ module _ {V K : Type 0} {version : Version V K} {wrap : V → Cvss} {of_any : K 
   read_ok v read = record {
     denoted = (by.denotes v read.denoted read.well_formed).0;
     accepts = λ cvss denotes.
-      let of = by.own cvss denotes in
-      ap (λ own. Ok (wrap own)) (ok_same v of.own (read.accepts of.own of.holds.0 of.holds.1)) ∙ ap Ok (sym of.is);
+        let of = by.own cvss denotes in
+        ap (λ own. Ok (wrap own)) (ok_same v of.own (read.accepts of.own of.holds.0 of.holds.1)) ∙ ap Ok (sym of.is);
     scored = (by.denotes v read.denoted read.well_formed).1;
     utf8 = read.utf8;
     refused = tt;
@@ -53,8 +53,8 @@ module _ {V K : Type 0} {version : Version V K} {wrap : V → Cvss} {of_any : K 
     utf8 = tt;
     refused = (by.reasons (reason_read reported)).1 (record { own = reason_of version fault; first = read.refused; is = says });
     refuses = λ reason first.
-      let of = (by.reasons reason).0 first in
-      says ∙ (ap (wrapped of_any) (read.refuses of.own of.first) ∙ sym of.is);
+        let of = (by.reasons reason).0 first in
+        says ∙ (ap (wrapped of_any) (read.refuses of.own of.first) ∙ sym of.is);
     printable = λ utf8. printable (read.printable utf8);
   }
 

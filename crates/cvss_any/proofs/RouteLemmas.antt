@@ -56,12 +56,6 @@ v3_routed text minor to vector denotes routed =
     ∙ (ap (λ each. route_after each parts) denotes.version
     ∙ two_pieces (codes "3." ++ numeral minor) parts to (v3_parts text minor vector denotes) routed)
 
-pub v30_routed : (text : List ℕ) (vector : vector_v3.Vector) → DenotesV3 text (codes "CVSS:3.0") 0 vector → route_of text ≡ ToV30
-v30_routed text vector denotes = v3_routed text 0 ToV30 vector denotes (λ next more. refl)
-
-pub v31_routed : (text : List ℕ) (vector : vector_v3.Vector) → DenotesV3 text (codes "CVSS:3.1") 1 vector → route_of text ≡ ToV31
-v31_routed text vector denotes = v3_routed text 1 ToV31 vector denotes (λ next more. refl)
-
 -- the version that CVSS v4.0 supports
 pub only_one : (reported other : List ℕ) → Contains (other ∷ []) reported → reported ≡ other
 only_one reported other (zero, within, is) = sym is
@@ -151,6 +145,6 @@ route_for (CvssV40 vector) = ToV40
 
 pub denoted_routed : (text : List ℕ) (cvss : Cvss) → DenotesCvss text cvss → route_of text ≡ route_for cvss
 denoted_routed text (CvssV20 vector) denotes = v20_routed text vector denotes
-denoted_routed text (CvssV30 vector) denotes = v30_routed text vector denotes
-denoted_routed text (CvssV31 vector) denotes = v31_routed text vector denotes
+denoted_routed text (CvssV30 vector) denotes = v3_routed text 0 ToV30 vector denotes (λ next more. refl)
+denoted_routed text (CvssV31 vector) denotes = v3_routed text 1 ToV31 vector denotes (λ next more. refl)
 denoted_routed text (CvssV40 vector) denotes = v40_routed text vector denotes

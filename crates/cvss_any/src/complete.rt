@@ -41,25 +41,15 @@ impl Cvss {
 fn missing_of_v3(vector: &v3::Vector) -> Option<MetricType>
     ensures { result ≡ option_map V3 (first_missing_v3 vector.now) }
 {
-    match first_missing_v3(vector) {
-        Some(kind) => Some(MetricType::V3(kind)),
-        None => None,
-    }
-}
-
-#[inline(always)]
-fn first_missing_v3(vector: &v3::Vector) -> Option<base_v3::MetricType>
-    ensures { result ≡ first_missing_v3 vector.now }
-{
     match vector {
-        v3::Vector { av: None, .. } => Some(base_v3::MetricType::AV),
-        v3::Vector { ac: None, .. } => Some(base_v3::MetricType::AC),
-        v3::Vector { pr: None, .. } => Some(base_v3::MetricType::PR),
-        v3::Vector { ui: None, .. } => Some(base_v3::MetricType::UI),
-        v3::Vector { s: None, .. } => Some(base_v3::MetricType::S),
-        v3::Vector { c: None, .. } => Some(base_v3::MetricType::C),
-        v3::Vector { i: None, .. } => Some(base_v3::MetricType::I),
-        v3::Vector { a: None, .. } => Some(base_v3::MetricType::A),
+        v3::Vector { av: None, .. } => Some(MetricType::V3(base_v3::MetricType::AV)),
+        v3::Vector { ac: None, .. } => Some(MetricType::V3(base_v3::MetricType::AC)),
+        v3::Vector { pr: None, .. } => Some(MetricType::V3(base_v3::MetricType::PR)),
+        v3::Vector { ui: None, .. } => Some(MetricType::V3(base_v3::MetricType::UI)),
+        v3::Vector { s: None, .. } => Some(MetricType::V3(base_v3::MetricType::S)),
+        v3::Vector { c: None, .. } => Some(MetricType::V3(base_v3::MetricType::C)),
+        v3::Vector { i: None, .. } => Some(MetricType::V3(base_v3::MetricType::I)),
+        v3::Vector { a: None, .. } => Some(MetricType::V3(base_v3::MetricType::A)),
         _ => None,
     }
 }

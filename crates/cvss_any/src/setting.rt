@@ -151,10 +151,7 @@ fn build_by_version(version: Version, metrics: &str) -> Result<Cvss, SetError<'_
     }
 }
 
-fn build_version<V: OneVersion>(
-    minor_version: usize,
-    metrics: &str,
-) -> Result<Cvss, SetError<'_>>
+fn build_version<V: OneVersion>(minor_version: usize, metrics: &str) -> Result<Cvss, SetError<'_>>
     requires { length V.version.printed ≤ 32 }
     ensures { IsAnsweredBy
         (IsOf (V.joined minor_version) (IsBuilt V.version (V.front minor_version) (pieces metrics.now)))
