@@ -1,7 +1,7 @@
 //! What each version brings to a vector of any version. CVSS v3.0 and v3.1 are one version here, with
 //! two minor versions.
 
-ghost use Rattle.std.specs.Prelude.{◌≡◌, ◌∷◌, [], ℕ, List, IfSome, IsSome, IsUtf8, codes};
+ghost use Rattle.std.specs.Prelude.{◌≡◌, [], ℕ, List, IfSome, IsSome, IsUtf8, codes};
 ghost use Rattle.cvss_text.specs.private.Pieces.{pieces_left};
 ghost use Rattle.cvss_text.specs.private.Walk.{HasNoValue};
 ghost use Rattle.cvss_any.specs.Answers.{HasScore, text_of};
