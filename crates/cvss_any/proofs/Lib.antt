@@ -1,7 +1,6 @@
 mod BuiltLemmas
 mod BytesLemmas
 mod CutLemmas
-mod MissingLemmas
 pub mod ErrorLemmas
 mod ReadLemmas
 pub mod RouteLemmas

@@ -1,5 +1,5 @@
 -- Where a text is read that denotes a vector, and what is then reported of it.
-use Rattle.std.proofs.Common.{◌≡◌, ◌≢◌, ◌⊎◌, inl, inr, ℕ, ◌<◌, zero, suc, false, List, [], ◌∷◌, ◌++◌, codes, length, get_or, refl, sym, ap, ◌∙◌, arith, lit<, Contains}
+use Rattle.std.proofs.Common.{◌≡◌, ◌≢◌, inl, inr, ℕ, ◌<◌, zero, suc, false, List, [], ◌∷◌, ◌++◌, codes, length, get_or, refl, sym, ap, ◌∙◌, arith, lit<, Contains}
 use Rattle.std.proofs.lemmas.Bool.{cases_order}
 use Rattle.std.proofs.lemmas.List.Elements.{All-nil}
 use Rattle.cvss_base.specs.Version.{numeral, version_piece, Denotes, IsWellFormed}
@@ -27,12 +27,9 @@ use Rattle.cvss_v4.specs.private.VectorLaws.{v4_laws, v4_front_laws}
 use Rattle.cvss_v4.specs.declared.vector.Vector as vector_v4
 use Rattle.cvss_any.specs.Route.{Route, ToV20, ToV30, ToV31, ToV40, route_of, route_of_pieces}
 use Rattle.cvss_any.specs.Dispatch.{DenotesV2, DenotesV3, DenotesV4, DenotesCvss}
+use Rattle.cvss_any.specs.private.Versions.{IsRouted}
 use Rattle.cvss_any.specs.declared.vector.Cvss.{Cvss}
 use Rattle.cvss_any.specs.declared.vector.Cvss.TheVariants.{CvssV20, CvssV30, CvssV31, CvssV40}
-
--- the piece that says a minor version of CVSS v3
-abbrev v3_front : ℕ → List (List ℕ)
-v3_front minor = version_piece (codes "3." ++ numeral minor) ∷ []
 
 -- the pieces of a text that denotes a vector of CVSS v3
 v3_pieces : (text : List ℕ) (vector : vector_v3.Vector) (denotes : Denotes v3 text vector) → pieces text ≡ version_piece (codes "3." ++ numeral vector.minor_version) ∷ denotes.parts
@@ -59,22 +56,10 @@ v3_routed text minor to vector denotes routed =
     ∙ (ap (λ each. route_after each parts) denotes.version
     ∙ two_pieces (codes "3." ++ numeral minor) parts to (v3_parts text minor vector denotes) routed)
 
-pub v30_routed : (text : List ℕ) (vector : vector_v3.Vector) → DenotesV3 text (codes "CVSS:3.0") 0 vector → route_of text ≡ ToV30
-v30_routed text vector denotes = v3_routed text 0 ToV30 vector denotes (λ next more. refl)
-
-pub v31_routed : (text : List ℕ) (vector : vector_v3.Vector) → DenotesV3 text (codes "CVSS:3.1") 1 vector → route_of text ≡ ToV31
-v31_routed text vector denotes = v3_routed text 1 ToV31 vector denotes (λ next more. refl)
-
 -- the version that CVSS v4.0 supports
 pub only_one : (reported other : List ℕ) → Contains (other ∷ []) reported → reported ≡ other
 only_one reported other (zero, within, is) = sym is
 only_one reported other (suc place, within, is) = absurd (omega (arith, within))
-
--- the versions that CVSS v3 supports
-one_of_two : (reported first second : List ℕ) → Contains (first ∷ second ∷ []) reported → (reported ≡ first) ⊎ (reported ≡ second)
-one_of_two reported first second (zero, within, is) = inl (sym is)
-one_of_two reported first second (suc zero, within, is) = inr (sym is)
-one_of_two reported first second (suc (suc place), within, is) = absurd (omega (arith, within))
 
 -- a vector of CVSS v4.0 with all base metrics has some component
 pub v4_parts : (text : List ℕ) (vector : vector_v4.Vector) (denotes : DenotesV4 text vector) → denotes.denoted.parts ≢ []
@@ -83,12 +68,14 @@ v4_parts text vector denotes none =
     let stands = held_stands v4 v4_laws vector denotes.denoted.parts kind_v4.AC value.0 denotes.denoted.components value.1 in
     omega (arith, stands.within, ap length none)
 
+-- the piece that says the version of a well formed vector of CVSS v4.0
+pub v4_front : (vector : vector_v4.Vector) → IsWellFormed v4 vector → v4.front vector ≡ version_piece (codes "4.0") ∷ []
+v4_front vector formed =
+    formed.supported.front_is ∙ ap (λ each. version_piece each ∷ []) (only_one formed.supported.reported (codes "4.0") formed.supported.supported)
+
 v4_pieces : (text : List ℕ) (vector : vector_v4.Vector) (denotes : DenotesV4 text vector) → pieces text ≡ version_piece (codes "4.0") ∷ denotes.denoted.parts
 v4_pieces text vector denotes =
-    let reported = denotes.well_formed.supported.reported in
-    let is : reported ≡ codes "4.0" = only_one reported (codes "4.0") denotes.well_formed.supported.supported in
-    let front : v4.front vector ≡ version_piece (codes "4.0") ∷ [] = denotes.well_formed.supported.front_is ∙ ap (λ each. version_piece each ∷ []) is in
-    pieces_denoted_after v4 v4_laws v4_front_laws text vector denotes.denoted (codes "4.0") front refl
+    pieces_denoted_after v4 v4_laws v4_front_laws text vector denotes.denoted (codes "4.0") (v4_front vector denotes.well_formed) refl
 
 pub v40_routed : (text : List ℕ) (vector : vector_v4.Vector) → DenotesV4 text vector → route_of text ≡ ToV40
 v40_routed text vector denotes =
@@ -136,47 +123,18 @@ v20_routed text vector denotes =
     let first = piece_held v2 v2_laws vector parts 0 denotes.denoted.components (omega (arith, some)) in
     ap route_of_pieces are ∙ first_held_routed parts first.kind (v2.spelling first.kind first.value) some (undotted_spelling first.kind first.value) first.is
 
--- a text that CVSS v3 reads has the minor version by which it was routed
-pub reported_minor : (minor other : ℕ) (reported : List ℕ) → v3_front minor ≡ version_piece reported ∷ [] → reported ≡ codes "3." ++ numeral other → minor ≡ other
-reported_minor minor other reported front is =
-    let piece = rw is at front in
-    let numerals : numeral minor ≡ numeral other = cc in
-    numeral-injective minor other numerals
+-- one piece says one minor version of CVSS v3
+pub same_minor : (minor other : ℕ) (left right : List (List ℕ)) → version_piece (codes "3." ++ numeral minor) ∷ left ≡ version_piece (codes "3." ++ numeral other) ∷ right → minor ≡ other
+same_minor minor other left right same = let numerals : numeral minor ≡ numeral other = cc in numeral-injective minor other numerals
 
-minor_is : (vector : vector_v3.Vector) → IsWellFormed v3 vector → (vector.minor_version ≡ 0) ⊎ (vector.minor_version ≡ 1)
-minor_is vector formed = elim (one_of_two formed.supported.reported (codes "3.0") (codes "3.1") formed.supported.supported) [
-  | inl is ↦ inl (reported_minor vector.minor_version 0 formed.supported.reported formed.supported.front_is is)
-  | inr is ↦ inr (reported_minor vector.minor_version 1 formed.supported.reported formed.supported.front_is is)
-]
-
-not_v31 : (parts : List (List ℕ)) → route_after 0 parts ≡ ToV31 → ⊥
-not_v31 [] is = cc
-not_v31 (next ∷ more) is = cc
-
-not_v30 : (parts : List (List ℕ)) → route_after 1 parts ≡ ToV30 → ⊥
-not_v30 [] is = cc
-not_v30 (next ∷ more) is = cc
-
-module _ (text : List ℕ) (vector : vector_v3.Vector) where
-  -- where the text is routed as this minor version is
-  routed_as : (to : Route) (minor : ℕ) → route_of text ≡ to → (denotes : Denotes v3 text vector) → vector.minor_version ≡ minor → route_after minor denotes.parts ≡ to
-  routed_as to minor route denotes is = ap (λ each. route_after each denotes.parts) (sym is) ∙ (sym (ap route_of_pieces (v3_pieces text vector denotes)) ∙ route)
-
-  pub v30_denoted : route_of text ≡ ToV30 → Denotes v3 text vector → IsWellFormed v3 vector → DenotesV3 text (codes "CVSS:3.0") 0 vector
-  v30_denoted route denotes formed = record {
-    denoted = denotes;
-    well_formed = formed;
-    version = elim (minor_is vector formed) [ inl is ↦ is | inr is ↦ absurd (not_v30 denotes.parts (routed_as ToV30 1 route denotes is)) ];
-    more = λ same. let no : route_of (codes "CVSS:3.0") ≡ ToV30 = ap route_of (sym same) ∙ route in cc;
-  }
-
-  pub v31_denoted : route_of text ≡ ToV31 → Denotes v3 text vector → IsWellFormed v3 vector → DenotesV3 text (codes "CVSS:3.1") 1 vector
-  v31_denoted route denotes formed = record {
-    denoted = denotes;
-    well_formed = formed;
-    version = elim (minor_is vector formed) [ inl is ↦ absurd (not_v31 denotes.parts (routed_as ToV31 0 route denotes is)) | inr is ↦ is ];
-    more = λ same. let no : route_of (codes "CVSS:3.1") ≡ ToV31 = ap route_of (sym same) ∙ route in cc;
-  }
+-- a text that says a minor version of CVSS v3 denotes vectors of that
+pub v3_denoted : (text : List ℕ) (left : List (List ℕ)) (minor : ℕ) (to : Route) (vector : vector_v3.Vector) → IsRouted to (codes "3." ++ numeral minor) text left → Denotes v3 text vector → IsWellFormed v3 vector → route_of (version_piece (codes "3." ++ numeral minor)) ≢ to → DenotesV3 text (version_piece (codes "3." ++ numeral minor)) minor vector
+v3_denoted text left minor to vector is denotes formed alone = record {
+  denoted = denotes;
+  well_formed = formed;
+  version = same_minor vector.minor_version minor denotes.parts left (sym (v3_pieces text vector denotes) ∙ is.after);
+  more = λ same. alone (ap route_of (sym same) ∙ is.route);
+}
 
 -- a text that denotes a vector is read by the rules of its version
 abbrev pub route_for : Cvss → Route
@@ -187,6 +145,6 @@ route_for (CvssV40 vector) = ToV40
 
 pub denoted_routed : (text : List ℕ) (cvss : Cvss) → DenotesCvss text cvss → route_of text ≡ route_for cvss
 denoted_routed text (CvssV20 vector) denotes = v20_routed text vector denotes
-denoted_routed text (CvssV30 vector) denotes = v30_routed text vector denotes
-denoted_routed text (CvssV31 vector) denotes = v31_routed text vector denotes
+denoted_routed text (CvssV30 vector) denotes = v3_routed text 0 ToV30 vector denotes (λ next more. refl)
+denoted_routed text (CvssV31 vector) denotes = v3_routed text 1 ToV31 vector denotes (λ next more. refl)
 denoted_routed text (CvssV40 vector) denotes = v40_routed text vector denotes

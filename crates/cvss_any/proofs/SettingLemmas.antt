@@ -1,7 +1,7 @@
 -- What is answered of a vector of any version, from what its version answers.
-use Rattle.std.proofs.Common.{◌≡◌, ℕ, ◌≤◌, List, [], ◌∷◌, ◌++◌, codes, Option, Some, None, IfSome, Result, Ok, Err, length, refl, sym, ap, ◌∙◌, subst, arith}
+use Rattle.std.proofs.Common.{◌≡◌, ℕ, ◌≤◌, List, Option, Some, None, IfSome, Result, Ok, Err, length, refl, sym, ap, ◌∙◌, subst, arith}
 use Rattle.cvss_base.specs.Refusal.{Refusal}
-use Rattle.cvss_base.specs.Version.{Version, numeral, version_piece}
+use Rattle.cvss_base.specs.Version.{Version}
 use Rattle.cvss_text.specs.private.SettingSteps.{IsAnswered}
 use Rattle.cvss_text.specs.private.Walk.{HasNoValue, reason_of}
 use Rattle.cvss_base.specs.declared.v4.MetricType as type_v4
@@ -20,8 +20,6 @@ use Rattle.cvss_any.specs.declared.vector.Cvss.{Cvss}
 use Rattle.cvss_any.specs.declared.vector.Cvss.TheVariants.{CvssV20, CvssV30, CvssV31, CvssV40}
 use Rattle.cvss_text.specs.Setting.{components_in}
 use Rattle.cvss_text.proofs.SettingLemmas.{IsComplete-set}
-use Rattle.cvss_v3.specs.Vector.{v3}
-use Rattle.cvss_v3.specs.declared.vector.Vector as vector_v3
 use Rattle.cvss_v4.specs.Vector.{v4}
 use Rattle.cvss_v4.specs.declared.vector.Vector as vector_v4
 use Rattle.cvss_v4.specs.private.VectorLaws.{v4_laws}
@@ -66,13 +64,6 @@ scored_built V20 new metrics is = subst HasScore (sym is.is) tt
 scored_built V30 new metrics is = subst HasScore (sym is.is) tt
 scored_built V31 new metrics is = subst HasScore (sym is.is) tt
 scored_built V40 new metrics is = subst HasScore (sym is.is) is.holds.complete
-
--- a front by its minor version
-pub front_v3 : (v : vector_v3.Vector) (minor : ℕ) → v.minor_version ≡ minor → v3.front v ≡ version_piece (codes "3." ++ numeral minor) ∷ []
-front_v3 v minor is = ap (λ each. version_piece (codes "3." ++ numeral each) ∷ []) is
-
-pub front_v4 : (v : vector_v4.Vector) (minor : ℕ) → v.minor_version ≡ minor → v4.front v ≡ version_piece (codes "4." ++ numeral minor) ∷ []
-front_v4 v minor is = ap (λ each. version_piece (codes "4." ++ numeral each) ∷ []) is
 
 same_v4 : (v : vector_v4.Vector) (minor : ℕ) (kind : type_v4.MetricType) → v4.value_of (record v { minor_version = minor }) kind ≡ v4.value_of v kind
 same_v4 v minor = elim [ kind_v4.AC ↦ refl | _ ↦ refl ]

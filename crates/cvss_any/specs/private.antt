@@ -1,3 +1,4 @@
 pub mod SettingSteps
 pub mod Steps
+pub mod Versions
 pub mod Views

@@ -6,12 +6,10 @@ ghost use Rattle.cvss_any.specs.Dispatch.{DenotesCvss};
 ghost use Rattle.cvss_any.specs.Complete.{IsPublishedOfComplete, first_missing};
 ghost use Rattle.cvss_any.specs.Published.{IsPublished, IsPublishedOf};
 
+use crate::one_version::OneVersion;
 use crate::published::Published;
 use crate::vector::Cvss;
 use crate::{v2, v3, v4};
-
-/// The bytes of `CVSS:3.0` or `CVSS:3.1`, which alone are no vector.
-const VERSION_PIECE_LENGTH: usize = 8;
 
 impl Cvss {
     /// The vector whose canonical text this is, where that is seen at once: `None` says nothing of
@@ -23,9 +21,9 @@ impl Cvss {
         ensures utf8 { IsSome result → IsUtf8 text.now }
     {
         match text {
-            [b'A', ..] => v2_on_fast_path(text),
-            [_, _, _, _, _, b'3', ..] => v3_on_fast_path(text),
-            _ => v4_on_fast_path(text),
+            [b'A', ..] => v2::Vector::on_fast_path(text),
+            [_, _, _, _, _, b'3', ..] => v3::Vector::on_fast_path(text),
+            _ => v4::Vector::on_fast_path(text),
         }
     }
 
@@ -35,9 +33,9 @@ impl Cvss {
         ensures { IfSome result (IsPublishedOf text.now) }
     {
         match text {
-            [b'A', ..] => v2_published(text),
-            [_, _, _, _, _, b'3', ..] => v3_published(text),
-            _ => v4_published(text),
+            [b'A', ..] => published::<v2::Vector>(text),
+            [_, _, _, _, _, b'3', ..] => published::<v3::Vector>(text),
+            _ => published::<v4::Vector>(text),
         }
     }
 
@@ -46,9 +44,9 @@ impl Cvss {
         ensures { IfSome result (IsPublishedOfComplete text.now) }
     {
         match text {
-            [b'A', ..] => v2_complete(text),
-            [_, _, _, _, _, b'3', ..] => v3_complete(text),
-            _ => v4_complete(text),
+            [b'A', ..] => complete::<v2::Vector>(text),
+            [_, _, _, _, _, b'3', ..] => complete::<v3::Vector>(text),
+            _ => complete::<v4::Vector>(text),
         }
     }
 }
@@ -57,55 +55,19 @@ impl Cvss {
 // laid out byte by byte as any of the four.
 #[inline(never)]
 #[tactic(auto, using(crate::proofs::FastPathLemmas::IsPublishedOf_from))]
-fn v2_published(text: &[u8]) -> Option<Published>
+fn published<V: OneVersion>(text: &[u8]) -> Option<Published>
     ensures { IfSome result (IsPublishedOf text.now) }
 {
-    let cvss = v2_on_fast_path(text)?;
-    Some(cvss.published())
-}
-
-#[inline(never)]
-#[tactic(auto, using(crate::proofs::FastPathLemmas::IsPublishedOf_from))]
-fn v3_published(text: &[u8]) -> Option<Published>
-    ensures { IfSome result (IsPublishedOf text.now) }
-{
-    let cvss = v3_on_fast_path(text)?;
-    Some(cvss.published())
-}
-
-#[inline(never)]
-#[tactic(auto, using(crate::proofs::FastPathLemmas::IsPublishedOf_from))]
-fn v4_published(text: &[u8]) -> Option<Published>
-    ensures { IfSome result (IsPublishedOf text.now) }
-{
-    let cvss = v4_on_fast_path(text)?;
+    let cvss = V::on_fast_path(text)?;
     Some(cvss.published())
 }
 
 #[inline(never)]
 #[tactic(auto, using(crate::proofs::FastPathLemmas::IsPublishedOfComplete_from))]
-fn v2_complete(text: &[u8]) -> Option<Published>
+fn complete<V: OneVersion>(text: &[u8]) -> Option<Published>
     ensures { IfSome result (IsPublishedOfComplete text.now) }
 {
-    let cvss = v2_on_fast_path(text)?;
-    published_if_complete(&cvss)
-}
-
-#[inline(never)]
-#[tactic(auto, using(crate::proofs::FastPathLemmas::IsPublishedOfComplete_from))]
-fn v3_complete(text: &[u8]) -> Option<Published>
-    ensures { IfSome result (IsPublishedOfComplete text.now) }
-{
-    let cvss = v3_on_fast_path(text)?;
-    published_if_complete(&cvss)
-}
-
-#[inline(never)]
-#[tactic(auto, using(crate::proofs::FastPathLemmas::IsPublishedOfComplete_from))]
-fn v4_complete(text: &[u8]) -> Option<Published>
-    ensures { IfSome result (IsPublishedOfComplete text.now) }
-{
-    let cvss = v4_on_fast_path(text)?;
+    let cvss = V::on_fast_path(text)?;
     published_if_complete(&cvss)
 }
 
@@ -119,44 +81,4 @@ fn published_if_complete(cvss: &Cvss) -> Option<Published>
         None => Some(cvss.published()),
         Some(_) => None,
     }
-}
-
-#[inline(always)]
-fn v2_on_fast_path(text: &[u8]) -> Option<Cvss>
-    ensures canonical { IfSome result (λ cvss. text.now ≡ text_of cvss) }
-    ensures denoted { IfSome result (λ cvss. DenotesCvss text.now cvss) }
-    ensures scored { IfSome result (λ cvss. HasScore cvss) }
-    ensures utf8 { IsSome result → IsUtf8 text.now }
-{
-    let vector = v2::Vector::read_canonical(text)?;
-    Some(Cvss::CvssV20(vector))
-}
-
-#[inline(always)]
-fn v3_on_fast_path(text: &[u8]) -> Option<Cvss>
-    ensures canonical { IfSome result (λ cvss. text.now ≡ text_of cvss) }
-    ensures denoted { IfSome result (λ cvss. DenotesCvss text.now cvss) }
-    ensures scored { IfSome result (λ cvss. HasScore cvss) }
-    ensures utf8 { IsSome result → IsUtf8 text.now }
-{
-    let vector = v3::Vector::read_canonical(text)?;
-    if text.len() == VERSION_PIECE_LENGTH {
-        return None;
-    }
-    match vector.minor_version {
-        0 => Some(Cvss::CvssV30(vector)),
-        1 => Some(Cvss::CvssV31(vector)),
-        _ => None,
-    }
-}
-
-#[inline(always)]
-fn v4_on_fast_path(text: &[u8]) -> Option<Cvss>
-    ensures canonical { IfSome result (λ cvss. text.now ≡ text_of cvss) }
-    ensures denoted { IfSome result (λ cvss. DenotesCvss text.now cvss) }
-    ensures scored { IfSome result (λ cvss. HasScore cvss) }
-    ensures utf8 { IsSome result → IsUtf8 text.now }
-{
-    let vector = v4::Vector::read_canonical(text)?;
-    Some(Cvss::CvssV40(vector))
 }

@@ -7,6 +7,7 @@ mod fast_path;
 mod message;
 mod metric_type;
 mod metrics;
+mod one_version;
 mod published;
 mod reading;
 mod refusal;

@@ -1,5 +1,14 @@
 //! What is published of a vector: its score and the score's rating.
 
+ghost use Rattle.std.specs.Prelude.{◌≡◌, ◌≤◌, []};
+ghost use Rattle.cvss_any.specs.Answers.{HasScore, IsScoreOf, rating_by, score_of_tenths, text_of};
+ghost use Rattle.cvss_any.specs.Published.{IsPublished, rating_within};
+ghost use Rattle.cvss_any.specs.private.Steps.{IsDenoted};
+
+use crate::vector::Cvss;
+use cvss_text::buffer::TextBuffer;
+use cvss_text::print::text_after;
+
 /// By which bounds a score is rated.
 #[derive(Clone, Copy, Debug, PartialEq, Eq)]
 pub enum Bounds {
@@ -16,4 +25,57 @@ pub struct Published {
     pub tenths: u8,
     /// The bounds by which the vector's version rates it.
     pub bounds: Bounds,
+}
+
+impl Cvss {
+    #[inline(always)]
+    pub(crate) fn inlined_tenths(&self) -> u8
+        requires scored { HasScore self.now }
+        ensures value { IsScoreOf self.now (score_of_tenths result) }
+        ensures bound { result ≤ 100 }
+    {
+        match self {
+            Cvss::CvssV20(vector) => vector.tenths(),
+            Cvss::CvssV30(vector) | Cvss::CvssV31(vector) => vector.tenths(),
+            Cvss::CvssV40(vector) => vector.tenths(),
+        }
+    }
+
+    /// The bounds by which the vector's version rates scores.
+    #[inline(always)]
+    pub fn bounds(&self) -> Bounds
+        ensures { rating_by self.now ≡ rating_within result }
+    {
+        match self {
+            Cvss::CvssV20(_) => Bounds::OfV2,
+            Cvss::CvssV30(_) | Cvss::CvssV31(_) | Cvss::CvssV40(_) => Bounds::SinceV3,
+        }
+    }
+
+    /// What is published of a vector that has a score.
+    #[inline(always)]
+    pub fn published(&self) -> Published
+        requires scored { HasScore self.now }
+        ensures { IsPublished self.now result }
+    {
+        Published {
+            tenths: self.inlined_tenths(),
+            bounds: self.bounds(),
+        }
+    }
+
+    /// Writes the canonical text of a vector that a text denotes into an empty buffer, and gives it.
+    #[inline(always)]
+    pub(crate) fn text<'a>(&self, buffer: &'a mut TextBuffer) -> &'a [u8]
+        requires denoted { IsDenoted self.now }
+        requires empty { buffer.old ≡ [] }
+        ensures { result.now ≡ text_of self.now }
+    {
+        match self {
+            Cvss::CvssV20(vector) => vector.text(buffer),
+            Cvss::CvssV30(vector) => text_after(*b"CVSS:3.0", vector, buffer),
+            Cvss::CvssV31(vector) => text_after(*b"CVSS:3.1", vector, buffer),
+            Cvss::CvssV40(vector) => text_after(*b"CVSS:4.0", vector, buffer),
+        }
+    }
 }

@@ -4,16 +4,16 @@ ghost use Rattle.std.specs.Prelude.{◌≡◌};
 ghost use Rattle.cvss_text.specs.private.Walk.{reason_of};
 ghost use Rattle.cvss_any.specs.Dispatch.{wrapped};
 ghost use Rattle.cvss_any.specs.Refusals.{refusal_of};
-ghost use Rattle.cvss_any.specs.declared.metric_type.MetricType.{MetricType};
 ghost use Rattle.cvss_any.specs.declared.metric_type.MetricType.TheVariants as of;
 ghost use Rattle.cvss_any.specs.private.Steps.{reason_read};
 ghost use Rattle.cvss_v4.specs.Vector.{v4};
 
 use crate::metric_type::MetricType;
+use crate::one_version::OneVersion;
 use crate::reading::ReadFault;
 use crate::segment::Segment;
 use crate::{v2, v3, v4};
-use cvss_text::walk::{Components, Fault};
+use cvss_text::walk::Fault;
 
 /// The first reason why a text is refused, with the part of the text or the metric that it names.
 #[derive(Clone, Copy)]
@@ -41,39 +41,6 @@ pub enum ReadError<'a> {
     NotUtf8,
     /// The text is refused.
     Invalid(Refusal<'a>),
-}
-
-/// A version, whose metrics are also metrics of any version.
-pub(crate) trait OneVersion: Components {
-    ghost wrap: { Self.Kind → MetricType };
-
-    /// The metric as one of any version.
-    fn of_any(kind: Self::Kind) -> MetricType
-        ensures { result ≡ wrap kind };
-}
-
-impl OneVersion for v2::Vector {
-    ghost wrap = { of.V2 };
-
-    fn of_any(kind: cvss_base::v2::MetricType) -> MetricType {
-        MetricType::V2(kind)
-    }
-}
-
-impl OneVersion for v3::Vector {
-    ghost wrap = { of.V3 };
-
-    fn of_any(kind: cvss_base::v3::MetricType) -> MetricType {
-        MetricType::V3(kind)
-    }
-}
-
-impl OneVersion for v4::Vector {
-    ghost wrap = { of.V4 };
-
-    fn of_any(kind: cvss_base::v4::MetricType) -> MetricType {
-        MetricType::V4(kind)
-    }
 }
 
 impl<'a> From<Fault<'a, cvss_base::v4::MetricType>> for Refusal<'a> {

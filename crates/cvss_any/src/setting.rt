@@ -1,21 +1,20 @@
 //! Metrics that are set in a vector of any version, and vectors that are built from metrics alone. It
 //! takes no memory: an error borrows the part of the text that it names.
 
-ghost use Rattle.std.specs.Prelude.{◌≡◌, ◌≤◌, ℕ, IfOk, IfErr, IfSome, IsErrAnd, Ok, Option};
+ghost use Rattle.std.specs.Prelude.{◌≡◌, ◌≤◌, ℕ, IfOk, IfErr, IfSome, IsErrAnd, Ok, Option, length};
 ghost use Rattle.cvss_base.specs.Refusal as spec;
-ghost use Rattle.cvss_text.specs.private.Walk.{HasNoValue, reason_of};
+ghost use Rattle.cvss_base.specs.Text.{pieces};
+ghost use Rattle.cvss_text.specs.Setting.{IsBuildReason, IsBuilt, IsSet, IsSetReason, components_in};
+ghost use Rattle.cvss_text.specs.private.Walk.{reason_of};
 ghost use Rattle.cvss_any.specs.Answers.{HasScore};
-ghost use Rattle.cvss_any.specs.Dispatch.{DenotesCvss, wrapped};
+ghost use Rattle.cvss_any.specs.Dispatch.{DenotesCvss, IsReasonOf, wrapped};
 ghost use Rattle.cvss_any.specs.Refusals.{refusal_of};
-ghost use Rattle.cvss_any.specs.Setting.{IsBuiltAs, IsBuiltReason, IsWith, IsWithReason, text_with};
+ghost use Rattle.cvss_any.specs.Setting.{IsBuiltAs, IsBuiltReason, IsOf, IsWith, IsWithReason, text_with};
 ghost use Rattle.cvss_any.specs.declared.metric_type.MetricType.{MetricType};
-ghost use Rattle.cvss_any.specs.declared.setting.Version.TheVariants.{V20, V30, V31, V40};
-ghost use Rattle.cvss_any.specs.declared.vector.Cvss.TheVariants.{CvssV20, CvssV30, CvssV31, CvssV40};
 ghost use Rattle.cvss_any.specs.private.SettingSteps.{IsAnsweredBy};
-ghost use Rattle.cvss_v3.specs.Vector.{v3};
-ghost use Rattle.cvss_v4.specs.Vector.{v4};
 
-use crate::refusal::{OneVersion, Refusal};
+use crate::one_version::OneVersion;
+use crate::refusal::Refusal;
 use crate::vector::Cvss;
 use crate::{v2, v3, v4};
 use cvss_text::setting::{build, set};
@@ -113,10 +112,30 @@ fn with_by_version<'a>(cvss: &Cvss, metrics: &'a str) -> Result<Cvss, SetError<'
         result }
 {
     match cvss {
-        Cvss::CvssV20(vector) => with_v20(vector, metrics),
-        Cvss::CvssV30(vector) => with_v30(vector, metrics),
-        Cvss::CvssV31(vector) => with_v31(vector, metrics),
-        Cvss::CvssV40(vector) => with_v40(vector, metrics),
+        Cvss::CvssV20(vector) => with_version(vector, 0, 0, metrics),
+        Cvss::CvssV30(vector) => with_version(vector, vector.minor_version, 0, metrics),
+        Cvss::CvssV31(vector) => with_version(vector, vector.minor_version, 1, metrics),
+        Cvss::CvssV40(vector) => with_version(vector, vector.minor_version, 0, metrics),
+    }
+}
+
+/// The vector with metrics set, of the minor version that is said, which need not be its own.
+fn with_version<'a, V: OneVersion>(
+    vector: &V,
+    own: usize,
+    said: usize,
+    metrics: &'a str,
+) -> Result<Cvss, SetError<'a>>
+    requires own { V.version.front vector.now ≡ V.front own }
+    requires few { length V.version.printed ≤ 32 }
+    ensures { IsAnsweredBy
+        (IsOf (V.joined said) (IsSet V.version vector.now (components_in metrics.now)))
+        (λ index. IsReasonOf V.wrap (IsSetReason V.version (components_in metrics.now) index))
+        result }
+{
+    match set(vector, V::without_metrics(own), metrics) {
+        Ok(new) => Ok(new.join(said)),
+        Err(error) => Err(SetError::of::<V>(error)),
     }
 }
 
@@ -125,106 +144,22 @@ fn build_by_version(version: Version, metrics: &str) -> Result<Cvss, SetError<'_
         result }
 {
     match version {
-        Version::V20 => build_v20(metrics),
-        Version::V30 => build_v30(metrics),
-        Version::V31 => build_v31(metrics),
-        Version::V40 => build_v40(metrics),
+        Version::V20 => build_version::<v2::Vector>(0, metrics),
+        Version::V30 => build_version::<v3::Vector>(0, metrics),
+        Version::V31 => build_version::<v3::Vector>(1, metrics),
+        Version::V40 => build_version::<v4::Vector>(0, metrics),
     }
 }
 
-fn with_v20<'a>(vector: &v2::Vector, metrics: &'a str) -> Result<Cvss, SetError<'a>>
-    ensures { IsAnsweredBy (IsWith (CvssV20 vector.now) metrics.now)
-        (IsWithReason (CvssV20 vector.now) metrics.now) result }
+fn build_version<V: OneVersion>(minor_version: usize, metrics: &str) -> Result<Cvss, SetError<'_>>
+    requires { length V.version.printed ≤ 32 }
+    ensures { IsAnsweredBy
+        (IsOf (V.joined minor_version) (IsBuilt V.version (V.front minor_version) (pieces metrics.now)))
+        (λ index. IsReasonOf V.wrap (IsBuildReason V.version (pieces metrics.now) index))
+        result }
 {
-    match set(vector, v2::Vector::default(), metrics) {
-        Ok(new) => Ok(Cvss::CvssV20(new)),
-        Err(error) => Err(SetError::of::<v2::Vector>(error)),
+    match build(V::without_metrics(minor_version), metrics) {
+        Ok(new) => Ok(new.join(minor_version)),
+        Err(error) => Err(SetError::of::<V>(error)),
     }
-}
-
-fn with_v30<'a>(vector: &v3::Vector, metrics: &'a str) -> Result<Cvss, SetError<'a>>
-    ensures { IsAnsweredBy (IsWith (CvssV30 vector.now) metrics.now)
-        (IsWithReason (CvssV30 vector.now) metrics.now) result }
-{
-    match set(vector, empty_v3(vector.minor_version), metrics) {
-        Ok(new) => Ok(Cvss::CvssV30(new)),
-        Err(error) => Err(SetError::of::<v3::Vector>(error)),
-    }
-}
-
-fn with_v31<'a>(vector: &v3::Vector, metrics: &'a str) -> Result<Cvss, SetError<'a>>
-    ensures { IsAnsweredBy (IsWith (CvssV31 vector.now) metrics.now)
-        (IsWithReason (CvssV31 vector.now) metrics.now) result }
-{
-    match set(vector, empty_v3(vector.minor_version), metrics) {
-        Ok(new) => Ok(Cvss::CvssV31(new)),
-        Err(error) => Err(SetError::of::<v3::Vector>(error)),
-    }
-}
-
-fn with_v40<'a>(vector: &v4::Vector, metrics: &'a str) -> Result<Cvss, SetError<'a>>
-    ensures { IsAnsweredBy (IsWith (CvssV40 vector.now) metrics.now)
-        (IsWithReason (CvssV40 vector.now) metrics.now) result }
-{
-    match set(vector, empty_v4(vector.minor_version), metrics) {
-        Ok(new) => Ok(Cvss::CvssV40(new)),
-        Err(error) => Err(SetError::of::<v4::Vector>(error)),
-    }
-}
-
-fn build_v20(metrics: &str) -> Result<Cvss, SetError<'_>>
-    ensures { IsAnsweredBy (IsBuiltAs V20 metrics.now) (IsBuiltReason V20 metrics.now) result }
-{
-    match build(v2::Vector::default(), metrics) {
-        Ok(new) => Ok(Cvss::CvssV20(new)),
-        Err(error) => Err(SetError::of::<v2::Vector>(error)),
-    }
-}
-
-fn build_v30(metrics: &str) -> Result<Cvss, SetError<'_>>
-    ensures { IsAnsweredBy (IsBuiltAs V30 metrics.now) (IsBuiltReason V30 metrics.now) result }
-{
-    match build(empty_v3(0), metrics) {
-        Ok(new) => Ok(Cvss::CvssV30(new)),
-        Err(error) => Err(SetError::of::<v3::Vector>(error)),
-    }
-}
-
-fn build_v31(metrics: &str) -> Result<Cvss, SetError<'_>>
-    ensures { IsAnsweredBy (IsBuiltAs V31 metrics.now) (IsBuiltReason V31 metrics.now) result }
-{
-    match build(empty_v3(1), metrics) {
-        Ok(new) => Ok(Cvss::CvssV31(new)),
-        Err(error) => Err(SetError::of::<v3::Vector>(error)),
-    }
-}
-
-fn build_v40(metrics: &str) -> Result<Cvss, SetError<'_>>
-    ensures { IsAnsweredBy (IsBuiltAs V40 metrics.now) (IsBuiltReason V40 metrics.now) result }
-{
-    match build(empty_v4(0), metrics) {
-        Ok(new) => Ok(Cvss::CvssV40(new)),
-        Err(error) => Err(SetError::of::<v4::Vector>(error)),
-    }
-}
-
-/// The vector of CVSS v3 without metrics, of a minor version.
-pub(crate) fn empty_v3(minor_version: usize) -> v3::Vector
-    ensures version { result.minor_version ≡ minor_version }
-    ensures valueless { HasNoValue v3 result }
-{
-    let mut empty = v3::Vector::default();
-    empty.minor_version = minor_version;
-    empty
-}
-
-/// The vector of CVSS v4 without metrics, of a minor version.
-pub(crate) fn empty_v4(minor_version: usize) -> v4::Vector
-    ensures version { result.minor_version ≡ minor_version }
-    ensures valueless { HasNoValue v4 result }
-{
-    cvss_v4::laws::default_vectors_have_no_metric();
-    let mut empty = v4::Vector::default();
-    empty.minor_version = minor_version;
-    empty
 }

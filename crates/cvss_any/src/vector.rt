@@ -5,9 +5,9 @@ ghost use Rattle.cvss_any.specs.Answers.{text_of};
 
 use crate::bytes_error::BytesError;
 use crate::metrics::Metrics;
-use crate::published::{Bounds, Published};
+use crate::published::Published;
 use crate::reading::{bytes_error_of, error_of, publish, read, read_error_of};
-use crate::refusal::ReadError;
+use crate::refusal::{ReadError, Refusal as BorrowedRefusal};
 use crate::{v2, v3, v4};
 use cvss_base::tenths::text_of as text_of_tenths;
 use cvss_base::{Error, Severity, TENTH, severity_of_score};
@@ -38,7 +38,6 @@ impl Cvss {
     ghost use Rattle.cvss_any.specs.Dispatch.{DenotesCvss, IsFirstRefusalCvss, cvss_reason};
     ghost use Rattle.cvss_any.specs.MetricsLeft.{metrics_left};
     ghost use Rattle.cvss_any.specs.Complete.{IsPublishedBy, IsReadErrorBy};
-    ghost use Rattle.cvss_any.specs.Published.{IsPublished, rating_within};
     ghost use Rattle.cvss_any.specs.Refusals.{IsReadError, IsReadErrorFor};
     ghost use Rattle.cvss_any.specs.declared.bytes_error.BytesError.TheVariants.{NotUtf8};
     ghost use Rattle.cvss_any.specs.declared.refusal.ReadError.TheVariants as read_error;
@@ -121,7 +120,7 @@ impl Cvss {
     {
         match read(text) {
             Ok(cvss) => Ok(cvss),
-            Err(fault) => Err(read_error_of(text, fault)),
+            Err(fault) => Err(read_error_of(text, BorrowedRefusal::of(fault))),
         }
     }
 
@@ -145,7 +144,7 @@ impl Cvss {
     {
         match publish(text, allow_incomplete, buffer) {
             Ok(given) => Ok(given),
-            Err(fault) => Err(read_error_of(text, fault)),
+            Err(refusal) => Err(read_error_of(text, refusal)),
         }
     }
 
@@ -205,42 +204,6 @@ impl Cvss {
         ensures bound { result ≤ 100 }
     {
         self.inlined_tenths()
-    }
-
-    #[inline(always)]
-    fn inlined_tenths(&self) -> u8
-        requires scored { HasScore self.now }
-        ensures value { IsScoreOf self.now (score_of_tenths result) }
-        ensures bound { result ≤ 100 }
-    {
-        match self {
-            Cvss::CvssV20(vector) => vector.tenths(),
-            Cvss::CvssV30(vector) | Cvss::CvssV31(vector) => vector.tenths(),
-            Cvss::CvssV40(vector) => vector.tenths(),
-        }
-    }
-
-    /// The bounds by which the vector's version rates scores.
-    #[inline(always)]
-    pub fn bounds(&self) -> Bounds
-        ensures { rating_by self.now ≡ rating_within result }
-    {
-        match self {
-            Cvss::CvssV20(_) => Bounds::OfV2,
-            Cvss::CvssV30(_) | Cvss::CvssV31(_) | Cvss::CvssV40(_) => Bounds::SinceV3,
-        }
-    }
-
-    /// What is published of a vector that has a score.
-    #[inline(always)]
-    pub fn published(&self) -> Published
-        requires scored { HasScore self.now }
-        ensures { IsPublished self.now result }
-    {
-        Published {
-            tenths: self.inlined_tenths(),
-            bounds: self.bounds(),
-        }
     }
 
     /// The score of a vector that has one, with one decimal.

@@ -11,6 +11,8 @@ use Rattle.cvss_v4.specs.Vector.{v4}
 use Rattle.cvss_any.specs.Answers.{HasScore}
 use Rattle.cvss_any.specs.Complete.{missing_by}
 use Rattle.cvss_any.specs.declared.metric_type.MetricType.TheVariants.{V2, V3, V4}
+use Rattle.cvss_any.specs.Refusals.{refusal_of}
+use Rattle.cvss_any.specs.declared.refusal.Refusal as declared
 use Rattle.cvss_any.specs.declared.reading.ReadFault.{ReadFault}
 use Rattle.cvss_any.specs.declared.reading.ReadFault.TheVariants as reported
 use Rattle.cvss_any.specs.declared.vector.Cvss.{Cvss}
@@ -37,15 +39,20 @@ pub record IsRead (text : List ℕ) (answer : Result Cvss ReadFault) : Type 0 wh
   pub refuses : (reason : Refusal MetricType) → spec.IsFirstRefusalCvss text reason → IsErrAnd answer (λ fault. reason_read fault ≡ reason)
   pub printable : IsUtf8 text → IfErr answer IsPrintableFault
 
--- the text denotes a vector that lacks base metrics and may not, and the fault says the first of them
-pub record IsMissingFault (allow_incomplete : Bool) (text : List ℕ) (fault : ReadFault) : Type 0 where
+-- the text denotes a vector that lacks base metrics and may not, and the reason says the first of them
+pub record IsMissingReason (allow_incomplete : Bool) (text : List ℕ) (reason : Refusal MetricType) : Type 0 where
   pub cvss : Cvss
   pub denoted : spec.DenotesCvss text cvss
   pub utf8 : IsUtf8 text
   pub metric : MetricType
   pub missing : missing_by allow_incomplete cvss ≡ Some metric
-  pub reason : reason_read fault ≡ Missing metric
+  pub is : reason ≡ Missing metric
 
 -- why nothing is published of a text
-abbrev pub IsUnpublished : Bool → List ℕ → ReadFault → Type 0
-IsUnpublished allow_incomplete text fault = IsRead text (Err fault) ⊎ IsMissingFault allow_incomplete text fault
+abbrev pub IsUnpublished : Bool → List ℕ → declared.Refusal → Type 0
+IsUnpublished allow_incomplete text refusal =
+    spec.IsFirstRefusalCvss text (refusal_of refusal) ⊎ IsMissingReason allow_incomplete text (refusal_of refusal)
+
+-- some text denotes the vector
+abbrev pub IsDenoted : Cvss → Type 0
+IsDenoted cvss = (text : List ℕ) × spec.DenotesCvss text cvss

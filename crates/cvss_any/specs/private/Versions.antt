@@ -1,0 +1,28 @@
+-- The versions as the private code has them: CVSS v3.0 and v3.1 are one, with two minor versions.
+use Rattle.std.specs.Prelude.{◌≡◌, ℕ, zero, suc, List, [], ◌∷◌, ◌++◌, codes}
+use Rattle.cvss_base.specs.Text.{pieces}
+use Rattle.cvss_base.specs.Version.{numeral, version_piece}
+use Rattle.cvss_any.specs.Route.{Route, ToV30, ToV31, route_of}
+use Rattle.cvss_any.specs.declared.vector.Cvss.{Cvss}
+use Rattle.cvss_any.specs.declared.vector.Cvss.TheVariants.{CvssV30, CvssV31}
+use Rattle.cvss_v3.specs.declared.vector.Vector as vector_v3
+
+-- the front of a vector, from the major version with its dot, and the minor version
+abbrev pub front_of : List ℕ → ℕ → List (List ℕ)
+front_of major minor = version_piece (major ++ numeral minor) ∷ []
+
+-- a vector of CVSS v3, as one of any version
+abbrev pub wrapped_v3 : ℕ → vector_v3.Vector → Cvss
+wrapped_v3 zero = CvssV30
+wrapped_v3 (suc _) = CvssV31
+
+-- the text is read by the rules of a version, and these pieces follow the one that says it
+pub record IsRouted (to : Route) (reported text : List ℕ) (left : List (List ℕ)) : Type 0 where
+  pub route : route_of text ≡ to
+  pub after : pieces text ≡ version_piece reported ∷ left
+
+-- the same of a minor version of CVSS v3
+abbrev pub IsRoutedV3 : List ℕ → List (List ℕ) → ℕ → Type 0
+IsRoutedV3 text left zero = IsRouted ToV30 (codes "3.0") text left
+IsRoutedV3 text left (suc zero) = IsRouted ToV31 (codes "3.1") text left
+IsRoutedV3 text left (suc (suc _)) = ⊥
