@@ -1,6 +1,5 @@
 mod BuiltLemmas
 mod BytesLemmas
-mod CutLemmas
 pub mod ErrorLemmas
 mod ReadLemmas
 pub mod RouteLemmas

@@ -4,7 +4,7 @@ use Rattle.cvss_base.specs.Refusal.{Refusal, BadPiecesFirst, IsFirstReason, IsRe
 use Rattle.cvss_base.specs.Text.{pieces}
 use Rattle.cvss_base.specs.Version.{Version, Denotes, IsWellFormed}
 use Rattle.cvss_any.specs.Answers.{HasScore}
-use Rattle.cvss_any.specs.Route.{NoVersion, Route, ToV20, ToV30, ToV31, ToV40, ToNoVersion, route_of}
+use Rattle.cvss_text.specs.Route.{NoVersion, Route, ToV20, ToV30, ToV31, ToV40, ToNoVersion, route_of}
 use Rattle.cvss_any.specs.Dispatch.{DenotesCvss, IsFirstRefusalCvss, IsFirstReasonAt, IsReasonOf, wrapped, without_version}
 use Rattle.cvss_any.specs.Setting.{IsOf}
 use Rattle.cvss_any.specs.private.Steps.{IsRead, IsPrintableFault, reason_read}

@@ -25,7 +25,7 @@ use Rattle.cvss_v3.specs.declared.vector.Vector as vector_v3
 use Rattle.cvss_v4.specs.Vector.{v4}
 use Rattle.cvss_v4.specs.private.VectorLaws.{v4_laws, v4_front_laws}
 use Rattle.cvss_v4.specs.declared.vector.Vector as vector_v4
-use Rattle.cvss_any.specs.Route.{Route, ToV20, ToV30, ToV31, ToV40, route_of, route_of_pieces}
+use Rattle.cvss_text.specs.Route.{Route, ToV20, ToV30, ToV31, ToV40, route_of, route_of_pieces}
 use Rattle.cvss_any.specs.Dispatch.{DenotesV2, DenotesV3, DenotesV4, DenotesCvss}
 use Rattle.cvss_any.specs.private.Versions.{IsRouted}
 use Rattle.cvss_any.specs.declared.vector.Cvss.{Cvss}

@@ -6,7 +6,7 @@ use Rattle.cvss_base.specs.Refusal.{Refusal, BadComponent, WrongPrefix, WrongVer
 use Rattle.cvss_base.specs.Version.{Denotes, IsComplete, IsWellFormed}
 use Rattle.cvss_base.specs.declared.error.Error.{Error}
 use Rattle.cvss_base.specs.declared.error.Error.TheVariants.{InvalidMetricV2, DuplicateMetricV2, MissingMandatoryMetricV2, InvalidMetricV3, DuplicateMetricV3, InvalidMetricV4, DuplicateMetricV4, MissingMandatoryMetricV4}
-use Rattle.cvss_any.specs.Route.{NoVersion, OnePiece, OtherPrefix, OtherVersion, Route, ToV20, ToV30, ToV31, ToV40, ToNoVersion, route_of}
+use Rattle.cvss_text.specs.Route.{NoVersion, OnePiece, OtherPrefix, OtherVersion, Route, ToV20, ToV30, ToV31, ToV40, ToNoVersion, route_of}
 use Rattle.cvss_v2.specs.Vector.{v2}
 use Rattle.cvss_v2.specs.declared.vector.Vector as vector_v2
 use Rattle.cvss_v3.specs.Vector.{v3}

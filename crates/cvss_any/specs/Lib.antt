@@ -7,7 +7,6 @@ pub mod MetricsLeft
 pub mod Published
 pub mod Reasons
 pub mod Refusals
-pub mod Route
 pub mod Segments
 pub mod Setting
 pub mod private

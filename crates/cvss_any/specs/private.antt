@@ -1,4 +1,3 @@
 pub mod SettingSteps
 pub mod Steps
 pub mod Versions
-pub mod Views

@@ -11,7 +11,6 @@ mod one_version;
 mod published;
 mod reading;
 mod refusal;
-mod route;
 mod segment;
 mod setting;
 mod vector;

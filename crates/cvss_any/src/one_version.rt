@@ -6,7 +6,7 @@ ghost use Rattle.cvss_text.specs.private.Pieces.{pieces_left};
 ghost use Rattle.cvss_text.specs.private.Walk.{HasNoValue};
 ghost use Rattle.cvss_any.specs.Answers.{HasScore, text_of};
 ghost use Rattle.cvss_any.specs.Dispatch.{DenotesCvss};
-ghost use Rattle.cvss_any.specs.Route.{ToV20, ToV40, route_of};
+ghost use Rattle.cvss_text.specs.Route.{ToV20, ToV40, route_of};
 ghost use Rattle.cvss_any.specs.declared.metric_type.MetricType.{MetricType};
 ghost use Rattle.cvss_any.specs.declared.metric_type.MetricType.TheVariants as of;
 ghost use Rattle.cvss_any.specs.declared.vector.Cvss.{Cvss};

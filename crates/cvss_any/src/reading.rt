@@ -8,22 +8,22 @@ ghost use Rattle.cvss_any.specs.Bytes.{IsRefusedAs};
 ghost use Rattle.cvss_any.specs.Complete.{IsPublishedBy};
 ghost use Rattle.cvss_any.specs.Dispatch.{cvss_reason, without_version};
 ghost use Rattle.cvss_any.specs.Refusals.{IsReadErrorFor, refusal_of};
-ghost use Rattle.cvss_any.specs.Route.{ToNoVersion, route_of};
+ghost use Rattle.cvss_text.specs.Route.{ToNoVersion, route_of};
 ghost use Rattle.cvss_any.specs.private.Steps.{IsRead, IsPrintableFault, IsUnpublished, reason_read};
-ghost use Rattle.cvss_any.specs.private.Views as is_reported;
-ghost use Rattle.cvss_any.specs.private.Views.{why_of};
+ghost use Rattle.cvss_text.specs.private.Routing as is_reported;
+ghost use Rattle.cvss_text.specs.private.Routing.{why_of};
 
 use crate::bytes_error::BytesError;
 use crate::one_version::OneVersion;
 use crate::published::Published;
 use crate::refusal::{ReadError, Refusal};
-use crate::route::{NoVersion, Route, route_of_text};
 use crate::vector::Cvss;
 use crate::{v2, v3, v4};
 use cvss_base::Error;
 use cvss_text::buffer::TextBuffer;
 use cvss_text::pieces::{Pieces, pieces_of};
 use cvss_text::refusing;
+use cvss_text::route::{NoVersion, Route, route_of_text};
 use cvss_text::walk::Fault;
 use std::alloc::Global;
 

@@ -1,6 +1,7 @@
 pub mod BufferLemmas
 pub mod CanonicalLemmas
 pub mod ComponentLemmas
+pub mod CutLemmas
 pub mod DenotesLemmas
 pub mod EqualLemmas
 pub mod FilledLemmas

@@ -1,3 +1,4 @@
 pub mod Listing
+pub mod Route
 pub mod Setting
 pub mod private

@@ -1,4 +1,5 @@
 pub mod Pieces
 pub mod Printing
+pub mod Routing
 pub mod SettingSteps
 pub mod Walk

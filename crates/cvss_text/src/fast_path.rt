@@ -67,7 +67,7 @@ pub fn after_four(text: &[u8], four: [u8; 4]) -> Option<&[u8]>
 
 /// What follows five bytes with which a text begins.
 #[inline(always)]
-pub fn after_five(text: &[u8], five: [u8; 5]) -> Option<&[u8]>
+pub(crate) fn after_five(text: &[u8], five: [u8; 5]) -> Option<&[u8]>
     ensures { IfSome result (λ rest. text.now ≡ five ++ rest.now) }
 {
     let [a, b, c, d, e] = five;

@@ -1,6 +1,6 @@
 //! How the text of a vector is read and printed, once for all versions: pieces, the walk over them,
-//! the version piece, printing, listing, setting metrics, recognising a canonical text, and the errors
-//! that say why a text is no vector.
+//! which version a text says, printing, listing, setting metrics, recognising a canonical text, and
+//! the errors that say why a text is no vector.
 #![tactic(auto)]
 
 pub mod buffer;
@@ -11,5 +11,6 @@ pub mod metrics;
 pub mod pieces;
 pub mod print;
 pub mod refusing;
+pub mod route;
 pub mod setting;
 pub mod walk;

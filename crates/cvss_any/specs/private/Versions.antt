@@ -2,7 +2,7 @@
 use Rattle.std.specs.Prelude.{◌≡◌, ℕ, zero, suc, List, [], ◌∷◌, ◌++◌, codes}
 use Rattle.cvss_base.specs.Text.{pieces}
 use Rattle.cvss_base.specs.Version.{numeral, version_piece}
-use Rattle.cvss_any.specs.Route.{Route, ToV30, ToV31, route_of}
+use Rattle.cvss_text.specs.Route.{Route, ToV30, ToV31, route_of}
 use Rattle.cvss_any.specs.declared.vector.Cvss.{Cvss}
 use Rattle.cvss_any.specs.declared.vector.Cvss.TheVariants.{CvssV30, CvssV31}
 use Rattle.cvss_v3.specs.declared.vector.Vector as vector_v3

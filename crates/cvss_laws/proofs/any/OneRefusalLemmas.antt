@@ -11,7 +11,7 @@ use Rattle.cvss_v3.specs.Vector.{v3}
 use Rattle.cvss_v3.specs.private.VectorLaws.{v3_laws}
 use Rattle.cvss_v4.specs.Vector.{v4}
 use Rattle.cvss_v4.specs.private.VectorLaws.{v4_laws}
-use Rattle.cvss_any.specs.Route.{Route, ToV20, ToV30, ToV31, ToV40, ToNoVersion, route_of}
+use Rattle.cvss_text.specs.Route.{Route, ToV20, ToV30, ToV31, ToV40, ToNoVersion, route_of}
 use Rattle.cvss_any.specs.Dispatch.{wrapped, IsReasonOf, IsFirstReasonAt, IsFirstRefusalCvss}
 use Rattle.cvss_any.specs.declared.metric_type.MetricType.{MetricType}
 use Rattle.cvss_any.specs.declared.metric_type.MetricType.TheVariants.{V2, V3, V4}

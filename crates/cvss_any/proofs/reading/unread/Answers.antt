@@ -1,4 +1,4 @@
-use Rattle.cvss_any.specs.private.Views.{why_of}
+use Rattle.cvss_text.specs.private.Routing.{why_of}
 use Rattle.cvss_any.proofs.ReadLemmas.{unread}
 use Rattle.cvss_any.proofs.reading.unread.Goals as goal
 

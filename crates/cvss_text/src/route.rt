@@ -4,12 +4,12 @@ ghost use Rattle.std.specs.Prelude.{◌≡◌, ◌∷◌, ◌++◌, IfSome, code
 ghost use Rattle.cvss_base.specs.Text.{component, dot, has, pieces, slash};
 ghost use Rattle.cvss_base.specs.Version.{version_piece};
 ghost use Rattle.cvss_text.specs.private.Pieces.{pieces_left};
-ghost use Rattle.cvss_any.specs.Route.{route_of, route_of_parts};
-ghost use Rattle.cvss_any.specs.private.Views.{IsAfterVersion, IsPrintableRoute, as_route};
+ghost use Rattle.cvss_text.specs.Route.{route_of, route_of_parts};
+ghost use Rattle.cvss_text.specs.private.Routing.{IsAfterVersion, IsPrintableRoute, as_route};
 
+use crate::fast_path::after_five;
+use crate::pieces::{Pieces, front_of, parts_of, pieces_of};
 use cvss_base::PREFIX;
-use cvss_text::fast_path::after_five;
-use cvss_text::pieces::{Pieces, front_of, parts_of, pieces_of};
 
 /// By the rules of which version a text is read.
 #[derive(Drop)]

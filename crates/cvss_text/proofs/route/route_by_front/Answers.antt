@@ -1,10 +1,10 @@
 use Rattle.std.proofs.Common.{◌∷◌, ◌∙◌, ap, subst, sym}
 use Rattle.std.proofs.lemmas.Bool.{iff_false}
 use Rattle.cvss_text.specs.private.Pieces.{pieces_left}
-use Rattle.cvss_any.specs.private.Views.{IsAfterVersion}
-use Rattle.cvss_any.proofs.CutLemmas.{cut_routed, first_utf8}
+use Rattle.cvss_text.specs.private.Routing.{IsAfterVersion}
+use Rattle.cvss_text.proofs.CutLemmas.{cut_routed, first_utf8}
 use Rattle.cvss_text.proofs.PieceLemmas.{IsUtf8-name, IsUtf8-value}
-use Rattle.cvss_any.proofs.route.route_by_front.Goals as goal
+use Rattle.cvss_text.proofs.route.route_by_front.Goals as goal
 
 pub returns-then-is_empty-clause-printable : goal.returns-then-is_empty-clause-printable
 returns-then-is_empty-clause-printable c = first_utf8 c.args.text.now _ _ c.front_of.ensures

@@ -3,11 +3,11 @@ use Rattle.std.specs.Prelude.{◌≡◌, ℕ, List, ◌∷◌, codes, ⊤}
 use Rattle.std.specs.Str.{IsUtf8}
 use Rattle.cvss_base.specs.Version.{version_piece}
 use Rattle.cvss_text.specs.private.Pieces.{pieces_left}
-use Rattle.cvss_any.specs.Route as spec
-use Rattle.cvss_any.specs.declared.route.NoVersion.{NoVersion}
-use Rattle.cvss_any.specs.declared.route.NoVersion.TheVariants.{InvalidComponent, InvalidPrefix, UnsupportedVersion}
-use Rattle.cvss_any.specs.declared.route.Route.{Route}
-use Rattle.cvss_any.specs.declared.route.Route.TheVariants.{V20, V30, V31, V40, Unversioned}
+use Rattle.cvss_text.specs.Route as spec
+use Rattle.cvss_text.specs.declared.route.NoVersion.{NoVersion}
+use Rattle.cvss_text.specs.declared.route.NoVersion.TheVariants.{InvalidComponent, InvalidPrefix, UnsupportedVersion}
+use Rattle.cvss_text.specs.declared.route.Route.{Route}
+use Rattle.cvss_text.specs.declared.route.Route.TheVariants.{V20, V30, V31, V40, Unversioned}
 
 -- why no version is reported, as its definition says it
 abbrev pub why_of : NoVersion → spec.NoVersion

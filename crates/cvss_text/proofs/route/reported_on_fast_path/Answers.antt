@@ -1,6 +1,6 @@
 use Rattle.std.proofs.Common.{codes, rules, ◌++◌, ◌∙◌, ap, arith}
-use Rattle.cvss_any.proofs.CutLemmas.{cut_at_slash}
-use Rattle.cvss_any.proofs.route.reported_on_fast_path.Goals as goal
+use Rattle.cvss_text.proofs.CutLemmas.{cut_at_slash}
+use Rattle.cvss_text.proofs.route.reported_on_fast_path.Goals as goal
 
 pub returns-in-48-to-57-clause-text : goal.returns-in-48-to-57-clause-text
 returns-in-48-to-57-clause-text c =

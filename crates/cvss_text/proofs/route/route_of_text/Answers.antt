@@ -1,8 +1,8 @@
 use Rattle.std.proofs.Common.{codes, subst, sym, ◌∙◌}
 use Rattle.cvss_text.proofs.PieceLemmas.{IsUtf8-value}
-use Rattle.cvss_any.specs.private.Views.{IsAfterVersion}
-use Rattle.cvss_any.proofs.CutLemmas.{cut_routed, first_utf8, some_piece, version_first, version_parts}
-use Rattle.cvss_any.proofs.route.route_of_text.Goals as goal
+use Rattle.cvss_text.specs.private.Routing.{IsAfterVersion}
+use Rattle.cvss_text.proofs.CutLemmas.{cut_routed, first_utf8, some_piece, version_first, version_parts}
+use Rattle.cvss_text.proofs.route.route_of_text.Goals as goal
 
 pub returns-in-Some-clause-route : goal.returns-in-Some-clause-route
 returns-in-Some-clause-route c =

@@ -11,7 +11,7 @@ use Rattle.cvss_base.specs.Version.{version_piece}
 use Rattle.cvss_base.specs.Text.{pieces, component, has, colon, slash}
 use Rattle.cvss_text.specs.private.Pieces.{AreParts}
 use Rattle.cvss_text.proofs.PieceLemmas.{IsUtf8-pieces}
-use Rattle.cvss_any.specs.Route.{Route, route_of, route_of_pieces, route_of_parts}
+use Rattle.cvss_text.specs.Route.{Route, route_of, route_of_pieces, route_of_parts}
 
 -- a piece with a name and a value has a colon
 has_colon : (name value : List ℕ) → has colon (component name value) ≡ true
