@@ -1,6 +1,7 @@
 mod BuiltLemmas
 mod BytesLemmas
 mod CutLemmas
+mod MissingLemmas
 pub mod ErrorLemmas
 mod ReadLemmas
 pub mod RouteLemmas
