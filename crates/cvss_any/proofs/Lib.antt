@@ -1,5 +1,6 @@
 mod BuiltLemmas
 mod BytesLemmas
+mod MissingLemmas
 pub mod ErrorLemmas
 mod ReadLemmas
 pub mod RouteLemmas

@@ -77,7 +77,7 @@ module _ (text : List ℕ) where
     own (CvssV20 v) denotes = record { own = v; holds = (denotes.denoted, record { frontless = refl; complete = denotes.complete }); is = refl }
     own cvss denotes = absurd (let no = routed_for text ToV20 route cvss denotes in cc)
 
-  by_v30 : (left : List (List ℕ)) → IsRouted ToV30 (codes "3.0") text left → IsReadBy v3 CvssV30 V3 (IsWellFormed v3) (IsReasonAfter v3 (pieces text)) text
+  pub by_v30 : (left : List (List ℕ)) → IsRouted ToV30 (codes "3.0") text left → IsReadBy v3 CvssV30 V3 (IsWellFormed v3) (IsReasonAfter v3 (pieces text)) text
   by_v30 left is = record {
     denotes = λ v denotes formed. (v3_denoted text left 0 ToV30 v is denotes formed (λ no. cc), tt);
     own = own;
@@ -87,7 +87,7 @@ module _ (text : List ℕ) where
     own (CvssV30 v) denotes = record { own = v; holds = (denotes.denoted, denotes.well_formed); is = refl }
     own cvss denotes = absurd (let no = routed_for text ToV30 is.route cvss denotes in cc)
 
-  by_v31 : (left : List (List ℕ)) → IsRouted ToV31 (codes "3.1") text left → IsReadBy v3 CvssV31 V3 (IsWellFormed v3) (IsReasonAfter v3 (pieces text)) text
+  pub by_v31 : (left : List (List ℕ)) → IsRouted ToV31 (codes "3.1") text left → IsReadBy v3 CvssV31 V3 (IsWellFormed v3) (IsReasonAfter v3 (pieces text)) text
   by_v31 left is = record {
     denotes = λ v denotes formed. (v3_denoted text left 1 ToV31 v is denotes formed (λ no. cc), tt);
     own = own;

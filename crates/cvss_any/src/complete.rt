@@ -38,7 +38,7 @@ impl Cvss {
 
 /// The first base metric that a vector of CVSS v3 lacks, as one of any version.
 #[inline(always)]
-fn missing_of_v3(vector: &v3::Vector) -> Option<MetricType>
+pub(crate) fn missing_of_v3(vector: &v3::Vector) -> Option<MetricType>
     ensures { result ≡ option_map V3 (first_missing_v3 vector.now) }
 {
     match vector {

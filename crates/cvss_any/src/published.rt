@@ -1,13 +1,10 @@
 //! What is published of a vector: its score and the score's rating.
 
-ghost use Rattle.std.specs.Prelude.{◌≡◌, ◌≤◌, []};
-ghost use Rattle.cvss_any.specs.Answers.{HasScore, IsScoreOf, rating_by, score_of_tenths, text_of};
+ghost use Rattle.std.specs.Prelude.{◌≡◌, ◌≤◌};
+ghost use Rattle.cvss_any.specs.Answers.{HasScore, IsScoreOf, rating_by, score_of_tenths};
 ghost use Rattle.cvss_any.specs.Published.{IsPublished, rating_within};
-ghost use Rattle.cvss_any.specs.private.Steps.{IsDenoted};
 
 use crate::vector::Cvss;
-use cvss_text::buffer::TextBuffer;
-use cvss_text::print::text_after;
 
 /// By which bounds a score is rated.
 #[derive(Clone, Copy, Debug, PartialEq, Eq)]
@@ -61,21 +58,6 @@ impl Cvss {
         Published {
             tenths: self.inlined_tenths(),
             bounds: self.bounds(),
-        }
-    }
-
-    /// Writes the canonical text of a vector that a text denotes into an empty buffer, and gives it.
-    #[inline(always)]
-    pub(crate) fn text<'a>(&self, buffer: &'a mut TextBuffer) -> &'a [u8]
-        requires denoted { IsDenoted self.now }
-        requires empty { buffer.old ≡ [] }
-        ensures { result.now ≡ text_of self.now }
-    {
-        match self {
-            Cvss::CvssV20(vector) => vector.text(buffer),
-            Cvss::CvssV30(vector) => text_after(*b"CVSS:3.0", vector, buffer),
-            Cvss::CvssV31(vector) => text_after(*b"CVSS:3.1", vector, buffer),
-            Cvss::CvssV40(vector) => text_after(*b"CVSS:4.0", vector, buffer),
         }
     }
 }

@@ -1,5 +1,5 @@
 -- What the private code of the front door does.
-use Rattle.std.specs.Prelude.{◌≡◌, ◌⊎◌, ℕ, Bool, List, Some, Result, Ok, Err, OnOk, IfOk, IfErr, IsErrAnd}
+use Rattle.std.specs.Prelude.{◌≡◌, ◌⊎◌, ℕ, Bool, List, Some, Result, Ok, OnOk, IfOk, IfErr, IsErrAnd}
 use Rattle.std.specs.Str.{IsUtf8}
 use Rattle.cvss_text.specs.private.Walk as walk
 use Rattle.cvss_base.specs.Refusal.{Refusal, Missing}
@@ -52,7 +52,3 @@ pub record IsMissingReason (allow_incomplete : Bool) (text : List ℕ) (reason :
 abbrev pub IsUnpublished : Bool → List ℕ → declared.Refusal → Type 0
 IsUnpublished allow_incomplete text refusal =
     spec.IsFirstRefusalCvss text (refusal_of refusal) ⊎ IsMissingReason allow_incomplete text (refusal_of refusal)
-
--- some text denotes the vector
-abbrev pub IsDenoted : Cvss → Type 0
-IsDenoted cvss = (text : List ℕ) × spec.DenotesCvss text cvss
