@@ -1,6 +1,6 @@
 -- The explanations of the scores of CVSS v3: v3.1 specification, section 7; v3.0 specification, section 8. Members are
 -- in the order of their names.
-use Rattle.std.specs.Prelude.{◌≡◌, ℕ, ◌*◌, pos, Bool, true, false, List, [], ◌∷◌, ◌++◌, codes, map, Option, unwrap_or}
+use Rattle.std.specs.Prelude.{◌≡◌, ℕ, ◌*◌, pos, Bool, true, false, List, [], ◌∷◌, codes, map, Option, unwrap_or}
 use Rattle.cvss_any.specs.Answers.{score_of_tenths}
 use Rattle.cvss_any.specs.declared.vector.Cvss.{Cvss}
 use Rattle.cvss_base.specs.declared.v3.MetricType.{MetricType}
@@ -11,8 +11,8 @@ use Rattle.cvss_base.specs.V3Types.{name_of}
 use Rattle.cvss_v3.specs.declared.vector.Vector.{Vector}
 use Rattle.cvss_score.specs.declared.v3.weights.Weights.{Weights}
 use Rattle.cvss_v3.specs.VectorWeights.{weight_in, weights_of}
-use Rattle.cvss_json_write.specs.Json.{Member, decimal_text, object_text, string_text, tenths_text}
-use Rattle.cvss_explain.specs.Parts.{line_members, score_member, severity_member, vector_member, version_member}
+use Rattle.cvss_json_write.specs.Json.{Member, decimal_text, string_text, tenths_text}
+use Rattle.cvss_explain.specs.Parts.{ways_text}
 use Rattle.cvss_explain.specs.NumbersV3.{AreBaseNumbers, AreEnvironmentalNumbers, AreTemporalNumbers}
 use Rattle.cvss_explain.specs.declared.v3.numbers.BaseNumbers.{BaseNumbers}
 use Rattle.cvss_explain.specs.declared.v3.numbers.EnvironmentalNumbers.{EnvironmentalNumbers}
@@ -57,9 +57,6 @@ base_members numbers =
     ∷ (codes "iss", decimal_text numbers.iss)
     ∷ scored_members numbers.scored
 
-abbrev pub temporal_members : Scored → List Member
-temporal_members scored = scored_members scored
-
 abbrev pub environmental_members : EnvironmentalNumbers → List Member
 environmental_members numbers =
     (codes "firstNumber", decimal_text numbers.first.number)
@@ -69,23 +66,6 @@ environmental_members numbers =
     ∷ (codes "modifiedImpact", decimal_text numbers.impact)
     ∷ scored_members numbers.scored
 
--- the explanation of a score of so many tenths, with these weights and numbers
-abbrev pub explanation_text : Option ℕ → Cvss → ℕ → Weights → BaseNumbers → Scored → EnvironmentalNumbers → List ℕ
-explanation_text line cvss tenths w base temporal environmental =
-    object_text (
-    (codes "base", object_text (base_members base))
-    ∷ (codes "environmental", object_text (environmental_members environmental))
-    ∷ (line_members line
-    ++ (scope_members w
-    ++ score_member tenths
-    ∷ severity_member cvss tenths
-    ∷ (codes "temporal", object_text (temporal_members temporal))
-    ∷ vector_member cvss
-    ∷ version_member cvss
-    ∷ (codes "weights", object_text (weights_members w))
-    ∷ []))
-    )
-
 -- the text explains the score of so many tenths of the vector, which is one of v3.0 or of v3.1
 pub record IsExplanationText (line : Option ℕ) (cvss : Cvss) (vector : Vector) (tenths : ℕ) (text : List ℕ) : Type 0 where
   pub base : BaseNumbers
@@ -94,4 +74,4 @@ pub record IsExplanationText (line : Option ℕ) (cvss : Cvss) (vector : Vector)
   pub are_base : AreBaseNumbers vector.minor_version (weights_of vector) base
   pub are_temporal : AreTemporalNumbers vector.minor_version (weights_of vector) temporal
   pub are_environmental : AreEnvironmentalNumbers vector.minor_version (weights_of vector) environmental
-  pub is : text ≡ explanation_text line cvss tenths (weights_of vector) base temporal environmental
+  pub is : text ≡ ways_text line cvss tenths (base_members base) (scored_members temporal) (environmental_members environmental) (scope_members (weights_of vector)) (weights_members (weights_of vector))
