@@ -112,8 +112,11 @@ fn put_part(page: &mut Page, later: bool, name: &str, value: Value<'_, '_>)
     }
 }
 
+/// The rating of the vector's score of so many tenths.
+// A call of its own for each of the ratings of CVSS v3 keeps the module of WebAssembly small.
+#[inline(never)]
 #[tactic(auto, using(crate::proofs::ShortLemmas::severity_short))]
-fn severity(cvss: &Cvss, tenths: u8) -> &'static str
+pub(crate) fn severity(cvss: &Cvss, tenths: u8) -> &'static str
     ensures text { result.now ≡ severity_text (rating_by cvss.now (score_of_tenths tenths)) }
     ensures short { length result.now ≤ 8 }
 {

@@ -1,10 +1,7 @@
 //! The explanations of the scores of CVSS v3 (v3.1 specification, section 7; v3.0 specification, section 8).
 
 ghost use Rattle.std.specs.Prelude.{◌≡◌, ◌*◌, ◌≤◌, [], length, map, pos, unwrap_or};
-ghost use Rattle.cvss_any.specs.Answers.{score_of_tenths};
 ghost use Rattle.cvss_explain.specs.V3.{IsExplanationText, base_members, environmental_members, scope_letter, scored_members, weight_member};
-ghost use Rattle.cvss_base.specs.Rating.{rating_of_score};
-ghost use Rattle.cvss_base.specs.SeverityText.{text_of as severity_text};
 ghost use Rattle.cvss_json_write.specs.declared.member.Scalar.TheVariants.{Decimal};
 ghost use Rattle.cvss_json_write.specs.Scalars.{member_view, members_room};
 ghost use Rattle.cvss_v3.specs.VectorWeights.{weight_in, weights_of};
@@ -12,14 +9,13 @@ ghost use Rattle.cvss_v3.specs.VectorWeights.{weight_in, weights_of};
 pub mod numbers;
 
 use crate::decimal::ten_millionths;
-use crate::parts::{Value, put_object};
+use crate::parts::{Value, put_object, severity};
 use crate::table::Table;
 use MetricType::*;
 use cvss_any::Cvss;
-use cvss_base::TENTH;
 use cvss_base::v3::MetricType;
 use cvss_json_write::{Member, Page, Scalar};
-use cvss_v3::{Score, Vector};
+use cvss_v3::Vector;
 use numbers::{BaseNumbers, EnvironmentalNumbers, Scored};
 
 /// Writes why a vector has its score.
@@ -33,9 +29,9 @@ pub(crate) fn put_explanation<'v>(
     requires { page.old ≡ [] }
     ensures { IsExplanationText line cvss.now vector.now tenths page.new }
 {
-    let base = base(BaseNumbers::of(vector));
-    let environmental = environmental(EnvironmentalNumbers::of(vector));
-    let temporal = temporal(Scored::temporal(vector));
+    let base = base(cvss, BaseNumbers::of(vector));
+    let environmental = environmental(cvss, EnvironmentalNumbers::of(vector));
+    let temporal = temporal(cvss, Scored::temporal(vector));
     let modified = scope_letter(vector.is_modified_scope_changed());
     let scope = scope_letter(vector.is_scope_changed());
     put_object(
@@ -63,8 +59,8 @@ fn scope_letter(changed: bool) -> &'static str
     if changed { "C" } else { "U" }
 }
 
-fn base(numbers: BaseNumbers) -> [Member; 6]
-    ensures text { map member_view result ≡ base_members numbers }
+fn base(cvss: &Cvss, numbers: BaseNumbers) -> [Member; 6]
+    ensures text { map member_view result ≡ base_members cvss.now numbers }
     ensures room { members_room result ≤ 300 }
 {
     let scored = numbers.scored;
@@ -74,23 +70,23 @@ fn base(numbers: BaseNumbers) -> [Member; 6]
         ("iss", Scalar::Decimal(numbers.iss)),
         ("number", Scalar::Decimal(scored.number)),
         ("score", Scalar::Tenths(scored.score)),
-        ("severity", Scalar::Text(rating(scored.score))),
+        ("severity", Scalar::Text(severity(cvss, scored.score))),
     ]
 }
 
-fn temporal(scored: Scored) -> [Member; 3]
-    ensures text { map member_view result ≡ scored_members scored }
+fn temporal(cvss: &Cvss, scored: Scored) -> [Member; 3]
+    ensures text { map member_view result ≡ scored_members cvss.now scored }
     ensures room { members_room result ≤ 300 }
 {
     [
         ("number", Scalar::Decimal(scored.number)),
         ("score", Scalar::Tenths(scored.score)),
-        ("severity", Scalar::Text(rating(scored.score))),
+        ("severity", Scalar::Text(severity(cvss, scored.score))),
     ]
 }
 
-fn environmental(numbers: EnvironmentalNumbers) -> [Member; 8]
-    ensures text { map member_view result ≡ environmental_members numbers }
+fn environmental(cvss: &Cvss, numbers: EnvironmentalNumbers) -> [Member; 8]
+    ensures text { map member_view result ≡ environmental_members cvss.now numbers }
     ensures room { members_room result ≤ 500 }
 {
     let exploitability = numbers.exploitability;
@@ -103,7 +99,7 @@ fn environmental(numbers: EnvironmentalNumbers) -> [Member; 8]
         ("modifiedImpact", Scalar::Decimal(numbers.impact)),
         ("number", Scalar::Decimal(scored.number)),
         ("score", Scalar::Tenths(scored.score)),
-        ("severity", Scalar::Text(rating(scored.score))),
+        ("severity", Scalar::Text(severity(cvss, scored.score))),
     ]
 }
 
@@ -129,14 +125,4 @@ fn weight(vector: &Vector, kind: MetricType) -> Scalar
         ≡ Decimal (pos (unwrap_or (weight_in (weights_of vector.now) kind) 0 * 100_000)) }
 {
     Scalar::Decimal(ten_millionths(vector.weight(kind).unwrap_or(0)))
-}
-
-/// The rating of a score of so many tenths.
-#[inline(never)]
-#[tactic(auto, using(crate::proofs::ShortLemmas::severity_short))]
-fn rating(tenths: u8) -> &'static str
-    ensures text { result.now ≡ severity_text (rating_of_score (score_of_tenths tenths)) }
-    ensures short { length result.now ≤ 8 }
-{
-    Score::new(i128::from(tenths) * TENTH).severity().as_str()
 }
