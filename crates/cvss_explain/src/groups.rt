@@ -48,21 +48,8 @@ pub(crate) fn put_levels(page: &mut Page, later: bool, name: &str, levels: &[u8]
     page.push(b"\"");
 }
 
-/// Writes a member whose value is the array of the five groups, which is empty without impact.
-pub(crate) fn put_groups(page: &mut Page, later: bool, name: &str, explanation: &Explanation)
-    requires { length page.old + length name.now + 2304 ≤ 4096 }
-    ensures text { WritesMembers later ((
-      name.now,
-      groups_text explanation.now.class
-          explanation.now.value explanation.now.groups,
-    ) ∷ []) page.old page.new }
-    ensures room { length page.new ≤ length page.old + length name.now + 2304 }
-{
-    put_name(page, later, name);
-    put_array(page, explanation);
-}
-
-fn put_array(page: &mut Page, explanation: &Explanation)
+/// Writes the array of the five groups, which is empty without impact.
+pub(crate) fn put_groups(page: &mut Page, explanation: &Explanation)
     requires { length page.old + 2300 ≤ 4096 }
     ensures text { page.new ≡ page.old
         ++ groups_text explanation.now.class explanation.now.value explanation.now.groups }

@@ -15,7 +15,7 @@ use crate::v4::BY_NAME as METRICS_OF_V4;
 use cvss_any::Cvss;
 use cvss_base::TENTH;
 use cvss_json_names::{put_vector_member, version};
-use cvss_json_write::{Member, Page, Scalar, put_member, put_object_member};
+use cvss_json_write::{Member, Page, Scalar, put_member, put_name, put_object_member};
 use cvss_score::v4::scoring::effective::Effective;
 use cvss_v4::Explanation;
 
@@ -108,7 +108,10 @@ fn put_part(page: &mut Page, later: bool, name: &str, value: Value<'_, '_>)
         Value::WeightsV2(vector) => put_table(page, later, name, vector, &METRICS_OF_V2),
         Value::WeightsV3(vector) => put_table(page, later, name, vector, &METRICS_OF_V3),
         Value::Letters(effective) => put_table(page, later, name, effective, &METRICS_OF_V4),
-        Value::Groups(explanation) => put_groups(page, later, name, explanation),
+        Value::Groups(explanation) => {
+            put_name(page, later, name);
+            put_groups(page, explanation);
+        }
     }
 }
 
