@@ -116,7 +116,6 @@ fn put_part(page: &mut Page, later: bool, name: &str, value: Value<'_, '_>)
 }
 
 /// The rating of the vector's score of so many tenths.
-// A call of its own for each of the ratings of CVSS v3 keeps the module of WebAssembly small.
 #[inline(never)]
 #[tactic(auto, using(crate::proofs::ShortLemmas::severity_short))]
 pub(crate) fn severity(cvss: &Cvss, tenths: u8) -> &'static str
