@@ -1,5 +1,4 @@
 mod CloseLemmas
 mod DecimalLemmas
 mod NearLemmas
-mod ShortLemmas
-mod TextLemmas
+pub mod ShortLemmas

@@ -10,10 +10,10 @@ use Rattle.cvss_explain.specs.V4 as v4
 -- the text explains the score of so many tenths: the vector, its version, the score, the rating and the numbers on the
 -- way to it, with the number of the line if there is one
 abbrev pub Explains : Option ℕ → Cvss → ℕ → List ℕ → Type 0
-Explains line (CvssV20 vector) tenths = v2.IsExplanationText line vector tenths
+Explains line (CvssV20 vector) tenths = v2.IsExplanationText line (CvssV20 vector) vector tenths
 Explains line (CvssV30 vector) tenths = v3.IsExplanationText line (CvssV30 vector) vector tenths
 Explains line (CvssV31 vector) tenths = v3.IsExplanationText line (CvssV31 vector) vector tenths
-Explains line (CvssV40 vector) tenths = v4.IsExplanationText line vector tenths
+Explains line (CvssV40 vector) tenths = v4.IsExplanationText line (CvssV40 vector) vector tenths
 
 -- the text explains the vector's score
 pub record IsExplanationText (line : Option ℕ) (cvss : Cvss) (text : List ℕ) : Type 0 where

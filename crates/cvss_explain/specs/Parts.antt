@@ -1,10 +1,10 @@
--- The members that the explanations of all versions have.
-use Rattle.std.specs.Prelude.{ℕ, List, [], ◌∷◌, codes, Option, Some, None}
+-- What the explanations of several versions have.
+use Rattle.std.specs.Prelude.{ℕ, List, [], ◌∷◌, ◌++◌, codes, Option, Some, None}
 use Rattle.std.specs.Fmt.{decimal}
 use Rattle.cvss_any.specs.Answers.{rating_by, score_of_tenths, text_of}
 use Rattle.cvss_any.specs.declared.vector.Cvss.{Cvss}
 use Rattle.cvss_base.specs.SeverityText.{text_of as severity_text}
-use Rattle.cvss_json_write.specs.Json.{Member, string_text, tenths_text}
+use Rattle.cvss_json_write.specs.Json.{Member, object_text, string_text, tenths_text}
 use Rattle.cvss_json_names.specs.Versions.{version_of}
 
 -- the number of the line that is explained, if it is one of a list
@@ -24,3 +24,21 @@ vector_member cvss = (codes "vector", string_text (text_of cvss))
 
 abbrev pub version_member : Cvss → Member
 version_member cvss = (codes "version", string_text (version_of cvss))
+
+-- the explanation of a score of so many tenths of CVSS v2 or v3: the numbers of each group's score, the scopes, and what
+-- each metric weighs
+abbrev pub ways_text : Option ℕ → Cvss → ℕ → List Member → List Member → List Member → List Member → List Member → List ℕ
+ways_text line cvss tenths base temporal environmental scopes weights =
+    object_text (
+    (codes "base", object_text base)
+    ∷ (codes "environmental", object_text environmental)
+    ∷ (line_members line
+    ++ (scopes
+    ++ score_member tenths
+    ∷ severity_member cvss tenths
+    ∷ (codes "temporal", object_text temporal)
+    ∷ vector_member cvss
+    ∷ version_member cvss
+    ∷ (codes "weights", object_text weights)
+    ∷ []))
+    )

@@ -1,13 +1,13 @@
 -- The explanations of the scores of CVSS v2: guide, section 3.2. Members are in the order of their names.
-use Rattle.std.specs.Prelude.{◌≡◌, ℕ, ◌*◌, pos, List, [], ◌∷◌, ◌++◌, codes, map, Option}
-use Rattle.cvss_any.specs.declared.vector.Cvss.TheVariants.{CvssV20}
+use Rattle.std.specs.Prelude.{◌≡◌, ℕ, ◌*◌, pos, List, [], ◌∷◌, codes, map, Option}
+use Rattle.cvss_any.specs.declared.vector.Cvss.{Cvss}
 use Rattle.cvss_base.specs.declared.v2.MetricType.{MetricType}
 use Rattle.cvss_base.specs.declared.v2.MetricType.TheVariants.{A, AC, AR, AV, Au, C, CDP, CR, E, I, IR, RC, RL, TD}
 use Rattle.cvss_base.specs.V2Types.{name_of}
 use Rattle.cvss_v2.specs.declared.vector.Vector.{Vector}
 use Rattle.cvss_v2.specs.Weights.{weight_in, weights_of}
-use Rattle.cvss_json_write.specs.Json.{Member, decimal_text, object_text, tenths_text}
-use Rattle.cvss_explain.specs.Parts.{line_members, score_member, severity_member, vector_member, version_member}
+use Rattle.cvss_json_write.specs.Json.{Member, decimal_text, tenths_text}
+use Rattle.cvss_explain.specs.Parts.{ways_text}
 use Rattle.cvss_explain.specs.NumbersV2.{AreBaseNumbers, AreEnvironmentalNumbers, AreTemporalNumbers}
 use Rattle.cvss_explain.specs.declared.v2.numbers.BaseNumbers.{BaseNumbers}
 use Rattle.cvss_explain.specs.declared.v2.numbers.EnvironmentalNumbers.{EnvironmentalNumbers}
@@ -46,28 +46,12 @@ environmental_members numbers =
     ∷ (codes "score", tenths_text numbers.score)
     ∷ []
 
--- the explanation of a score of so many tenths, with these numbers
-abbrev pub explanation_text : Option ℕ → Vector → ℕ → BaseNumbers → TemporalNumbers → EnvironmentalNumbers → List ℕ
-explanation_text line vector tenths base temporal environmental =
-    object_text (
-    (codes "base", object_text (base_members base))
-    ∷ (codes "environmental", object_text (environmental_members environmental))
-    ∷ (line_members line
-    ++ score_member tenths
-    ∷ severity_member (CvssV20 vector) tenths
-    ∷ (codes "temporal", object_text (temporal_members temporal))
-    ∷ vector_member (CvssV20 vector)
-    ∷ version_member (CvssV20 vector)
-    ∷ (codes "weights", object_text (weights_members vector))
-    ∷ [])
-    )
-
 -- the text explains the vector's score, of so many tenths
-pub record IsExplanationText (line : Option ℕ) (vector : Vector) (tenths : ℕ) (text : List ℕ) : Type 0 where
+pub record IsExplanationText (line : Option ℕ) (cvss : Cvss) (vector : Vector) (tenths : ℕ) (text : List ℕ) : Type 0 where
   pub base : BaseNumbers
   pub temporal : TemporalNumbers
   pub environmental : EnvironmentalNumbers
   pub are_base : AreBaseNumbers (weights_of vector) base
   pub are_temporal : AreTemporalNumbers (weights_of vector) temporal
   pub are_environmental : AreEnvironmentalNumbers (weights_of vector) environmental
-  pub is : text ≡ explanation_text line vector tenths base temporal environmental
+  pub is : text ≡ ways_text line cvss tenths (base_members base) (temporal_members temporal) (environmental_members environmental) [] (weights_members vector)

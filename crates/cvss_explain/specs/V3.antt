@@ -1,18 +1,15 @@
 -- The explanations of the scores of CVSS v3: v3.1 specification, section 7; v3.0 specification, section 8. Members are
 -- in the order of their names.
-use Rattle.std.specs.Prelude.{◌≡◌, ℕ, ◌*◌, pos, Bool, true, false, List, [], ◌∷◌, ◌++◌, codes, map, Option, unwrap_or}
-use Rattle.cvss_any.specs.Answers.{score_of_tenths}
+use Rattle.std.specs.Prelude.{◌≡◌, ℕ, ◌*◌, pos, Bool, true, false, List, [], ◌∷◌, codes, map, Option, unwrap_or}
 use Rattle.cvss_any.specs.declared.vector.Cvss.{Cvss}
 use Rattle.cvss_base.specs.declared.v3.MetricType.{MetricType}
 use Rattle.cvss_base.specs.declared.v3.MetricType.TheVariants.{A, AC, AR, AV, C, CR, E, I, IR, MA, MAC, MAV, MC, MI, MPR, MUI, PR, RC, RL, UI}
-use Rattle.cvss_base.specs.Rating.{rating_of_score}
-use Rattle.cvss_base.specs.SeverityText.{text_of as severity_text}
 use Rattle.cvss_base.specs.V3Types.{name_of}
 use Rattle.cvss_v3.specs.declared.vector.Vector.{Vector}
 use Rattle.cvss_score.specs.declared.v3.weights.Weights.{Weights}
 use Rattle.cvss_v3.specs.VectorWeights.{weight_in, weights_of}
-use Rattle.cvss_json_write.specs.Json.{Member, decimal_text, object_text, string_text, tenths_text}
-use Rattle.cvss_explain.specs.Parts.{line_members, score_member, severity_member, vector_member, version_member}
+use Rattle.cvss_json_write.specs.Json.{Member, decimal_text, string_text, tenths_text}
+use Rattle.cvss_explain.specs.Parts.{score_member, severity_member, ways_text}
 use Rattle.cvss_explain.specs.NumbersV3.{AreBaseNumbers, AreEnvironmentalNumbers, AreTemporalNumbers}
 use Rattle.cvss_explain.specs.declared.v3.numbers.BaseNumbers.{BaseNumbers}
 use Rattle.cvss_explain.specs.declared.v3.numbers.EnvironmentalNumbers.{EnvironmentalNumbers}
@@ -43,48 +40,25 @@ abbrev pub weights_members : Weights → List Member
 weights_members w = map (weight_member w) weighing_by_name
 
 -- a number, the score that it is rounded to, and its rating
-abbrev pub scored_members : Scored → List Member
-scored_members scored =
-    (codes "number", decimal_text scored.number)
-    ∷ (codes "score", tenths_text scored.score)
-    ∷ (codes "severity", string_text (severity_text (rating_of_score (score_of_tenths scored.score))))
-    ∷ []
+abbrev pub scored_members : Cvss → Scored → List Member
+scored_members cvss scored =
+    (codes "number", decimal_text scored.number) ∷ score_member scored.score ∷ severity_member cvss scored.score ∷ []
 
-abbrev pub base_members : BaseNumbers → List Member
-base_members numbers =
+abbrev pub base_members : Cvss → BaseNumbers → List Member
+base_members cvss numbers =
     (codes "exploitability", decimal_text numbers.exploitability)
     ∷ (codes "impact", decimal_text numbers.impact)
     ∷ (codes "iss", decimal_text numbers.iss)
-    ∷ scored_members numbers.scored
+    ∷ scored_members cvss numbers.scored
 
-abbrev pub temporal_members : Scored → List Member
-temporal_members scored = scored_members scored
-
-abbrev pub environmental_members : EnvironmentalNumbers → List Member
-environmental_members numbers =
+abbrev pub environmental_members : Cvss → EnvironmentalNumbers → List Member
+environmental_members cvss numbers =
     (codes "firstNumber", decimal_text numbers.first.number)
     ∷ (codes "firstScore", tenths_text numbers.first.score)
     ∷ (codes "miss", decimal_text numbers.miss)
     ∷ (codes "modifiedExploitability", decimal_text numbers.exploitability)
     ∷ (codes "modifiedImpact", decimal_text numbers.impact)
-    ∷ scored_members numbers.scored
-
--- the explanation of a score of so many tenths, with these weights and numbers
-abbrev pub explanation_text : Option ℕ → Cvss → ℕ → Weights → BaseNumbers → Scored → EnvironmentalNumbers → List ℕ
-explanation_text line cvss tenths w base temporal environmental =
-    object_text (
-    (codes "base", object_text (base_members base))
-    ∷ (codes "environmental", object_text (environmental_members environmental))
-    ∷ (line_members line
-    ++ (scope_members w
-    ++ score_member tenths
-    ∷ severity_member cvss tenths
-    ∷ (codes "temporal", object_text (temporal_members temporal))
-    ∷ vector_member cvss
-    ∷ version_member cvss
-    ∷ (codes "weights", object_text (weights_members w))
-    ∷ []))
-    )
+    ∷ scored_members cvss numbers.scored
 
 -- the text explains the score of so many tenths of the vector, which is one of v3.0 or of v3.1
 pub record IsExplanationText (line : Option ℕ) (cvss : Cvss) (vector : Vector) (tenths : ℕ) (text : List ℕ) : Type 0 where
@@ -94,4 +68,4 @@ pub record IsExplanationText (line : Option ℕ) (cvss : Cvss) (vector : Vector)
   pub are_base : AreBaseNumbers vector.minor_version (weights_of vector) base
   pub are_temporal : AreTemporalNumbers vector.minor_version (weights_of vector) temporal
   pub are_environmental : AreEnvironmentalNumbers vector.minor_version (weights_of vector) environmental
-  pub is : text ≡ explanation_text line cvss tenths (weights_of vector) base temporal environmental
+  pub is : text ≡ ways_text line cvss tenths (base_members cvss base) (scored_members cvss temporal) (environmental_members cvss environmental) (scope_members (weights_of vector)) (weights_members (weights_of vector))

@@ -1,7 +1,7 @@
 -- The explanation of a score of CVSS v4.0: specification, section 8.2. Members are in the order of their names.
-use Rattle.std.specs.Prelude.{◌≡◌, ℕ, ◌-◌, List, [], ◌∷◌, ◌++◌, codes, pos, Option, Some, None}
+use Rattle.std.specs.Prelude.{◌≡◌, ℕ, ◌-◌, List, [], ◌∷◌, ◌++◌, codes, flat_map, map, pos, Option, Some, None}
 use Rattle.std.specs.Fmt.{decimal}
-use Rattle.cvss_any.specs.declared.vector.Cvss.TheVariants.{CvssV40}
+use Rattle.cvss_any.specs.declared.vector.Cvss.{Cvss}
 use Rattle.cvss_v4.specs.Nomenclature.{nomenclature_of, text_of as nomenclature_text}
 use Rattle.cvss_json_write.specs.Json.{Member, array_text, decimal_text, object_text, string_text, tenths_text}
 use Rattle.cvss_score.specs.v4.Explanation.{IsExplanation}
@@ -17,15 +17,21 @@ use Rattle.cvss_explain.specs.Decimal.{nearest_to}
 use Rattle.cvss_explain.specs.LettersV4.{effective_members}
 use Rattle.cvss_explain.specs.Parts.{line_members, score_member, severity_member, vector_member, version_member}
 
+-- the levels that make up a class
+abbrev pub levels : MacroVector → List ℕ
+levels m = m.eq1 ∷ m.eq2 ∷ m.eq3 ∷ m.eq4 ∷ m.eq5 ∷ m.eq6 ∷ []
+
+abbrev pub digits : List ℕ → List ℕ
+digits levels = flat_map decimal levels
+
 -- the six digits of a class
 abbrev pub class_text : MacroVector → List ℕ
-class_text m =
-    decimal m.eq1 ++ (decimal m.eq2 ++ (decimal m.eq3 ++ (decimal m.eq4 ++ (decimal m.eq5 ++ decimal m.eq6))))
+class_text m = digits (levels m)
 
 -- the gap from a value to that of the next lower class; null where there is none
-abbrev pub gap_member : ℕ → Option NextClass → Member
-gap_member value None = (codes "gap", codes "null")
-gap_member value (Some next) = (codes "gap", tenths_text (value - next.value))
+abbrev pub gap_text : ℕ → Option NextClass → List ℕ
+gap_text value None = codes "null"
+gap_text value (Some next) = tenths_text (value - next.value)
 
 -- the next lower class, its value, and what is taken of the gap; null where there is none
 abbrev pub next_members : Option NextClass → ℕ → List Member
@@ -37,14 +43,28 @@ next_members (Some next) taken =
     ∷ (codes "taken", decimal_text (pos (nearest_to taken 8400)))
     ∷ []
 
--- what a group of metrics, of this name and class, contributes to the score below the value
-abbrev pub group_text : List ℕ → List ℕ → ℕ → GroupExplanation → List ℕ
-group_text name class value group =
+-- a group of metrics: its name, its level or both levels, and what it contributes
+abbrev pub Group : Type 0
+Group = List ℕ × List ℕ × GroupExplanation
+
+-- the five groups of a class
+abbrev pub named : MacroVector → GroupExplanations → List Group
+named class groups =
+    (codes "EQ1", class.eq1 ∷ [], groups.eq1)
+    ∷ (codes "EQ2", class.eq2 ∷ [], groups.eq2)
+    ∷ (codes "EQ3+EQ6", class.eq3 ∷ class.eq6 ∷ [], groups.eq3_eq6)
+    ∷ (codes "EQ4", class.eq4 ∷ [], groups.eq4)
+    ∷ (codes "EQ5", class.eq5 ∷ [], groups.eq5)
+    ∷ []
+
+-- what a group contributes to the score below the value
+abbrev pub group_text : ℕ → Group → List ℕ
+group_text value (name, level, group) =
     object_text (
-    (codes "class", string_text class)
+    (codes "class", string_text (digits level))
     ∷ (codes "depth", decimal group.depth)
     ∷ (codes "distance", decimal group.distance)
-    ∷ gap_member value group.next
+    ∷ (codes "gap", gap_text value group.next)
     ∷ (codes "group", string_text name)
     ∷ next_members group.next group.taken
     )
@@ -52,15 +72,7 @@ group_text name class value group =
 -- the five groups; none without impact
 abbrev pub groups_text : MacroVector → ℕ → Option GroupExplanations → List ℕ
 groups_text class value None = array_text []
-groups_text class value (Some groups) =
-    array_text (
-    group_text (codes "EQ1") (decimal class.eq1) value groups.eq1
-    ∷ group_text (codes "EQ2") (decimal class.eq2) value groups.eq2
-    ∷ group_text (codes "EQ3+EQ6") (decimal class.eq3 ++ decimal class.eq6) value groups.eq3_eq6
-    ∷ group_text (codes "EQ4") (decimal class.eq4) value groups.eq4
-    ∷ group_text (codes "EQ5") (decimal class.eq5) value groups.eq5
-    ∷ []
-    )
+groups_text class value (Some groups) = array_text (map (group_text value) (named class groups))
 
 -- the class, the mean of what the groups take from its value, the nomenclature, and the number that is left
 abbrev pub class_members : Explanation → Nomenclature → List Member
@@ -72,23 +84,23 @@ class_members explanation nomenclature =
     ∷ []
 
 -- the explanation of a score of so many tenths, with these numbers
-abbrev pub explanation_text : Option ℕ → Vector → ℕ → Explanation → List ℕ
-explanation_text line vector tenths explanation =
+abbrev pub explanation_text : Option ℕ → Cvss → ℕ → Nomenclature → Explanation → List ℕ
+explanation_text line cvss tenths nomenclature explanation =
     object_text (
     (codes "effective", object_text (effective_members explanation.effective))
     ∷ (codes "groups", groups_text explanation.class explanation.value explanation.groups)
     ∷ (line_members line
-    ++ (class_members explanation (nomenclature_of vector)
+    ++ (class_members explanation nomenclature
     ++ score_member tenths
-    ∷ severity_member (CvssV40 vector) tenths
+    ∷ severity_member cvss tenths
     ∷ (codes "value", tenths_text explanation.value)
-    ∷ vector_member (CvssV40 vector)
-    ∷ version_member (CvssV40 vector)
+    ∷ vector_member cvss
+    ∷ version_member cvss
     ∷ []))
     )
 
 -- the text explains the vector's score, of so many tenths
-pub record IsExplanationText (line : Option ℕ) (vector : Vector) (tenths : ℕ) (text : List ℕ) : Type 0 where
+pub record IsExplanationText (line : Option ℕ) (cvss : Cvss) (vector : Vector) (tenths : ℕ) (text : List ℕ) : Type 0 where
   pub explanation : Explanation
   pub is_explanation : IsExplanation (effective_of vector) explanation
-  pub is : text ≡ explanation_text line vector tenths explanation
+  pub is : text ≡ explanation_text line cvss tenths (nomenclature_of vector) explanation

@@ -4,6 +4,7 @@
 
 pub mod decimal;
 mod explanation;
+pub mod groups;
 pub mod laws;
 mod parts;
 mod table;

@@ -1,7 +1,6 @@
 //! The explanations of the scores of CVSS v2 (guide, section 3.2).
 
 ghost use Rattle.std.specs.Prelude.{◌≡◌, ◌*◌, ◌≤◌, [], map, pos};
-ghost use Rattle.cvss_any.specs.declared.vector.Cvss.TheVariants.{CvssV20};
 ghost use Rattle.cvss_explain.specs.V2.{IsExplanationText, base_members, environmental_members, temporal_members, weight_member};
 ghost use Rattle.cvss_json_write.specs.declared.member.Scalar.TheVariants.{Decimal};
 ghost use Rattle.cvss_json_write.specs.Scalars.{member_view, members_room};
@@ -10,46 +9,43 @@ ghost use Rattle.cvss_v2.specs.Weights.{weight_in};
 pub mod numbers;
 
 use crate::decimal::ten_millionths;
-use crate::parts::{put_line, put_score, put_text};
-use crate::table::{Table, put_table};
+use crate::parts::{Value, put_object};
+use crate::table::Table;
 use MetricType::*;
 use cvss_any::Cvss;
 use cvss_base::v2::MetricType;
-use cvss_json_write::{Member, Page, Scalar, put_object_member};
+use cvss_json_write::{Member, Page, Scalar};
 use cvss_v2::Vector;
 use numbers::{BaseNumbers, EnvironmentalNumbers, TemporalNumbers};
 
 /// Writes why a vector has its score.
-pub(crate) fn put_explanation(
+pub(crate) fn put_explanation<'v>(
     page: &mut Page,
     line: Option<u64>,
-    cvss: &Cvss,
-    vector: &Vector,
+    cvss: &'v Cvss,
+    vector: &'v Vector,
     tenths: u8,
 )
-    requires vector { cvss.now ≡ CvssV20 vector.now }
-    requires empty { page.old ≡ [] }
-    ensures { IsExplanationText line vector.now tenths page.new }
+    requires { page.old ≡ [] }
+    ensures { IsExplanationText line cvss.now vector.now tenths page.new }
 {
-    page.push(b"{");
-    put_object_member(page, false, "base", &base(BaseNumbers::of(vector)));
-    put_object_member(
+    let base = base(BaseNumbers::of(vector));
+    let environmental = environmental(EnvironmentalNumbers::of(vector));
+    let temporal = temporal(TemporalNumbers::of(vector));
+    put_object(
         page,
-        true,
-        "environmental",
-        &environmental(EnvironmentalNumbers::of(vector)),
+        ("base", Value::Object(&base)),
+        ("environmental", Value::Object(&environmental)),
+        line,
+        &[
+            ("score", Value::Scalar(Scalar::Tenths(tenths))),
+            ("severity", Value::Severity(cvss, tenths)),
+            ("temporal", Value::Object(&temporal)),
+            ("vector", Value::Text(cvss)),
+            ("version", Value::Version(cvss)),
+            ("weights", Value::WeightsV2(vector)),
+        ],
     );
-    put_line(page, line);
-    put_score(page, cvss, tenths);
-    put_object_member(
-        page,
-        true,
-        "temporal",
-        &temporal(TemporalNumbers::of(vector)),
-    );
-    put_text(page, cvss);
-    put_table(page, true, "weights", vector, &BY_NAME);
-    page.push(b"}");
 }
 
 fn base(numbers: BaseNumbers) -> [Member; 5]
@@ -92,7 +88,7 @@ fn environmental(numbers: EnvironmentalNumbers) -> [Member; 5]
 }
 
 /// The metrics, in the order of their names.
-const BY_NAME: [MetricType; 14] = [A, AC, AR, AV, Au, C, CDP, CR, E, I, IR, RC, RL, TD];
+pub(crate) const BY_NAME: [MetricType; 14] = [A, AC, AR, AV, Au, C, CDP, CR, E, I, IR, RC, RL, TD];
 
 impl Table for Vector {
     type Key = MetricType;

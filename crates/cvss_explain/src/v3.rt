@@ -1,69 +1,53 @@
 //! The explanations of the scores of CVSS v3 (v3.1 specification, section 7; v3.0 specification, section 8).
 
-ghost use Rattle.std.specs.Prelude.{◌≡◌, ◌+◌, ◌*◌, ◌≤◌, [], length, map, pos, true, unwrap_or};
-ghost use Rattle.cvss_any.specs.Answers.{score_of_tenths};
-ghost use Rattle.cvss_explain.specs.V3.{IsExplanationText, base_members, environmental_members, scope_letter, scope_members, temporal_members, weight_member};
-ghost use Rattle.cvss_base.specs.Rating.{rating_of_score};
-ghost use Rattle.cvss_base.specs.SeverityText.{text_of as severity_text};
+ghost use Rattle.std.specs.Prelude.{◌≡◌, ◌*◌, ◌≤◌, [], length, map, pos, unwrap_or};
+ghost use Rattle.cvss_explain.specs.V3.{IsExplanationText, base_members, environmental_members, scope_letter, scored_members, weight_member};
 ghost use Rattle.cvss_json_write.specs.declared.member.Scalar.TheVariants.{Decimal};
-ghost use Rattle.cvss_json_write.specs.Json.{WritesMembers};
 ghost use Rattle.cvss_json_write.specs.Scalars.{member_view, members_room};
 ghost use Rattle.cvss_v3.specs.VectorWeights.{weight_in, weights_of};
 
 pub mod numbers;
 
 use crate::decimal::ten_millionths;
-use crate::parts::{put_line, put_score, put_text};
-use crate::table::{Table, put_table};
+use crate::parts::{Value, put_object, severity};
+use crate::table::Table;
 use MetricType::*;
 use cvss_any::Cvss;
-use cvss_base::TENTH;
 use cvss_base::v3::MetricType;
-use cvss_json_write::{Member, Page, Scalar, put_members, put_object_member};
-use cvss_v3::{Score, Vector};
+use cvss_json_write::{Member, Page, Scalar};
+use cvss_v3::Vector;
 use numbers::{BaseNumbers, EnvironmentalNumbers, Scored};
 
 /// Writes why a vector has its score.
-pub(crate) fn put_explanation(
+pub(crate) fn put_explanation<'v>(
     page: &mut Page,
     line: Option<u64>,
-    cvss: &Cvss,
-    vector: &Vector,
+    cvss: &'v Cvss,
+    vector: &'v Vector,
     tenths: u8,
 )
     requires { page.old ≡ [] }
     ensures { IsExplanationText line cvss.now vector.now tenths page.new }
 {
-    page.push(b"{");
-    put_object_member(page, false, "base", &base(BaseNumbers::of(vector)));
-    put_object_member(
-        page,
-        true,
-        "environmental",
-        &environmental(EnvironmentalNumbers::of(vector)),
-    );
-    put_line(page, line);
-    put_scopes(page, vector);
-    put_score(page, cvss, tenths);
-    put_object_member(page, true, "temporal", &temporal(Scored::temporal(vector)));
-    put_text(page, cvss);
-    put_table(page, true, "weights", vector, &WEIGHING_BY_NAME);
-    page.push(b"}");
-}
-
-/// Writes the scopes, as they count.
-fn put_scopes(page: &mut Page, vector: &Vector)
-    requires { length page.old + 40 ≤ 4096 }
-    ensures text { WritesMembers true (scope_members (weights_of vector.now)) page.old page.new }
-    ensures room { length page.new ≤ length page.old + 40 }
-{
+    let base = base(cvss, BaseNumbers::of(vector));
+    let environmental = environmental(cvss, EnvironmentalNumbers::of(vector));
+    let temporal = temporal(cvss, Scored::temporal(vector));
     let modified = scope_letter(vector.is_modified_scope_changed());
     let scope = scope_letter(vector.is_scope_changed());
-    put_members(
+    put_object(
         page,
+        ("base", Value::Object(&base)),
+        ("environmental", Value::Object(&environmental)),
+        line,
         &[
-            ("modifiedScope", Scalar::Text(modified)),
-            ("scope", Scalar::Text(scope)),
+            ("modifiedScope", Value::Scalar(Scalar::Text(modified))),
+            ("scope", Value::Scalar(Scalar::Text(scope))),
+            ("score", Value::Scalar(Scalar::Tenths(tenths))),
+            ("severity", Value::Severity(cvss, tenths)),
+            ("temporal", Value::Object(&temporal)),
+            ("vector", Value::Text(cvss)),
+            ("version", Value::Version(cvss)),
+            ("weights", Value::WeightsV3(vector)),
         ],
     );
 }
@@ -75,8 +59,8 @@ fn scope_letter(changed: bool) -> &'static str
     if changed { "C" } else { "U" }
 }
 
-fn base(numbers: BaseNumbers) -> [Member; 6]
-    ensures text { map member_view result ≡ base_members numbers }
+fn base(cvss: &Cvss, numbers: BaseNumbers) -> [Member; 6]
+    ensures text { map member_view result ≡ base_members cvss.now numbers }
     ensures room { members_room result ≤ 300 }
 {
     let scored = numbers.scored;
@@ -86,27 +70,27 @@ fn base(numbers: BaseNumbers) -> [Member; 6]
         ("iss", Scalar::Decimal(numbers.iss)),
         ("number", Scalar::Decimal(scored.number)),
         ("score", Scalar::Tenths(scored.score)),
-        ("severity", Scalar::Text(rating(scored.score))),
+        ("severity", Scalar::Text(severity(cvss, scored.score))),
     ]
 }
 
-fn temporal(scored: Scored) -> [Member; 3]
-    ensures text { map member_view result ≡ temporal_members scored }
+fn temporal(cvss: &Cvss, scored: Scored) -> [Member; 3]
+    ensures text { map member_view result ≡ scored_members cvss.now scored }
     ensures room { members_room result ≤ 300 }
 {
     [
         ("number", Scalar::Decimal(scored.number)),
         ("score", Scalar::Tenths(scored.score)),
-        ("severity", Scalar::Text(rating(scored.score))),
+        ("severity", Scalar::Text(severity(cvss, scored.score))),
     ]
 }
 
-fn environmental(numbers: EnvironmentalNumbers) -> [Member; 8]
-    ensures text { map member_view result ≡ environmental_members numbers }
+fn environmental(cvss: &Cvss, numbers: EnvironmentalNumbers) -> [Member; 8]
+    ensures text { map member_view result ≡ environmental_members cvss.now numbers }
     ensures room { members_room result ≤ 500 }
 {
-    let scored = numbers.scored;
     let exploitability = numbers.exploitability;
+    let scored = numbers.scored;
     [
         ("firstNumber", Scalar::Decimal(numbers.first.number)),
         ("firstScore", Scalar::Tenths(numbers.first.score)),
@@ -115,12 +99,12 @@ fn environmental(numbers: EnvironmentalNumbers) -> [Member; 8]
         ("modifiedImpact", Scalar::Decimal(numbers.impact)),
         ("number", Scalar::Decimal(scored.number)),
         ("score", Scalar::Tenths(scored.score)),
-        ("severity", Scalar::Text(rating(scored.score))),
+        ("severity", Scalar::Text(severity(cvss, scored.score))),
     ]
 }
 
 /// The metrics that weigh, which are all but the scopes, in the order of their names.
-const WEIGHING_BY_NAME: [MetricType; 20] = [
+pub(crate) const WEIGHING_BY_NAME: [MetricType; 20] = [
     A, AC, AR, AV, C, CR, E, I, IR, MA, MAC, MAV, MC, MI, MPR, MUI, PR, RC, RL, UI,
 ];
 
@@ -141,14 +125,4 @@ fn weight(vector: &Vector, kind: MetricType) -> Scalar
         ≡ Decimal (pos (unwrap_or (weight_in (weights_of vector.now) kind) 0 * 100_000)) }
 {
     Scalar::Decimal(ten_millionths(vector.weight(kind).unwrap_or(0)))
-}
-
-/// The rating of a score of so many tenths.
-#[inline(never)]
-#[tactic(auto, using(crate::proofs::ShortLemmas::severity_short))]
-fn rating(tenths: u8) -> &'static str
-    ensures text { result.now ≡ severity_text (rating_of_score (score_of_tenths tenths)) }
-    ensures short { length result.now ≤ 8 }
-{
-    Score::new(i128::from(tenths) * TENTH).severity().as_str()
 }

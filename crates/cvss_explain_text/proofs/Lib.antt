@@ -1,4 +1,2 @@
 mod JoinLemmas
 mod PartLemmas
-mod RejectionLemmas
-mod ShortLemmas

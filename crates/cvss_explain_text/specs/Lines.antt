@@ -1,10 +1,14 @@
 -- The lines of explanations for people.
-use Rattle.std.specs.Prelude.{ℕ, ◌-◌, ◌==◌, if◌then◌else◌, List, [], ◌++◌, codes, length, map, flat_map, take, Option}
+use Rattle.std.specs.Prelude.{ℕ, Bool, is_some, ◌-◌, ◌==◌, if◌then◌else◌, List, [], ◌++◌, codes, length, map, flat_map, take}
 use Rattle.std.specs.Char.{to_ascii_lowercase}
+use Rattle.std.specs.List.{list_any}
 use Rattle.std.specs.Option.{option_map_or}
 use Rattle.cvss_base.specs.SeverityText.{text_of as severity_text}
 use Rattle.cvss_base.specs.declared.severity.Severity.{Severity}
 use Rattle.cvss_base.specs.Text.{component}
+use Rattle.cvss_base.specs.Version.{Version, held}
+use Rattle.cvss_json_names.specs.Words as words
+use Rattle.cvss_json_names.specs.Words.{word_in}
 use Rattle.cvss_json_write.specs.Json.{tenths_text}
 
 abbrev pub blanks : List ℕ
@@ -28,9 +32,14 @@ metric_line name spelling figure description word =
     ++ padded 13 figure
     ++ description ++ codes ": " ++ spoken word ++ codes "\n"
 
--- the line of a metric that a vector has with this spelling, if it has it
-abbrev pub line_if : (List ℕ → List ℕ) → Option (List ℕ) → List ℕ
-line_if line spelling = option_map_or line spelling []
+-- the line of a metric, if the vector has it
+abbrev pub metric_text : {V K : Type 0} → Version V K → (K → List ℕ) → (K → List words.Row) → (K → List ℕ) → V → K → List ℕ
+metric_text version description words figure v kind =
+    option_map_or (λ spelling. metric_line (version.name kind) spelling (figure kind) (description kind) (word_in (words kind) spelling)) (held version v kind) []
+
+-- the vector has one of these metrics
+abbrev pub has_any : {V K : Type 0} → Version V K → V → List K → Bool
+has_any version v kinds = list_any (λ kind. is_some (held version v kind)) kinds
 
 -- a number on the way to a score, or a score: what it is called, and its text
 abbrev pub Row : Type 0

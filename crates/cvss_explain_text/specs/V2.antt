@@ -1,14 +1,13 @@
 -- The explanation of a score of CVSS v2 for people: guide, section 3.2.
-use Rattle.std.specs.Prelude.{◌≡◌, ◌*◌, ◌||◌, ℕ, Bool, if◌then◌else◌, List, [], ◌∷◌, ◌++◌, codes, flat_map, is_some, pos}
-use Rattle.cvss_base.specs.V2Types.{description_of, name_of}
-use Rattle.cvss_base.specs.Version.{held}
+use Rattle.std.specs.Prelude.{◌≡◌, ◌*◌, ℕ, if◌then◌else◌, List, [], ◌∷◌, ◌++◌, codes, flat_map, pos}
+use Rattle.cvss_base.specs.V2Types.{description_of}
 use Rattle.cvss_base.specs.declared.v2.MetricType.{MetricType}
+use Rattle.cvss_base.specs.declared.v2.MetricType.TheVariants.{E, RL, RC, CDP, TD, CR, IR, AR}
 use Rattle.cvss_explain.specs.NumbersV2.{AreBaseNumbers, AreEnvironmentalNumbers, AreTemporalNumbers}
 use Rattle.cvss_explain.specs.declared.v2.numbers.BaseNumbers.{BaseNumbers}
 use Rattle.cvss_explain.specs.declared.v2.numbers.EnvironmentalNumbers.{EnvironmentalNumbers}
 use Rattle.cvss_explain.specs.declared.v2.numbers.TemporalNumbers.{TemporalNumbers}
-use Rattle.cvss_explain_text.specs.Lines.{Row, line_if, metric_line, rows_text}
-use Rattle.cvss_json_names.specs.Words.{word_in}
+use Rattle.cvss_explain_text.specs.Lines.{Row, has_any, metric_text, rows_text}
 use Rattle.cvss_json_names.specs.WordsV2.{words_of}
 use Rattle.cvss_json_write.specs.Json.{decimal_text, tenths_text}
 use Rattle.cvss_v2.specs.Vector.{v2}
@@ -19,20 +18,6 @@ use Rattle.cvss_v2_metric.specs.Table.{printed}
 -- what a metric weighs, which is thousandths
 abbrev pub weight_text : Vector → MetricType → List ℕ
 weight_text vector kind = decimal_text (pos (weight_in vector kind * 10_000))
-
--- the line of a metric, if the vector has it
-abbrev pub metric_text : Vector → MetricType → List ℕ
-metric_text vector kind =
-    line_if (λ spelling. metric_line (name_of kind) spelling (weight_text vector kind) (description_of kind) (word_in (words_of kind) spelling))
-    (held v2 vector kind)
-
--- the vector has a temporal metric
-abbrev pub has_temporal : Vector → Bool
-has_temporal v = is_some v.e || is_some v.rl || is_some v.rc
-
--- the vector has an environmental metric
-abbrev pub has_environmental : Vector → Bool
-has_environmental v = is_some v.cdp || is_some v.td || is_some v.cr || is_some v.ir || is_some v.ar
 
 abbrev pub base_rows : BaseNumbers → List Row
 base_rows numbers =
@@ -59,10 +44,10 @@ environmental_rows numbers =
 -- the lines after the heading: the metrics, and the way to each score whose metrics the vector has
 abbrev pub lines_text : Vector → BaseNumbers → TemporalNumbers → EnvironmentalNumbers → List ℕ
 lines_text vector base temporal environmental =
-    flat_map (metric_text vector) printed
+    flat_map (metric_text v2 description_of words_of (weight_text vector) vector) printed
     ++ rows_text (base_rows base)
-    ++ (if has_temporal vector then rows_text (temporal_rows temporal) else [])
-    ++ (if has_environmental vector then rows_text (environmental_rows environmental) else [])
+    ++ (if has_any v2 vector (E ∷ RL ∷ RC ∷ []) then rows_text (temporal_rows temporal) else [])
+    ++ (if has_any v2 vector (CDP ∷ TD ∷ CR ∷ IR ∷ AR ∷ []) then rows_text (environmental_rows environmental) else [])
 
 -- the lines explain the vector's scores
 pub record AreLines (vector : Vector) (text : List ℕ) : Type 0 where

@@ -1,16 +1,16 @@
 -- The explanation of a score of CVSS v3 for people: v3.1 specification, section 7; v3.0 specification, section 8.
-use Rattle.std.specs.Prelude.{◌≡◌, ◌*◌, ◌||◌, ℕ, Bool, if◌then◌else◌, List, [], ◌∷◌, ◌++◌, codes, flat_map, is_some, pos, Option, Some, None}
+use Rattle.std.specs.Prelude.{◌≡◌, ◌*◌, ℕ, if◌then◌else◌, List, [], ◌∷◌, ◌++◌, codes, flat_map, pos}
+use Rattle.std.specs.Option.{option_map_or}
 use Rattle.cvss_any.specs.Answers.{score_of_tenths}
 use Rattle.cvss_base.specs.Rating.{rating_of_score}
-use Rattle.cvss_base.specs.V3Types.{description_of, name_of}
-use Rattle.cvss_base.specs.Version.{held}
+use Rattle.cvss_base.specs.V3Types.{description_of}
 use Rattle.cvss_base.specs.declared.v3.MetricType.{MetricType}
+use Rattle.cvss_base.specs.declared.v3.MetricType.TheVariants.{E, RL, RC, CR, IR, AR, MAV, MAC, MPR, MUI, MS, MC, MI, MA}
 use Rattle.cvss_explain.specs.NumbersV3.{AreBaseNumbers, AreEnvironmentalNumbers, AreTemporalNumbers}
 use Rattle.cvss_explain.specs.declared.v3.numbers.BaseNumbers.{BaseNumbers}
 use Rattle.cvss_explain.specs.declared.v3.numbers.EnvironmentalNumbers.{EnvironmentalNumbers}
 use Rattle.cvss_explain.specs.declared.v3.numbers.Scored.{Scored}
-use Rattle.cvss_explain_text.specs.Lines.{Row, line_if, metric_line, rated_text, rows_text}
-use Rattle.cvss_json_names.specs.Words.{word_in}
+use Rattle.cvss_explain_text.specs.Lines.{Row, has_any, metric_text, rated_text, rows_text}
 use Rattle.cvss_json_names.specs.WordsV3.{words_of}
 use Rattle.cvss_json_write.specs.Json.{decimal_text, tenths_text}
 use Rattle.cvss_v3.specs.Vector.{v3}
@@ -19,25 +19,8 @@ use Rattle.cvss_v3.specs.declared.vector.Vector.{Vector}
 use Rattle.cvss_v3_metric.specs.Table.{printed}
 
 -- what a metric weighs, which is hundredths; the scopes weigh nothing
-abbrev pub hundredths_text : Option ℕ → List ℕ
-hundredths_text (Some weight) = decimal_text (pos (weight * 100_000))
-hundredths_text None = codes "-"
-
--- the line of a metric, if the vector has it
-abbrev pub metric_text : Vector → MetricType → List ℕ
-metric_text vector kind =
-    line_if (λ spelling. metric_line (name_of kind) spelling (hundredths_text (weight_in (weights_of vector) kind)) (description_of kind) (word_in (words_of kind) spelling))
-    (held v3 vector kind)
-
--- the vector has a temporal metric
-abbrev pub has_temporal : Vector → Bool
-has_temporal v = is_some v.e || is_some v.rl || is_some v.rc
-
--- the vector has an environmental metric
-abbrev pub has_environmental : Vector → Bool
-has_environmental v =
-    is_some v.cr || is_some v.ir || is_some v.ar || is_some v.mav || is_some v.mac || is_some v.mpr || is_some v.mui || is_some v.ms
-    || is_some v.mc || is_some v.mi || is_some v.ma
+abbrev pub weight_text : Vector → MetricType → List ℕ
+weight_text vector kind = option_map_or (λ weight. decimal_text (pos (weight * 100_000))) (weight_in (weights_of vector) kind) (codes "-")
 
 -- the number before a rounding, and the score
 abbrev pub scored_rows : List ℕ → Scored → List Row
@@ -68,10 +51,10 @@ environmental_rows numbers =
 -- the lines after the heading: the metrics, and the way to each score whose metrics the vector has
 abbrev pub lines_text : Vector → BaseNumbers → Scored → EnvironmentalNumbers → List ℕ
 lines_text vector base temporal environmental =
-    flat_map (metric_text vector) printed
+    flat_map (metric_text v3 description_of words_of (weight_text vector) vector) printed
     ++ rows_text (base_rows base)
-    ++ (if has_temporal vector then rows_text (temporal_rows temporal) else [])
-    ++ (if has_environmental vector then rows_text (environmental_rows environmental) else [])
+    ++ (if has_any v3 vector (E ∷ RL ∷ RC ∷ []) then rows_text (temporal_rows temporal) else [])
+    ++ (if has_any v3 vector (CR ∷ IR ∷ AR ∷ MAV ∷ MAC ∷ MPR ∷ MUI ∷ MS ∷ MC ∷ MI ∷ MA ∷ []) then rows_text (environmental_rows environmental) else [])
 
 -- the lines explain the vector's scores
 pub record AreLines (vector : Vector) (text : List ℕ) : Type 0 where

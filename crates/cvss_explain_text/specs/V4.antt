@@ -1,24 +1,22 @@
 -- The explanation of a score of CVSS v4.0 for people: specification, section 8.2.
-use Rattle.std.specs.Prelude.{◌≡◌, ◌-◌, ◌==◌, ◌&&◌, ◌||◌, ℕ, Bool, true, false, not, if◌then◌else◌, List, [], ◌∷◌, ◌++◌, codes, flat_map, pos, Option, Some, None, bytes_eq}
+use Rattle.std.specs.Prelude.{◌≡◌, ◌-◌, ◌==◌, ◌&&◌, ◌||◌, ℕ, Bool, true, false, not, if◌then◌else◌, List, [], ◌∷◌, ◌++◌, codes, flat_map, is_some, map, pos, Option, Some, None, bytes_eq, unwrap_or}
 use Rattle.std.specs.Fmt.{decimal}
 use Rattle.std.specs.Option.{option_map_or}
 use Rattle.cvss_any.specs.Answers.{score_of_tenths}
 use Rattle.cvss_base.specs.Rating.{rating_of_score}
-use Rattle.cvss_base.specs.V4Types.{description_of, name_of}
+use Rattle.cvss_base.specs.V4Types.{description_of}
 use Rattle.cvss_base.specs.Version.{held}
 use Rattle.cvss_base.specs.declared.v4.MetricType.{MetricType}
-use Rattle.cvss_base.specs.declared.v4.MetricType.TheVariants.{AC, AT, AV, PR, UI, VC, VI, VA, SC, SI, SA, E, CR, IR, AR, MAC, MAT, MAV, MPR, MUI, MVC, MVI, MVA, MSC, MSI, MSA, S, AU, R, V, RE, U}
+use Rattle.cvss_base.specs.declared.v4.MetricType.TheVariants.{AC, AT, AV, PR, UI, VC, VI, VA, SC, SI, SA, E, CR, IR, AR, MAC, MAT, MAV, MPR, MUI, MVC, MVI, MVA, MSC, MSI, MSA}
 use Rattle.cvss_explain.specs.Decimal.{nearest_to}
-use Rattle.cvss_explain.specs.V4.{class_text}
-use Rattle.cvss_explain_text.specs.Lines.{Row, line_if, metric_line, rated_text, rows_text}
-use Rattle.cvss_json_names.specs.Words.{word_in}
+use Rattle.cvss_explain.specs.V4.{Group, class_text, digits, named}
+use Rattle.cvss_explain_text.specs.Lines.{Row, metric_text, rated_text, row_line, rows_text}
 use Rattle.cvss_json_names.specs.WordsV4.{words_of}
 use Rattle.cvss_json_write.specs.Json.{decimal_text, tenths_text}
 use Rattle.cvss_score.specs.v4.Explanation.{IsExplanation}
 use Rattle.cvss_score.specs.declared.v4.nomenclature.Nomenclature.{Nomenclature}
 use Rattle.cvss_score.specs.declared.v4.nomenclature.Nomenclature.TheVariants.{CvssB, CvssBE, CvssBT, CvssBTE}
 use Rattle.cvss_score.specs.declared.v4.scoring.explanation.Explanation.{Explanation}
-use Rattle.cvss_score.specs.declared.v4.scoring.explanation.GroupExplanation.{GroupExplanation}
 use Rattle.cvss_score.specs.declared.v4.scoring.explanation.GroupExplanations.{GroupExplanations}
 use Rattle.cvss_score.specs.declared.v4.scoring.classes.MacroVector.{MacroVector}
 use Rattle.cvss_score.specs.declared.v4.scoring.next.NextClass.{NextClass}
@@ -29,55 +27,43 @@ use Rattle.cvss_v4.specs.Vector.{v4}
 use Rattle.cvss_v4.specs.declared.vector.Vector.{Vector}
 use Rattle.cvss_v4_metric.specs.Table.{printed}
 
--- the levels that a metric counts in, as digits of the MacroVector; no supplemental metric counts
-abbrev pub levels_text : MacroVector → MetricType → List ℕ
-levels_text m AV = codes "EQ1:" ++ decimal m.eq1
-levels_text m PR = codes "EQ1:" ++ decimal m.eq1
-levels_text m UI = codes "EQ1:" ++ decimal m.eq1
-levels_text m MAV = codes "EQ1:" ++ decimal m.eq1
-levels_text m MPR = codes "EQ1:" ++ decimal m.eq1
-levels_text m MUI = codes "EQ1:" ++ decimal m.eq1
-levels_text m AC = codes "EQ2:" ++ decimal m.eq2
-levels_text m AT = codes "EQ2:" ++ decimal m.eq2
-levels_text m MAC = codes "EQ2:" ++ decimal m.eq2
-levels_text m MAT = codes "EQ2:" ++ decimal m.eq2
-levels_text m VC = codes "EQ3:" ++ decimal m.eq3 ++ codes " EQ6:" ++ decimal m.eq6
-levels_text m VI = codes "EQ3:" ++ decimal m.eq3 ++ codes " EQ6:" ++ decimal m.eq6
-levels_text m VA = codes "EQ3:" ++ decimal m.eq3 ++ codes " EQ6:" ++ decimal m.eq6
-levels_text m MVC = codes "EQ3:" ++ decimal m.eq3 ++ codes " EQ6:" ++ decimal m.eq6
-levels_text m MVI = codes "EQ3:" ++ decimal m.eq3 ++ codes " EQ6:" ++ decimal m.eq6
-levels_text m MVA = codes "EQ3:" ++ decimal m.eq3 ++ codes " EQ6:" ++ decimal m.eq6
-levels_text m SC = codes "EQ4:" ++ decimal m.eq4
-levels_text m SI = codes "EQ4:" ++ decimal m.eq4
-levels_text m SA = codes "EQ4:" ++ decimal m.eq4
-levels_text m MSC = codes "EQ4:" ++ decimal m.eq4
-levels_text m MSI = codes "EQ4:" ++ decimal m.eq4
-levels_text m MSA = codes "EQ4:" ++ decimal m.eq4
-levels_text m E = codes "EQ5:" ++ decimal m.eq5
-levels_text m CR = codes "EQ6:" ++ decimal m.eq6
-levels_text m IR = codes "EQ6:" ++ decimal m.eq6
-levels_text m AR = codes "EQ6:" ++ decimal m.eq6
-levels_text m S = codes "-"
-levels_text m AU = codes "-"
-levels_text m R = codes "-"
-levels_text m V = codes "-"
-levels_text m RE = codes "-"
-levels_text m U = codes "-"
+-- the levels that a metric counts in that replaces none, as digits of the MacroVector; no supplemental metric counts
+abbrev pub own_levels : MacroVector → MetricType → List ℕ
+own_levels m AV = codes "EQ1:" ++ decimal m.eq1
+own_levels m PR = codes "EQ1:" ++ decimal m.eq1
+own_levels m UI = codes "EQ1:" ++ decimal m.eq1
+own_levels m AC = codes "EQ2:" ++ decimal m.eq2
+own_levels m AT = codes "EQ2:" ++ decimal m.eq2
+own_levels m VC = codes "EQ3:" ++ decimal m.eq3 ++ codes " EQ6:" ++ decimal m.eq6
+own_levels m VI = codes "EQ3:" ++ decimal m.eq3 ++ codes " EQ6:" ++ decimal m.eq6
+own_levels m VA = codes "EQ3:" ++ decimal m.eq3 ++ codes " EQ6:" ++ decimal m.eq6
+own_levels m SC = codes "EQ4:" ++ decimal m.eq4
+own_levels m SI = codes "EQ4:" ++ decimal m.eq4
+own_levels m SA = codes "EQ4:" ++ decimal m.eq4
+own_levels m E = codes "EQ5:" ++ decimal m.eq5
+own_levels m CR = codes "EQ6:" ++ decimal m.eq6
+own_levels m IR = codes "EQ6:" ++ decimal m.eq6
+own_levels m AR = codes "EQ6:" ++ decimal m.eq6
+own_levels m _ = codes "-"
 
--- the metric replaces a base metric where it is defined
-abbrev pub is_modified : MetricType → Bool
-is_modified MAV = true
-is_modified MAC = true
-is_modified MAT = true
-is_modified MPR = true
-is_modified MUI = true
-is_modified MVC = true
-is_modified MVI = true
-is_modified MVA = true
-is_modified MSC = true
-is_modified MSI = true
-is_modified MSA = true
-is_modified _ = false
+-- the base metric that a modified metric replaces where it is defined
+abbrev pub replaced_by : MetricType → Option MetricType
+replaced_by MAV = Some AV
+replaced_by MAC = Some AC
+replaced_by MAT = Some AT
+replaced_by MPR = Some PR
+replaced_by MUI = Some UI
+replaced_by MVC = Some VC
+replaced_by MVI = Some VI
+replaced_by MVA = Some VA
+replaced_by MSC = Some SC
+replaced_by MSI = Some SI
+replaced_by MSA = Some SA
+replaced_by _ = None
+
+-- the levels that a metric counts in: those of the metric that it replaces, or its own
+abbrev pub levels_text : MacroVector → MetricType → List ℕ
+levels_text m kind = own_levels m (unwrap_or (replaced_by kind) kind)
 
 -- the modified metric that may replace a base metric
 abbrev pub modified_of : MetricType → Option MetricType
@@ -101,17 +87,11 @@ is_defined v kind = option_map_or (λ spelling. not (bytes_eq spelling (codes "X
 -- the vector's value for the metric counts: for a base metric if no modified metric replaces it, for a modified metric if it is defined
 abbrev pub value_counts : Vector → MetricType → Bool
 value_counts v kind =
-    option_map_or (λ modified. not (is_defined v modified)) (modified_of kind) (not (is_modified kind) || is_defined v kind)
+    option_map_or (λ modified. not (is_defined v modified)) (modified_of kind) (not (is_some (replaced_by kind)) || is_defined v kind)
 
 -- the effect of a metric: the levels that it counts in
 abbrev pub effect_text : Vector → MacroVector → MetricType → List ℕ
 effect_text v m kind = if value_counts v kind then levels_text m kind else codes "-"
-
--- the line of a metric, if the vector has it
-abbrev pub metric_text : Vector → MacroVector → MetricType → List ℕ
-metric_text v m kind =
-    line_if (λ spelling. metric_line (name_of kind) spelling (effect_text v m kind) (description_of kind) (word_in (words_of kind) spelling))
-    (held v4 v kind)
 
 -- the gap to the value of the next lower class and what is taken of it
 abbrev pub next_text : ℕ → Option NextClass → ℕ → List ℕ
@@ -121,21 +101,21 @@ next_text value (Some next) taken =
     ++ codes " to " ++ class_text next.class
     ++ codes ", share " ++ decimal_text (pos (nearest_to taken 8400))
 
--- what a group of metrics, of this name and level, takes from the value
-abbrev pub group_row : List ℕ → List ℕ → ℕ → GroupExplanation → Row
-group_row name level value group =
-    (name ++ codes " level " ++ level, codes "distance " ++ decimal group.distance ++ codes " of " ++ decimal group.depth ++ next_text value group.next group.taken)
+-- what a group of metrics takes from the value
+abbrev pub group_row : ℕ → Group → Row
+group_row value (name, level, group) =
+    (name ++ codes " level " ++ digits level, codes "distance " ++ decimal group.distance ++ codes " of " ++ decimal group.depth ++ next_text value group.next group.taken)
+
+-- so many 504000ths of a point
+abbrev pub fraction_row : List ℕ → ℕ → Row
+fraction_row title count = (title, decimal_text (pos (nearest_to count 504_000)))
 
 -- the five groups and the mean of what they take; without impact the score is 0
 abbrev pub group_rows : Explanation → Option GroupExplanations → List Row
-group_rows explanation None = (codes "No impact", codes "0.0") ∷ []
+group_rows explanation None = (codes "No impact", tenths_text 0) ∷ []
 group_rows explanation (Some groups) =
-    group_row (codes "EQ1") (decimal explanation.class.eq1) explanation.value groups.eq1
-    ∷ group_row (codes "EQ2") (decimal explanation.class.eq2) explanation.value groups.eq2
-    ∷ group_row (codes "EQ3+EQ6") (decimal explanation.class.eq3 ++ decimal explanation.class.eq6) explanation.value groups.eq3_eq6
-    ∷ group_row (codes "EQ4") (decimal explanation.class.eq4) explanation.value groups.eq4
-    ∷ group_row (codes "EQ5") (decimal explanation.class.eq5) explanation.value groups.eq5
-    ∷ (codes "Mean of the shares", decimal_text (pos (nearest_to explanation.mean 504_000)))
+    map (group_row explanation.value) (named explanation.class groups)
+    ++ fraction_row (codes "Mean of the shares") explanation.mean
     ∷ []
 
 -- the row of a score by a nomenclature
@@ -143,13 +123,13 @@ abbrev pub score_row : Nomenclature → ℕ → Row
 score_row nomenclature tenths =
     (nomenclature_text nomenclature ++ codes " score", rated_text tenths (rating_of_score (score_of_tenths tenths)))
 
-abbrev pub number_rows : Vector → Explanation → ℕ → List Row
-number_rows v explanation tenths =
-    (codes "MacroVector " ++ class_text explanation.class, tenths_text explanation.value)
-    ∷ group_rows explanation explanation.groups
-    ++ (codes "Before rounding", decimal_text (pos (nearest_to explanation.number 504_000)))
-    ∷ score_row (nomenclature_of v) tenths
-    ∷ []
+-- the way from the value of the class to the score
+abbrev pub numbers_text : Vector → Explanation → ℕ → List ℕ
+numbers_text v explanation tenths =
+    row_line (codes "MacroVector " ++ class_text explanation.class, tenths_text explanation.value)
+    ++ rows_text (group_rows explanation explanation.groups)
+    ++ row_line (fraction_row (codes "Before rounding") explanation.number)
+    ++ row_line (score_row (nomenclature_of v) tenths)
 
 -- a score of the first nomenclature counts some of the groups that one of the second counts, and not all
 abbrev pub counts_fewer : Nomenclature → Nomenclature → Bool
@@ -159,10 +139,10 @@ counts_fewer CvssBT CvssBTE = true
 counts_fewer CvssBE CvssBTE = true
 counts_fewer _ _ = false
 
--- the row of a score of fewer groups, if it differs from the vector's own
-abbrev pub part_rows : Nomenclature → ℕ → Nomenclature → ℕ → List Row
-part_rows own tenths nomenclature by =
-    if counts_fewer nomenclature own && not (by == tenths) then score_row nomenclature by ∷ [] else []
+-- the line of a score of fewer groups, if it differs from the vector's own
+abbrev pub part_text : Nomenclature → ℕ → Nomenclature → ℕ → List ℕ
+part_text own tenths nomenclature by =
+    if counts_fewer nomenclature own && not (by == tenths) then row_line (score_row nomenclature by) else []
 
 -- the lines say the scores of fewer groups of metrics, as far as they differ from the vector's own of so many tenths
 pub record ArePartLines (vector : Vector) (tenths : ℕ) (text : List ℕ) : Type 0 where
@@ -173,9 +153,9 @@ pub record ArePartLines (vector : Vector) (tenths : ℕ) (text : List ℕ) : Typ
   pub scored_bt : IsScoreBy CvssBT vector (score_of_tenths by_bt)
   pub scored_be : IsScoreBy CvssBE vector (score_of_tenths by_be)
   pub is : text
-      ≡ rows_text (part_rows (nomenclature_of vector) tenths CvssB by_b)
-      ++ rows_text (part_rows (nomenclature_of vector) tenths CvssBT by_bt)
-      ++ rows_text (part_rows (nomenclature_of vector) tenths CvssBE by_be)
+      ≡ part_text (nomenclature_of vector) tenths CvssB by_b
+      ++ part_text (nomenclature_of vector) tenths CvssBT by_bt
+      ++ part_text (nomenclature_of vector) tenths CvssBE by_be
 
 -- the lines explain the vector's score of so many tenths
 pub record AreLines (vector : Vector) (tenths : ℕ) (text : List ℕ) : Type 0 where
@@ -183,4 +163,7 @@ pub record AreLines (vector : Vector) (tenths : ℕ) (text : List ℕ) : Type 0 
   pub is_explanation : IsExplanation (effective_of vector) explanation
   pub parts : List ℕ
   pub are_parts : ArePartLines vector tenths parts
-  pub is : text ≡ flat_map (metric_text vector explanation.class) printed ++ rows_text (number_rows vector explanation tenths) ++ parts
+  pub is : text
+      ≡ flat_map (metric_text v4 description_of words_of (effect_text vector explanation.class) vector) printed
+      ++ numbers_text vector explanation tenths
+      ++ parts

@@ -1,7 +1,9 @@
 //! The answer to one line.
 
-ghost use Rattle.std.specs.Prelude.{◌≡◌, ◌≤◌, ◌++◌, ℕ, IfOk, OnOk};
+ghost use Rattle.std.specs.Prelude.{◌≡◌, ◌≤◌, ◌++◌, ℕ, IfErr, IfOk, IsUtf8, None, OnOk};
 ghost use Rattle.cvss_any.specs.Answers.{HasScore, text_of, vector_answer};
+ghost use Rattle.cvss_any.specs.Complete.{IsReadErrorBy, missing_by};
+ghost use Rattle.cvss_any.specs.Dispatch.{DenotesCvss};
 ghost use Rattle.cvss_explain_text.specs.Answers.{IsAnswer, Shows};
 ghost use Rattle.cvss_explain_text.specs.Explanation.{AreLines, IsExplanation};
 ghost use Rattle.cvss_explain_text.specs.WhatIf.{IsWhatIf};
@@ -35,25 +37,32 @@ pub fn answer_explained(
     ensures { (number : ℕ) → IfOk result (WritesAnswer (IsAnswer what_if allow_incomplete) number
         line.now answers.old.bytes.items answers.new.bytes.items) }
 {
-    let cvss = match Cvss::read(line) {
-        Ok(cvss) => cvss,
-        Err(error) => {
-            write_error(error, answers)?;
-            answers.push(b"\n")?;
-            return Ok(false);
-        }
-    };
-    match cvss.missing_by(allow_incomplete) {
-        Some(metric) => {
-            write_error(ReadError::Invalid(Refusal::Missing(metric)), answers)?;
-            answers.push(b"\n")?;
-            Ok(false)
-        }
-        None => {
+    match read(line, allow_incomplete) {
+        Ok(cvss) => {
             write_shown(alloc, &cvss, what_if, answers)?;
             answers.push(b"\n")?;
             Ok(true)
         }
+        Err(error) => {
+            write_error(error, answers)?;
+            answers.push(b"\n")?;
+            Ok(false)
+        }
+    }
+}
+
+/// The vector that a line denotes, which lacks no base metric unless it may.
+fn read(line: &[u8], allow_incomplete: bool) -> Result<Cvss, ReadError<'_>>
+    ensures utf8 { OnOk result (IsUtf8 line.now) }
+    ensures denoted { IfOk result (DenotesCvss line.now) }
+    ensures complete { IfOk result (λ cvss. missing_by allow_incomplete cvss ≡ None) }
+    ensures scored { IfOk result (λ cvss. HasScore cvss) }
+    ensures error { IfErr result (IsReadErrorBy allow_incomplete line.now) }
+{
+    let cvss = Cvss::read(line)?;
+    match cvss.missing_by(allow_incomplete) {
+        Some(metric) => Err(ReadError::Invalid(Refusal::Missing(metric))),
+        None => Ok(cvss),
     }
 }
 

@@ -3,6 +3,7 @@
 
 mod answer;
 mod lines;
+mod metrics;
 mod v2;
 mod v3;
 mod v4;

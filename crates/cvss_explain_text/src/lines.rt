@@ -4,7 +4,7 @@ ghost use Rattle.std.specs.Prelude.{◌≡◌, ◌-◌, ◌≤◌, ◌++◌, OnO
 ghost use Rattle.cvss_any.specs.Answers.{score_of_tenths};
 ghost use Rattle.cvss_base.specs.Rating.{rating_of_score};
 ghost use Rattle.cvss_base.specs.Text.{component};
-ghost use Rattle.cvss_explain_text.specs.Lines.{blanks, metric_line, padded, row_line, rows_text, spoken, spoken_byte};
+ghost use Rattle.cvss_explain_text.specs.Lines.{blanks, padded, row_line, rows_text, spoken, spoken_byte};
 ghost use Rattle.cvss_explain_text.specs.private.Amounts.{amount_text, row_view};
 ghost use Rattle.cvss_explain_text.specs.declared.lines.Amount.TheVariants.{Rated};
 ghost use Rattle.cvss_json_write.specs.Json.{tenths_text};
@@ -18,7 +18,7 @@ use std::alloc::AllocError;
 const COMPONENT_WIDTH: usize = 9;
 
 /// The width of the column of weights and effects.
-const FIGURE_WIDTH: usize = 13;
+pub(crate) const FIGURE_WIDTH: usize = 13;
 
 /// The width of the column of what numbers are called.
 const TITLE_WIDTH: usize = 36;
@@ -39,35 +39,8 @@ pub(crate) enum Amount {
 /// What an amount is called, and the amount.
 pub(crate) type Row = (&'static str, Amount);
 
-/// What is said of a metric.
-#[derive(Clone, Copy)]
-pub(crate) struct MetricLine<'a> {
-    pub(crate) name: &'static str,
-    pub(crate) spelling: &'a [u8],
-    /// Its weight or effect.
-    pub(crate) figure: &'a [u8],
-    pub(crate) description: &'static str,
-    pub(crate) word: &'static str,
-}
-
-impl MetricLine<'_> {
-    /// Writes the line.
-    pub(crate) fn write(&self, answers: &mut OutputBuffer) -> Result<(), AllocError>
-        ensures { OnOk result (answers.new.bytes.items ≡ answers.old.bytes.items
-            ++ metric_line self.now.name.now self.now.spelling.now self.now.figure.now
-            self.now.description.now self.now.word.now) }
-    {
-        write_component(self.name, self.spelling, answers)?;
-        write_padded(FIGURE_WIDTH, self.figure, answers)?;
-        answers.push(self.description.as_bytes())?;
-        answers.push(b": ")?;
-        write_spoken(self.word, answers)?;
-        answers.push(b"\n")
-    }
-}
-
 /// Writes the component of a metric, in its column.
-fn write_component(
+pub(crate) fn write_component(
     name: &str,
     spelling: &[u8],
     answers: &mut OutputBuffer,
@@ -105,7 +78,7 @@ fn blanks(width: usize, length: usize) -> &'static [u8]
 }
 
 /// Writes a word of FIRST's JSON schemas in lower case, and with blanks between its parts.
-fn write_spoken(word: &str, answers: &mut OutputBuffer) -> Result<(), AllocError>
+pub(crate) fn write_spoken(word: &str, answers: &mut OutputBuffer) -> Result<(), AllocError>
     ensures { OnOk result
         (answers.new.bytes.items ≡ answers.old.bytes.items ++ spoken word.now) }
 {
@@ -188,7 +161,7 @@ pub(crate) fn rated(tenths: u8) -> Amount
 }
 
 impl Amount {
-    #[tactic(auto, using(crate::proofs::ShortLemmas::severity_short))]
+    #[tactic(auto, using(cvss_explain::proofs::ShortLemmas::severity_short))]
     fn put(self, page: &mut Page)
         requires { page.old ≡ [] }
         ensures { page.new ≡ amount_text self }

@@ -1,19 +1,21 @@
 //! The explanations of the scores of CVSS v2 (guide, section 3.2).
 
-ghost use Rattle.std.specs.Prelude.{◌≡◌, ◌++◌, OnOk, [], flat_map, map};
-ghost use Rattle.cvss_explain_text.specs.V2.{AreLines, base_rows, environmental_rows, has_environmental, has_temporal, metric_text, temporal_rows, weight_text};
+ghost use Rattle.std.specs.Prelude.{◌≡◌, OnOk, map};
+ghost use Rattle.cvss_base.specs.V2Types.{description_of};
+ghost use Rattle.cvss_explain_text.specs.V2.{AreLines, base_rows, environmental_rows, temporal_rows, weight_text};
 ghost use Rattle.cvss_explain_text.specs.private.Amounts.{row_view};
 ghost use Rattle.cvss_explain_text.specs.private.Writing.{Writes};
-ghost use Rattle.cvss_v2_metric.specs.Table.{printed};
+ghost use Rattle.cvss_json_names.specs.WordsV2.{words_of};
 
-use crate::lines::{Amount, MetricLine, Row, write_rows, write_rows_if};
+use crate::lines::{Amount, Row, write_rows, write_rows_if};
+use crate::metrics::{Explained, has_any, write_metrics};
+use MetricType::*;
 use cvss_base::v2::MetricType;
 use cvss_explain::decimal::ten_millionths;
 use cvss_explain::v2::numbers::{BaseNumbers, EnvironmentalNumbers, TemporalNumbers};
-use cvss_json_names::{spelled, v2, word_in};
+use cvss_json_names::{self as names, v2};
 use cvss_json_write::Page;
 use cvss_lines::OutputBuffer;
-use cvss_text::walk::Components;
 use cvss_v2::Vector;
 use std::alloc::AllocError;
 
@@ -25,76 +27,45 @@ pub(crate) fn write_lines(vector: &Vector, answers: &mut OutputBuffer) -> Result
     let base = BaseNumbers::of(vector);
     let temporal = TemporalNumbers::of(vector);
     let environmental = EnvironmentalNumbers::of(vector);
-    write_metrics(vector, answers)?;
+    write_metrics(vector, &(), answers)?;
     write_rows(&base_rows(base), answers)?;
-    write_rows_if(has_temporal(vector), &temporal_rows(temporal), answers)?;
+    let has_temporal = has_any(vector, &TEMPORAL);
+    write_rows_if(has_temporal, &temporal_rows(temporal), answers)?;
+    let has_environmental = has_any(vector, &ENVIRONMENTAL);
     write_rows_if(
-        has_environmental(vector),
+        has_environmental,
         &environmental_rows(environmental),
         answers,
     )
 }
 
-/// Writes the lines of the metrics that a vector has.
-fn write_metrics(vector: &Vector, answers: &mut OutputBuffer) -> Result<(), AllocError>
-    ensures { OnOk result (answers.new.bytes.items
-        ≡ answers.old.bytes.items ++ flat_map (metric_text vector.now) printed) }
-{
-    let kinds = Vector::printed();
-    for kind in kinds {
-        write_metric(vector, *kind, answers)?;
+/// The temporal metrics.
+const TEMPORAL: [MetricType; 3] = [E, RL, RC];
+
+/// The environmental metrics.
+const ENVIRONMENTAL: [MetricType; 5] = [CDP, TD, CR, IR, AR];
+
+impl Explained for Vector {
+    type Class = ();
+
+    ghost description = { description_of };
+
+    ghost words = { words_of };
+
+    ghost figure = { λ vector _. weight_text vector };
+
+    fn description(kind: MetricType) -> &'static str {
+        kind.description()
     }
-    Ok(())
-}
 
-/// Writes the line of a metric, if a vector has it.
-fn write_metric(
-    vector: &Vector,
-    kind: MetricType,
-    answers: &mut OutputBuffer,
-) -> Result<(), AllocError>
-    ensures { OnOk result (answers.new.bytes.items
-        ≡ answers.old.bytes.items ++ metric_text vector.now kind) }
-{
-    let Some(spelling) = spelled(vector, kind) else {
-        return Ok(());
-    };
-    let mut figure = Page::new();
-    put_weight(vector, kind, &mut figure);
-    let line = MetricLine {
-        name: kind.name(),
-        spelling,
-        figure: figure.bytes(),
-        description: kind.description(),
-        word: word_in(v2::entry(kind).1, spelling),
-    };
-    line.write(answers)
-}
+    fn rows(kind: MetricType) -> &'static [names::Row] {
+        v2::entry(kind).1
+    }
 
-/// Writes what a metric weighs.
-fn put_weight(vector: &Vector, kind: MetricType, page: &mut Page)
-    requires { page.old ≡ [] }
-    ensures { page.new ≡ weight_text vector.now kind }
-{
-    page.decimal(ten_millionths(vector.weight(kind)));
-}
-
-/// Whether a vector has a temporal metric.
-fn has_temporal(vector: &Vector) -> bool
-    ensures { result ≡ has_temporal vector.now }
-{
-    vector.e.is_some() || vector.rl.is_some() || vector.rc.is_some()
-}
-
-/// Whether a vector has an environmental metric.
-fn has_environmental(vector: &Vector) -> bool
-    ensures { result ≡ has_environmental vector.now }
-{
-    vector.cdp.is_some()
-        || vector.td.is_some()
-        || vector.cr.is_some()
-        || vector.ir.is_some()
-        || vector.ar.is_some()
+    /// Writes what a metric weighs.
+    fn put_figure(&self, _class: &(), kind: MetricType, page: &mut Page) {
+        page.decimal(ten_millionths(self.weight(kind)));
+    }
 }
 
 fn base_rows(numbers: BaseNumbers) -> [Row; 5]

@@ -1,60 +1,21 @@
 //! What the score of a vector would be with other values of its metrics.
 
-ghost use Rattle.std.specs.Prelude.{◌≡◌, ◌++◌, ◌≤◌, IfOk, IfSome, MatchOption, OnOk, if◌then◌else◌, codes, map, option_copied};
+ghost use Rattle.std.specs.Prelude.{◌≡◌, ◌++◌, ◌≤◌, IfOk, IfSome, MatchOption, OnOk, if◌then◌else◌, codes, option_copied};
 ghost use Rattle.cvss_any.specs.Answers.{HasScore};
 ghost use Rattle.cvss_any.specs.Setting.{IsWith};
 ghost use Rattle.cvss_base.specs.Text.{component};
 ghost use Rattle.cvss_explain_text.specs.Lines.{padded};
 ghost use Rattle.cvss_explain_text.specs.WhatIf.{AreLines, IsCell, IsLine, IsScored, IsTable, Joins, cell_text, is_present};
 ghost use Rattle.cvss_explain_text.specs.private.Writing.{Writes};
-ghost use Rattle.cvss_json_names.specs.WordsV2 as names_v2;
-ghost use Rattle.cvss_json_names.specs.WordsV3 as names_v3;
-ghost use Rattle.cvss_json_names.specs.WordsV4 as names_v4;
 
 use crate::lines::write_padded;
+use crate::metrics::Explained;
 use cvss_any::Cvss;
 use cvss_base::tenths::text_of;
-use cvss_base::{v2 as types_v2, v3 as types_v3, v4 as types_v4};
-use cvss_json_names::{Row, spelled, v2, v3, v4};
+use cvss_json_names::{Row, spelled};
 use cvss_lines::OutputBuffer;
 use cvss_rank::{is_undefined, overall_tenths};
-use cvss_text::print::Printed;
 use std::alloc::{AllocError, Global};
-
-/// A vector of some version, the values of whose metrics are listed.
-trait Valued: Printed {
-    ghost use Rattle.std.specs.Prelude.{ℕ, List};
-
-    ghost words: { Self.Kind → List (List ℕ × List ℕ) };
-
-    /// How the values of a metric are spelled, each with its word.
-    fn rows(kind: Self::Kind) -> &'static [Row]
-        ensures { map (λ row. (row.0.now, row.1.now)) result.now ≡ words kind };
-}
-
-impl Valued for cvss_v2::Vector {
-    ghost words = { names_v2.words_of };
-
-    fn rows(kind: types_v2::MetricType) -> &'static [Row] {
-        v2::entry(kind).1
-    }
-}
-
-impl Valued for cvss_v3::Vector {
-    ghost words = { names_v3.words_of };
-
-    fn rows(kind: types_v3::MetricType) -> &'static [Row] {
-        v3::entry(kind).1
-    }
-}
-
-impl Valued for cvss_v4::Vector {
-    ghost words = { names_v4.words_of };
-
-    fn rows(kind: types_v4::MetricType) -> &'static [Row] {
-        v4::entry(kind).1
-    }
-}
 
 /// Writes a line for each metric, with the overall score that each of its values would give.
 pub(crate) fn write_table(
@@ -73,7 +34,7 @@ pub(crate) fn write_table(
     }
 }
 
-fn write_lines<V: Valued>(
+fn write_lines<V: Explained>(
     alloc: Global,
     cvss: &Cvss,
     vector: &V,
@@ -90,7 +51,7 @@ fn write_lines<V: Valued>(
     Ok(())
 }
 
-fn write_line<V: Valued>(
+fn write_line<V: Explained>(
     alloc: Global,
     cvss: &Cvss,
     vector: &V,

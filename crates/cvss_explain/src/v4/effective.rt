@@ -13,7 +13,7 @@ use cvss_score::v4::scoring::effective::{
 use cvss_v4_metric::Metric;
 
 /// The metrics that have an effective value, in the order of their names.
-pub(super) const BY_NAME: [MetricType; 15] = [
+pub(crate) const BY_NAME: [MetricType; 15] = [
     AC, AR, AT, AV, CR, E, IR, PR, SA, SC, SI, UI, VA, VC, VI,
 ];
 

@@ -1,8 +1,8 @@
 //! What metrics of CVSS v4.0 count in.
 
-ghost use Rattle.std.specs.Prelude.{◌≡◌, ◌≤◌, ◌+◌, ◌++◌, [], codes, length};
+ghost use Rattle.std.specs.Prelude.{◌≡◌, ◌≤◌, ◌+◌, ◌++◌, [], codes, is_some, length};
 ghost use Rattle.std.specs.Fmt.{decimal};
-ghost use Rattle.cvss_explain_text.specs.V4.{effect_text, is_defined, is_modified, levels_text, modified_of, value_counts};
+ghost use Rattle.cvss_explain_text.specs.V4.{is_defined, levels_text, modified_of, replaced_by, value_counts};
 
 use cvss_base::v4::MetricType;
 use cvss_json_names::spelled;
@@ -10,20 +10,8 @@ use cvss_json_write::Page;
 use cvss_score::v4::scoring::classes::MacroVector;
 use cvss_v4::Vector;
 
-/// Writes the levels that a metric counts in, or a hyphen where its value does not count.
-pub(super) fn put_effect(vector: &Vector, class: &MacroVector, kind: MetricType, page: &mut Page)
-    requires { page.old ≡ [] }
-    ensures { page.new ≡ effect_text vector.now class.now kind }
-{
-    if value_counts(vector, kind) {
-        put_levels(class, kind, page);
-    } else {
-        page.push(b"-");
-    }
-}
-
 /// Writes the levels that a metric counts in; no supplemental metric counts.
-fn put_levels(class: &MacroVector, kind: MetricType, page: &mut Page)
+pub(super) fn put_levels(class: &MacroVector, kind: MetricType, page: &mut Page)
     requires { page.old ≡ [] }
     ensures { page.new ≡ levels_text class.now kind }
 {
@@ -54,7 +42,7 @@ fn put_level(name: &[u8], level: u8, page: &mut Page)
 
 /// Whether the vector's value for a metric counts: that of a base metric if no modified metric
 /// replaces it, and that of a modified metric if it is defined.
-fn value_counts(vector: &Vector, kind: MetricType) -> bool
+pub(super) fn value_counts(vector: &Vector, kind: MetricType) -> bool
     ensures { result ≡ value_counts vector.now kind }
 {
     match modified_of(kind) {
@@ -94,7 +82,7 @@ fn modified_of(kind: MetricType) -> Option<MetricType>
 }
 
 fn is_modified(kind: MetricType) -> bool
-    ensures { result ≡ is_modified kind }
+    ensures { result ≡ is_some (replaced_by kind) }
 {
     use MetricType::*;
     matches!(

@@ -5,14 +5,14 @@ pub returns-in-CvssV20 : goal.returns-in-CvssV20
 returns-in-CvssV20 c = record {
   tenths = c.tenths-tenths.result;
   scored = c.tenths-tenths.ensures.value;
-  explains = rw c.in-CvssV20.is c.put_explanation.ensures;
+  explains = rw c.in-CvssV20.is (rw c.in-CvssV20.is at c.put_explanation.ensures);
 }
 
 pub returns-in-CvssV40 : goal.returns-in-CvssV40
 returns-in-CvssV40 c = record {
   tenths = c.tenths-tenths.result;
   scored = c.tenths-tenths.ensures.value;
-  explains = rw c.in-CvssV40.is c.put_explanation-in-CvssV40.ensures;
+  explains = rw c.in-CvssV40.is (rw c.in-CvssV40.is at c.put_explanation-in-CvssV40.ensures);
 }
 
 pub returns-in-CvssV30 : goal.returns-in-CvssV30

@@ -1,35 +1,12 @@
-use Rattle.std.proofs.Common.{[], ◌∷◌, ◌++◌, ◌∙◌, List, codes, refl}
-use Rattle.cvss_any.specs.declared.vector.Cvss.TheVariants.{CvssV20}
-use Rattle.cvss_json_write.specs.Json.{Member, object_text}
-use Rattle.cvss_explain.specs.Parts.{line_members, score_member, severity_member, vector_member, version_member}
-use Rattle.cvss_explain.specs.V2.{environmental_members, temporal_members, weights_members}
 use Rattle.cvss_explain.proofs.v2.put_explanation.Goals as goal
 
 pub returns : goal.returns
-returns c =
-    let vector = c.args.vector.now in
-    let cvss = CvssV20 vector in
-    let tenths = c.args.tenths in
-    let weights : List Member = (codes "weights", object_text (weights_members vector)) ∷ [] in
-    let text : List Member = vector_member cvss ∷ version_member cvss ∷ weights in
-    let temporal : List Member = (codes "temporal", object_text (temporal_members c.of-3.result)) ∷ text in
-    let score : List Member = score_member tenths ∷ severity_member cvss tenths ∷ temporal in
-    let line : List Member = line_members c.args.line ++ score in
-    let environmental : List Member = (codes "environmental", object_text (environmental_members c.of-2.result)) ∷ line in
-    record {
-      base = c.of.result;
-      temporal = c.of-3.result;
-      environmental = c.of-2.result;
-      are_base = c.of.ensures;
-      are_temporal = c.of-3.ensures;
-      are_environmental = c.of-2.ensures;
-      is = c.push-2.ensures
-          ∙ c.put_table.ensures.text []
-          ∙ (rw c.requires.vector at c.put_text.ensures.text) weights
-          ∙ (rw c.temporal.ensures.text at c.put_object_member-3.ensures.text) text
-          ∙ (rw c.requires.vector at c.put_score.ensures.text) temporal
-          ∙ c.put_line.ensures.text score
-          ∙ (rw c.environmental.ensures.text at c.put_object_member-2.ensures.text) line
-          ∙ (rw c.base.ensures.text at c.put_object_member.ensures.text) environmental
-          ∙ rw (c.push.ensures, c.requires.empty) refl;
-    }
+returns c = record {
+  base = c.of.result;
+  temporal = c.of-3.result;
+  environmental = c.of-2.result;
+  are_base = c.of.ensures;
+  are_temporal = c.of-3.ensures;
+  are_environmental = c.of-2.ensures;
+  is = rw (c.base-base.ensures.text, c.environmental-environmental.ensures.text, c.temporal-temporal.ensures.text) at c.put_object.ensures;
+}

@@ -7,7 +7,7 @@ use Rattle.cvss_explain_text.proofs.v3.write_lines.Goals as goal
 pub returns : goal.returns
 returns c =
     let base = rw c.base_rows.ensures at c.in_ok-write_rows.ensures in
-    let temporal = rw (c.has_temporal.ensures, c.temporal_rows.ensures) at c.in_ok-write_rows_if.ensures in
+    let temporal = rw (c.has_any-has_temporal.ensures, c.temporal_rows.ensures) at c.in_ok-write_rows_if.ensures in
     on_ok_weaker c.write_rows_if-2.result
     (λ last. record {
       text = lines_text c.args.vector.now c.of-base.result c.temporal-temporal.result c.of-environmental.result;
@@ -21,6 +21,6 @@ returns c =
         is = refl;
       };
       written = four_parts _ _ _ _ _ _ _ _ _ c.in_ok-write_metrics.ensures base temporal
-          (rw (c.has_environmental.ensures, c.environmental_rows.ensures) at last);
+          (rw (c.has_any-has_environmental.ensures, c.environmental_rows.ensures) at last);
     })
     c.write_rows_if-2.ensures
