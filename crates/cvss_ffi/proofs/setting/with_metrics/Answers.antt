@@ -10,5 +10,5 @@ returns-in-Ok-with_metrics c =
     record {
       is = record { utf8 = read.1; is = is };
       accepts = λ _ _. refl;
-      unset = tt;
+      why = tt;
     }
