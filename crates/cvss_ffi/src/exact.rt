@@ -57,14 +57,14 @@ pub fn put_numbers(version: i32, metrics: &[u8], numbers: &mut CvssNumbers) -> b
     ensures { AnswersNumbers version metrics.now numbers.old numbers.new result }
 {
     match version {
-        20 => put_v2(metrics, numbers),
-        30 => put_v3(0, metrics, numbers),
-        31 => put_v3(1, metrics, numbers),
+        20 => write_v2(metrics, numbers),
+        30 => write_v3(0, metrics, numbers),
+        31 => write_v3(1, metrics, numbers),
         _ => false,
     }
 }
 
-fn put_v2(metrics: &[u8], numbers: &mut CvssNumbers) -> bool
+fn write_v2(metrics: &[u8], numbers: &mut CvssNumbers) -> bool
     ensures { AnswersPartial v2 [] metrics.now
         (λ vector. (result ≡ true) × AreNumbersV2 vector numbers.new)
         (IsKept numbers.old numbers.new result) }
@@ -78,7 +78,7 @@ fn put_v2(metrics: &[u8], numbers: &mut CvssNumbers) -> bool
     }
 }
 
-fn put_v3(minor_version: usize, metrics: &[u8], numbers: &mut CvssNumbers) -> bool
+fn write_v3(minor_version: usize, metrics: &[u8], numbers: &mut CvssNumbers) -> bool
     ensures { AnswersPartial v3 (front_v3 minor_version) metrics.now
         (λ vector. (result ≡ true) × AreNumbersV3 vector numbers.new)
         (IsKept numbers.old numbers.new result) }
