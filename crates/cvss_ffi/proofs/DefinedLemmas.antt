@@ -1,5 +1,5 @@
 -- The defined metrics of a vector, as they are copied one after another into a vector without metrics.
-use Rattle.std.proofs.Common.{◌≡◌, inl, inr, ℕ, ◌+◌, ◌<◌, ◌≤◌, Bool, true, false, List, length, Option, None, Some, Result, Ok, Err, bytes_eq, if◌then◌else◌, sym, ap, ◌∙◌, subst, arith, slice_get}
+use Rattle.std.proofs.Common.{◌≡◌, inl, inr, ℕ, ◌+◌, ◌<◌, ◌≤◌, Bool, true, false, List, length, Option, None, Some, Result, Ok, Err, bytes_eq, if◌then◌else◌, sym, ap, ◌∙◌, subst, arith, get_or, slice_get}
 use Rattle.std.specs.Option.{option_and_then, option_map}
 use Rattle.std.proofs.lemmas.Bool.{cases_lt}
 use Rattle.std.proofs.lemmas.Option.{same_Some, slice_get_within}
@@ -7,6 +7,7 @@ use Rattle.cvss_base.specs.Version.{Version, held, read}
 use Rattle.cvss_text.specs.private.Walk.{HasNoValue, IsPut, VersionLaws, place_of}
 use Rattle.cvss_text.specs.declared.walk.ComponentError.{ComponentError}
 use Rattle.cvss_text.specs.declared.walk.ComponentError.TheVariants.{Invalid, Repeated}
+use Rattle.cvss_text.proofs.LawLemmas.{only_place}
 use Rattle.cvss_ffi.specs.Defined.{HasDefinedOf, defined_in, if_defined}
 use Rattle.cvss_ffi.specs.private.Steps.{IsCopiedIfDefined}
 
@@ -50,6 +51,11 @@ module _ {V K : Type 0} (version : Version V K) (version_laws : VersionLaws vers
     none = λ kind _. valueless.none kind;
     front = front;
   }
+
+  -- the metric at an index of the printing order has this place
+  pub at_index : (kinds : List K) (index : ℕ) (kind : K) → kinds ≡ version.printed → index < length kinds → kind ≡ get_or kinds index kind → place_of version kind ≡ index
+  at_index kinds index kind is within here =
+      sym (only_place version version_laws kind index kind (omega (arith, within, ap length is)) (sym (here ∙ ap (λ each. get_or each index kind) is)))
 
   one_at_place : (kind other : K) → place_of version other ≡ place_of version kind → kind ≡ other
   one_at_place kind other same = same_Some kind other (sym (version_laws.placed kind) ∙ (ap (slice_get version.printed) (sym same) ∙ version_laws.placed other))

@@ -1,6 +1,5 @@
-use Rattle.std.proofs.Common.{◌≡◌, get_or, inr, length, rules, sym, ap, subst, ◌∙◌, arith}
-use Rattle.cvss_text.proofs.LawLemmas.{only_place}
-use Rattle.cvss_ffi.proofs.DefinedLemmas.{HasDefinedTo, HasDefinedTo-all, HasDefinedTo-more, HasDefinedTo-start}
+use Rattle.std.proofs.Common.{◌≡◌, inr, length, rules, ap, subst, arith}
+use Rattle.cvss_ffi.proofs.DefinedLemmas.{HasDefinedTo, HasDefinedTo-all, HasDefinedTo-more, HasDefinedTo-start, at_index}
 use Rattle.cvss_ffi.proofs.defined.without.Goals as goal
 
 pub loop-kind-init : goal.loop-kind-init
@@ -12,17 +11,15 @@ loop-kind-preserved g c =
     let version = g.V.Components.version in
     let index = c.loop-kind.kind-index in
     let kind = c.kind-item.result in
-    let here : get_or version.printed index kind ≡ kind = sym (c.kind-item.is ∙ ap (λ kinds. get_or kinds index kind) c.printed-kind-items.ensures) in
-    let at = only_place version g.met.V.Components.version_laws kind index kind (omega (arith, c.loop-kind-test.true, ap length c.printed-kind-items.ensures)) here in
-    HasDefinedTo-more version g.met.V.Components.version_laws c.args.undefined.now c.args.vector.now index kind (sym at) c.loop-kind.new _ c.copy_if_defined.ensures c.loop-kind.invariant
+    let at = at_index version g.met.V.Components.version_laws c.args.undefined.now c.args.vector.now c.printed-kind-items.result.now index kind c.printed-kind-items.ensures c.loop-kind-test.true c.kind-item.is in
+    HasDefinedTo-more version g.met.V.Components.version_laws c.args.undefined.now c.args.vector.now index kind at c.loop-kind.new _ c.copy_if_defined.ensures c.loop-kind.invariant
 
 pub copy_if_defined-requires : goal.copy_if_defined-requires
 copy_if_defined-requires g c =
     let version = g.V.Components.version in
     let index = c.loop-kind.kind-index in
     let kind = c.kind-item.result in
-    let here : get_or version.printed index kind ≡ kind = sym (c.kind-item.is ∙ ap (λ kinds. get_or kinds index kind) c.printed-kind-items.ensures) in
-    let at = only_place version g.met.V.Components.version_laws kind index kind (omega (arith, c.loop-kind-test.true, ap length c.printed-kind-items.ensures)) here in
+    let at = at_index version g.met.V.Components.version_laws c.args.undefined.now c.args.vector.now c.printed-kind-items.result.now index kind c.printed-kind-items.ensures c.loop-kind-test.true c.kind-item.is in
     (search rules, c.loop-kind.invariant.none kind (omega (arith, at)))
 
 pub returns : goal.returns
