@@ -45,9 +45,13 @@ pub record IsSetIncomplete (metrics line answer : List ℕ) : Type 0 where
   pub missing : first_missing new ≡ Some metric
   pub is : answer ≡ codes "error: " ++ reason_text (Missing metric)
 
+-- why the line is answered by an error
+abbrev pub IsSetRefusal : List ℕ → List ℕ → List ℕ → Type 0
+IsSetRefusal metrics line answer =
+    IsErrorAnswer line answer ⊎ IsNotSet metrics line answer ⊎ IsSetIncomplete metrics line answer
+
 -- this is an answer to the line, whatever its number: one text
 unfoldable pub IsSetAnswer : List ℕ → ℕ → List ℕ → Answer → Type 0
 IsSetAnswer metrics number line (Accepted (text ∷ [])) = IsSetAcceptance metrics line text
-IsSetAnswer metrics number line (Refused (text ∷ [])) =
-    IsErrorAnswer line text ⊎ IsNotSet metrics line text ⊎ IsSetIncomplete metrics line text
+IsSetAnswer metrics number line (Refused (text ∷ [])) = IsSetRefusal metrics line text
 IsSetAnswer metrics number line answer = ⊥

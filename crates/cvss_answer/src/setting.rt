@@ -1,7 +1,10 @@
 //! The answer to one line whose vector has metrics set.
 
-ghost use Rattle.std.specs.Prelude.{ℕ, IfOk};
-ghost use Rattle.cvss_answer.specs.Setting.{IsSetAnswer};
+ghost use Rattle.std.specs.Prelude.{◌≡◌, ◌++◌, ℕ, None, IfOk, IfErr, codes};
+ghost use Rattle.cvss_answer.specs.Setting.{IsSetAnswer, IsSetIn, IsSetRefusal};
+ghost use Rattle.cvss_any.specs.Answers.{HasScore};
+ghost use Rattle.cvss_any.specs.Complete.{first_missing};
+ghost use Rattle.cvss_any.specs.Reasons.{error_message};
 ghost use Rattle.cvss_lines.specs.Answers.{WritesAnswer};
 
 use crate::answer::{write_error, write_vector};
@@ -34,28 +37,36 @@ fn answer_set(line: &[u8], metrics: &str, answers: &mut OutputBuffer) -> Result<
     ensures { (number : ℕ) → IfOk result (WritesAnswer (IsSetAnswer metrics.now) number line.now
         answers.old.bytes.items answers.new.bytes.items) }
 {
-    let vector = match Cvss::read(line) {
-        Ok(vector) => vector,
+    match vector_with(line, metrics) {
+        Ok(vector) => {
+            write_vector(&vector, answers)?;
+            Ok(true)
+        }
         Err(error) => {
             write_error(error, answers)?;
-            return Ok(false);
+            Ok(false)
         }
+    }
+}
+
+/// The vector of a line with metrics set.
+fn vector_with<'a>(line: &'a [u8], metrics: &'a str) -> Result<Cvss, ReadError<'a>>
+    ensures set { IfOk result (IsSetIn metrics.now line.now) }
+    ensures complete { IfOk result (λ new. first_missing new ≡ None) }
+    ensures scored { IfOk result (λ new. HasScore new) }
+    ensures rejected { IfErr result
+        (λ error. IsSetRefusal metrics.now line.now (codes "error: " ++ error_message error)) }
+{
+    let vector = match Cvss::read(line) {
+        Ok(vector) => vector,
+        Err(error) => return Err(error),
     };
     let new = match vector.with_metrics(metrics) {
         Ok(new) => new,
-        Err(error) => {
-            write_error(ReadError::Invalid(error.reason), answers)?;
-            return Ok(false);
-        }
+        Err(error) => return Err(ReadError::Invalid(error.reason)),
     };
     match new.first_missing() {
-        None => {
-            write_vector(&new, answers)?;
-            Ok(true)
-        }
-        Some(metric) => {
-            write_error(ReadError::Invalid(Refusal::Missing(metric)), answers)?;
-            Ok(false)
-        }
+        None => Ok(new),
+        Some(metric) => Err(ReadError::Invalid(Refusal::Missing(metric))),
     }
 }

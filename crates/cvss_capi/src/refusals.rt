@@ -4,8 +4,9 @@ ghost use Rattle.std.specs.Prelude.{◌≡◌, ℕ, List, pos};
 ghost use Rattle.cvss_any.specs.Reasons.{IsReason};
 ghost use Rattle.cvss_ffi.specs.Answers.{Answers};
 ghost use Rattle.cvss_ffi.specs.Buffer.{IsLeft, IsWritten};
-ghost use Rattle.cvss_ffi.specs.Overriding.{AnswersOverridden, IsOverrideReason};
+ghost use Rattle.cvss_ffi.specs.Overriding.{IsOverrideReason, IsWithOverrides};
 ghost use Rattle.cvss_ffi.specs.Refusals.{IsReportedKind, IsKind, IsQuoted};
+ghost use Rattle.cvss_ffi.specs.Setting.{AnswersNew};
 
 use cvss_ffi::overriding::put_override_reason;
 use cvss_ffi::refusal::{kind_of, put_quoted, put_reason, put_reported_kind};
@@ -62,7 +63,8 @@ pub extern "C" fn cvss_refusal_value(text: &[u8], buffer: &mut [u8]) -> usize
 #[unsafe(no_mangle)]
 pub extern "C" fn cvss_override_reason(text: &[u8], overrides: &[u8], buffer: &mut [u8]) -> usize
     ensures { Answers text.now
-        (λ cvss. AnswersOverridden cvss overrides.now (λ _. IsLeft buffer.old buffer.new result)
+        (λ cvss. AnswersNew (IsWithOverrides cvss overrides.now)
+        (λ _. IsLeft buffer.old buffer.new result)
         ((reason : List ℕ) × IsOverrideReason cvss overrides.now reason
         × IsWritten reason buffer.old buffer.new result))
         ((reason : List ℕ) × IsReason text.now reason

@@ -4,15 +4,14 @@ ghost use Rattle.std.specs.Prelude.{◌≡◌, ℕ, List, None, length, true, fa
 ghost use Rattle.cvss_explain.specs.Explanation.{IsExplanationText};
 ghost use Rattle.cvss_any.specs.Answers.{IsScoreOf, text_of};
 ghost use Rattle.cvss_any.specs.Dispatch.{DenotesCvss};
-ghost use Rattle.cvss_v4.specs.Vector.{v4};
-ghost use Rattle.cvss_base.specs.Version.{canonical_text};
 ghost use Rattle.cvss_any.specs.declared.vector.Cvss.{Cvss};
 ghost use Rattle.cvss_ffi.specs.Answers.{Answers};
 ghost use Rattle.cvss_ffi.specs.Buffer.{IsLeft, IsWritten};
-ghost use Rattle.cvss_ffi.specs.Defined.{text_without_undefined};
+ghost use Rattle.cvss_ffi.specs.Defined.{IsWithoutUndefined};
 ghost use Rattle.cvss_ffi.specs.Metrics.{metrics_in_order};
-ghost use Rattle.cvss_ffi.specs.Overriding.{AnswersOverridden};
+ghost use Rattle.cvss_ffi.specs.Overriding.{IsWithOverrides};
 ghost use Rattle.cvss_ffi.specs.Scores.{AnswersScoresBy, AreScoresOf, IsRatingNumber, IsScoreInTenths, nothing, version_number as number_of_version};
+ghost use Rattle.cvss_ffi.specs.Setting.{AnswersNew};
 ghost use Rattle.cvss_ffi.specs.Values.{AreValuesOf};
 ghost use Rattle.cvss_json_record.specs.Record.{IsRecordText};
 
@@ -160,7 +159,8 @@ pub extern "C" fn cvss_metrics(text: &[u8], metrics: &mut [CvssMetric]) -> usize
 #[unsafe(no_mangle)]
 pub extern "C" fn cvss_without_undefined(text: &[u8], buffer: &mut [u8]) -> usize
     ensures { Answers text.now
-        (λ cvss. IsWritten (text_without_undefined cvss) buffer.old buffer.new result)
+        (λ cvss. (new : Cvss) × IsWithoutUndefined cvss new
+        × IsWritten (text_of new) buffer.old buffer.new result)
         (IsLeft buffer.old buffer.new result) }
 {
     match Cvss::read_bytes(text) {
@@ -176,8 +176,8 @@ pub extern "C" fn cvss_without_undefined(text: &[u8], buffer: &mut [u8]) -> usiz
 #[unsafe(no_mangle)]
 pub extern "C" fn cvss_overridden(text: &[u8], overrides: &[u8], buffer: &mut [u8]) -> usize
     ensures { Answers text.now
-        (λ cvss. AnswersOverridden cvss overrides.now
-        (λ new. IsWritten (canonical_text v4 new) buffer.old buffer.new result)
+        (λ cvss. AnswersNew (IsWithOverrides cvss overrides.now)
+        (λ new. IsWritten (text_of new) buffer.old buffer.new result)
         (IsLeft buffer.old buffer.new result))
         (IsLeft buffer.old buffer.new result) }
 {

@@ -1,40 +1,53 @@
 -- A buffer, as one text after another is written into it.
-use Rattle.std.proofs.Common.{◌≡◌, ℕ, ◌+◌, ◌<◌, ◌≤◌, List, [], ◌++◌, length, get_or, take, drop, flat_map, Option, Some, unwrap_or, refl, sym, ap, ◌∙◌, subst, arith, length-append}
-use Rattle.std.proofs.Math.Seq.{take-append_seam}
-use Rattle.std.proofs.lemmas.List.Folds.{length-flat_map-take}
+use Rattle.std.proofs.Common.{◌≡◌, ℕ, ◌+◌, ◌-◌, ◌<◌, ◌≤◌, List, [], ◌++◌, length, take, drop, refl, sym, ap, ◌∙◌, append_assoc, append-nil, arith, length-append, length-drop}
+use Rattle.std.proofs.Math.Seq.{drop-append_seam, take-append_seam}
 use Rattle.std.proofs.lemmas.Bool.{le-leb, lt-leb}
-use Rattle.cvss_ffi.specs.Buffer.{HasPut, IsWritten}
-
--- what the items so far and one more give is no longer than what all give
-pub part_fits : {K X : Type 0} (f : K → List X) (kinds : List K) (i : ℕ) (kind : K) (text : List X) → i < length kinds → kind ≡ get_or kinds i kind → text ≡ f kind → length (flat_map f (take i kinds)) + length text ≤ length (flat_map f kinds)
-part_fits f kinds i kind text within is text_is =
-    rw text_is (subst (λ each. length (flat_map f (take i kinds)) + length (f each) ≤ length (flat_map f kinds)) (sym is) (length-flat_map-take f kinds i kind within))
-
-pub present : (o : Option (List ℕ)) (text : List ℕ) → Some text ≡ o → text ≡ unwrap_or o []
-present o text is = ap (λ o. unwrap_or o []) is
+use Rattle.std.proofs.lemmas.List.{drop-drop, drop_all, take_all}
+use borrow.Rule.Slice.PartMut.{mid_of, put_mid, put_same}
+use Rattle.cvss_ffi.specs.Buffer.{HasPut, IsWritten, begun}
 
 -- no text is written yet
 pub nothing_put : {X : Type 0} (old : List X) → HasPut old [] old 0
 nothing_put old = record { begins = refl; place_is = refl }
 
--- what was written is there up to the place
-pub text_put : {X : Type 0} (old text now : List X) (place : ℕ) → HasPut old text now place → take place now ≡ text
-text_put old text now place put =
-    ap (take place) put.begins ∙ ap (λ n. take n (text ++ drop (length text) old)) put.place_is ∙ take-append_seam text (drop (length text) old)
-
 pub put_within : {X : Type 0} (old text now : List X) (place : ℕ) → HasPut old text now place → place ≤ length now
 put_within old text now place put = omega (arith, put.place_is, ap length put.begins, length-append text (drop (length text) old))
 
--- a text that fits, and is there
-pub IsWritten-put : {X : Type 0} (text old now : List X) (place reported : ℕ) → length text ≤ length old → reported ≡ length text → HasPut old text now place → IsWritten text old now reported
-IsWritten-put text old now place reported fits reported_is put = record {
-  reported_is = reported_is;
-  now_is = rw (le-leb (length text) (length old) fits) put.begins;
-}
+-- a text that is written where it fits, and left out where it does not
+module _ {X : Type 0} (text old now : List X) (reported : ℕ) where
+  pub written_there : IsWritten text old now reported → reported ≤ length old → now ≡ begun text old
+  written_there written fits = rw (le-leb (length text) (length old) (omega (arith, fits, written.reported_is))) at written.now_is
 
--- a text that does not fit, and a buffer that is left as it was
-pub IsWritten-left : {X : Type 0} (text old : List X) (reported : ℕ) → length old < length text → reported ≡ length text → IsWritten text old old reported
-IsWritten-left text old reported large reported_is = record {
-  reported_is = reported_is;
-  now_is = rw (lt-leb (length text) (length old) large);
-}
+  written_left : IsWritten text old now reported → length old < reported → now ≡ old
+  written_left written large = rw (lt-leb (length text) (length old) (omega (arith, large, written.reported_is))) at written.now_is
+
+-- a text that is written into the rest of a buffer
+module _ (old first buffer text part : List ℕ) (place reported : ℕ) (put : HasPut old first buffer place) (written : IsWritten text (mid_of place (length buffer - place) buffer) part reported) where
+  after : drop place buffer ≡ drop (length first) old
+  after = ap (drop place) put.begins ∙ ap (λ n. drop n (first ++ drop (length first) old)) put.place_is ∙ drop-append_seam first (drop (length first) old)
+
+  rest_is : mid_of place (length buffer - place) buffer ≡ drop place buffer
+  rest_is = take_all (length buffer - place) (drop place buffer) (omega (arith, length-drop place buffer))
+
+  room : length (mid_of place (length buffer - place) buffer) ≡ length buffer - place
+  room = ap length rest_is ∙ length-drop place buffer
+
+  pub part_left : length buffer - place < reported → put_mid place (length buffer - place) buffer part ≡ buffer
+  part_left large =
+      ap (put_mid place (length buffer - place) buffer) (written_left text _ part reported written (omega (arith, large, room)))
+      ∙ put_same place (length buffer - place) buffer
+
+  pub part_put : reported ≤ length buffer - place → HasPut old (first ++ text) (put_mid place (length buffer - place) buffer part) (place + reported)
+  part_put fits =
+      let rest = drop (length first) old in
+      let before : take place buffer ≡ first = ap (take place) put.begins ∙ ap (λ n. take n (first ++ rest)) put.place_is ∙ take-append_seam first rest in
+      let none : drop (length buffer - place) (drop place buffer) ≡ [] = drop_all (length buffer - place) (drop place buffer) (omega (arith, length-drop place buffer)) in
+      let part_is : part ≡ begun text rest = written_there text _ part reported written (omega (arith, fits, room)) ∙ ap (begun text) (rest_is ∙ after) in
+      record {
+        begins = ap (λ l. l ++ (part ++ drop (length buffer - place) (drop place buffer))) before
+            ∙ ap (λ l. first ++ (part ++ l)) none
+            ∙ ap (λ l. first ++ l) (append-nil part ∙ part_is)
+            ∙ sym (append_assoc first text (drop (length text) rest))
+            ∙ ap (λ l. (first ++ text) ++ l) (drop-drop (length text) (length first) old ∙ ap (λ n. drop n old) (sym (length-append first text)));
+        place_is = omega (arith, put.place_is, written.reported_is, length-append first text);
+      }

@@ -1,88 +1,83 @@
--- A vector's text without its undefined metrics.
-use Rattle.std.proofs.Common.{◌≡◌, ◌≤◌, ◌<◌, ℕ, ◌+◌, Bool, true, false, List, [], ◌∷◌, ◌++◌, length, Option, Some, None, unwrap_or, bytes_eq, if◌then◌else◌, refl, sym, ap, ◌∙◌, append_assoc, append-nil, arith, length-append}
-use Rattle.std.specs.List.{filter_map, cons_option}
-use Rattle.std.specs.Option.{option_map, option_and_then}
-use Rattle.cvss_text.specs.private.Printing.{with_slash, text_with_slash, texts_with_slash}
-use Rattle.cvss_text.proofs.PrintLemmas.{joined-with_slash}
-use Rattle.cvss_base.specs.Text.{component, joined, slash}
-use Rattle.cvss_base.specs.Version.{Version, components_of, held}
-use Rattle.cvss_ffi.specs.Buffer.{HasPut, begun}
-use Rattle.cvss_ffi.specs.Defined.{defined_component, if_defined, or_if_none, text_without}
-use Rattle.cvss_ffi.specs.private.Steps.{defined_texts, front_of, kept_parts, text_after}
+-- The defined metrics of a vector, as they are copied one after another into a vector without metrics.
+use Rattle.std.proofs.Common.{◌≡◌, inl, inr, ℕ, ◌+◌, ◌<◌, ◌≤◌, Bool, true, false, List, length, Option, None, Some, Result, Ok, Err, bytes_eq, if◌then◌else◌, sym, ap, ◌∙◌, subst, arith, get_or, slice_get}
+use Rattle.std.specs.Option.{option_and_then, option_map}
+use Rattle.std.proofs.lemmas.Bool.{cases_lt}
+use Rattle.std.proofs.lemmas.Option.{same_Some, slice_get_within}
+use Rattle.cvss_base.specs.Version.{Version, held, read}
+use Rattle.cvss_text.specs.private.Walk.{HasNoValue, IsPut, VersionLaws, place_of}
+use Rattle.cvss_text.specs.declared.walk.ComponentError.{ComponentError}
+use Rattle.cvss_text.specs.declared.walk.ComponentError.TheVariants.{Invalid, Repeated}
+use Rattle.cvss_text.proofs.LawLemmas.{only_place}
+use Rattle.cvss_ffi.specs.Defined.{HasDefinedOf, defined_in, if_defined}
+use Rattle.cvss_ffi.specs.private.Steps.{IsCopiedIfDefined}
 
--- a component that may be left out is no longer than it is
-left_out : (name spelling : List ℕ) (out : Bool) → length (unwrap_or (with_slash (option_map (component name) (if out then None else Some spelling))) []) ≤ length (slash ∷ component name spelling)
-left_out name spelling true = omega arith
-left_out name spelling false = omega arith
+-- the defined metrics before an index are copied, and there is none from there on
+pub record HasDefinedTo {V K : Type 0} (version : Version V K) (undefined : List ℕ) (v : V) (index : ℕ) (new : V) : Type 0 where
+  pub copied : (kind : K) → place_of version kind < index → held version new kind ≡ defined_in version undefined v kind
+  pub none : (kind : K) → index ≤ place_of version kind → version.value_of new kind ≡ None
+  pub front : version.front new ≡ version.front v
 
-defined-short : (name undefined : List ℕ) (value : Option (List ℕ)) → length (unwrap_or (with_slash (option_map (component name) (option_and_then (if_defined undefined) value))) []) ≤ length (unwrap_or (with_slash (option_map (component name) value)) [])
-defined-short name undefined None = omega arith
-defined-short name undefined (Some spelling) = left_out name spelling (bytes_eq spelling undefined)
+module _ {X : Type 0} (spelling : X → List ℕ) (undefined text : List ℕ) where
+  spelled_if : (x : X) (out : Bool) → Some text ≡ (if out then None else Some (spelling x)) → spelling x ≡ text
+  spelled_if x true is = absurd (let no : Some text ≡ None = is in cc)
+  spelled_if x false is = let same : Some text ≡ Some (spelling x) = is in cc
 
--- a first piece and some more, joined: the piece, and each other after a slash
-joined-cons_option : (first : List ℕ) (part : Option (List ℕ)) (parts : List (List ℕ)) → joined (first ∷ cons_option part parts) ≡ joined ((first ++ unwrap_or (with_slash part) []) ∷ parts)
-joined-cons_option first None parts = ap (λ text. joined (text ∷ parts)) (sym (append-nil first))
-joined-cons_option first (Some part) [] = refl
-joined-cons_option first (Some part) (next ∷ parts) = sym (append_assoc first (slash ∷ part) (slash ∷ joined (next ∷ parts)))
+  -- the value that is spelled so
+  spelled_by : (place : Option X) → Some text ≡ option_and_then (if_defined undefined) (option_map spelling place) → (x : X) × (spelling x ≡ text)
+  spelled_by None is = absurd (let no : Some text ≡ None = is in cc)
+  spelled_by (Some x) is = (x, spelled_if x (bytes_eq (spelling x) undefined) is)
 
--- pieces whose text after a first piece is not empty are some
-or_if_none-some : (parts others : List (List ℕ)) (text : List ℕ) → joined ([] ∷ parts) ≡ text → 0 < length text → or_if_none parts others ≡ parts
-or_if_none-some [] others text is some = absurd (omega (arith, some, ap length is))
-or_if_none-some (part ∷ parts) others text is some = refl
+module _ {V K : Type 0} (version : Version V K) (version_laws : VersionLaws version) (undefined : List ℕ) (v : V) where
+  -- a value that is spelled as a defined one goes into an empty place
+  pub defined_put : (kind : K) (old new : V) (text : List ℕ) (answer : Result (Unit {0}) ComponentError) → Some text ≡ defined_in version undefined v kind → version.value_of old kind ≡ None → IsPut version old kind (read version text) answer new → IsCopiedIfDefined version undefined v kind old new
+  defined_put kind old new text (Ok _) is none put =
+      let fills = put.put.fills in
+      let own = spelled_by (version.spelling kind) undefined text (version.value_of v kind) is in
+      let same = version_laws.one_value kind fills.value own.0 (fills.spelled ∙ ap (read version) (sym own.1)) in
+      record {
+        here = ap (option_map (version.spelling kind)) fills.filled ∙ ap Some (ap (version.spelling kind) same ∙ own.1) ∙ is;
+        others = put.put.others;
+        front = put.put.front;
+      }
+  defined_put kind old new text (Err Invalid) is none put =
+      let own = spelled_by (version.spelling kind) undefined text (version.value_of v kind) is in
+      absurd (put.component_error (record { value = own.0; spelled = ap (read version) own.1 }))
+  defined_put kind old new text (Err Repeated) is none put =
+      absurd (let no = rw none at put.component_error.1 in cc)
 
-or_if_none-none : (parts others : List (List ℕ)) (text : List ℕ) → joined ([] ∷ parts) ≡ text → length text ≤ 0 → or_if_none parts others ≡ others
-or_if_none-none [] others text is none = refl
-or_if_none-none (part ∷ []) others text is none = absurd (omega (arith, none, ap length is))
-or_if_none-none (part ∷ next ∷ parts) others text is none = absurd (omega (arith, none, ap length is))
+  pub HasDefinedTo-start : (empty : V) → HasNoValue version empty → version.front empty ≡ version.front v → HasDefinedTo version undefined v 0 empty
+  HasDefinedTo-start empty valueless front = record {
+    copied = λ kind below. absurd (omega (arith, below));
+    none = λ kind _. valueless.none kind;
+    front = front;
+  }
 
-joined_after : (piece : List ℕ) (parts : List (List ℕ)) → text_after piece (joined (piece ∷ parts)) ≡ joined (front_of piece ++ parts)
-joined_after [] [] = refl
-joined_after [] (part ∷ parts) = refl
-joined_after (byte ∷ bytes) parts = refl
+  -- the metric at an index of the printing order has this place
+  pub at_index : (kinds : List K) (index : ℕ) (kind : K) → kinds ≡ version.printed → index < length kinds → kind ≡ get_or kinds index kind → place_of version kind ≡ index
+  at_index kinds index kind is within here =
+      sym (only_place version version_laws kind index kind (omega (arith, within, ap length is)) (sym (here ∙ ap (λ each. get_or each index kind) is)))
 
-module _ {V K : Type 0} (version : Version V K) (undefined : List ℕ) (v : V) where
-  -- the defined components are no longer than all
-  pub defined_texts-short : (kinds : List K) → length (defined_texts version undefined v kinds) ≤ length (texts_with_slash version v kinds)
-  defined_texts-short [] = omega arith
-  defined_texts-short (kind ∷ kinds) =
-      let text = unwrap_or (with_slash (defined_component version undefined v kind)) [] in
-      omega (
-        arith,
-        defined-short (version.name kind) undefined (held version v kind),
-        defined_texts-short kinds,
-        length-append text (defined_texts version undefined v kinds),
-        length-append (text_with_slash version v kind) (texts_with_slash version v kinds),
-      )
+  one_at_place : (kind other : K) → place_of version other ≡ place_of version kind → kind ≡ other
+  one_at_place kind other same = same_Some kind other (sym (version_laws.placed kind) ∙ (ap (slice_get version.printed) (sym same) ∙ version_laws.placed other))
 
-  joined-defined : (first : List ℕ) (kinds : List K) → joined (first ∷ filter_map (defined_component version undefined v) kinds) ≡ first ++ defined_texts version undefined v kinds
-  joined-defined first [] = sym (append-nil first)
-  joined-defined first (kind ∷ kinds) =
-      let part = defined_component version undefined v kind in
-      joined-cons_option first part (filter_map (defined_component version undefined v) kinds)
-      ∙ joined-defined (first ++ unwrap_or (with_slash part) []) kinds
-      ∙ append_assoc first (unwrap_or (with_slash part) []) (defined_texts version undefined v kinds)
+  pub HasDefinedTo-more : (index : ℕ) (kind : K) → place_of version kind ≡ index → (old new : V) → IsCopiedIfDefined version undefined v kind old new → HasDefinedTo version undefined v index old → HasDefinedTo version undefined v (index + 1) new
+  HasDefinedTo-more index kind at old new is before = record {
+    copied = λ other below. elim (cases_lt (place_of version other) index) [
+      | inl earlier ↦ elim (is.others other) [
+        | inl same ↦ absurd (omega (arith, earlier, at, ap (place_of version) same))
+        | inr same ↦ ap (option_map (version.spelling other)) same ∙ before.copied other earlier
+      ]
+      | inr back ↦ subst (λ each. held version new each ≡ defined_in version undefined v each) (one_at_place kind other (omega (arith, at, back, below))) is.here
+    ];
+    none = λ other from. elim (is.others other) [
+      | inl same ↦ absurd (omega (arith, from, at, ap (place_of version) same))
+      | inr same ↦ same ∙ before.none other (omega (arith, from))
+    ];
+    front = is.front ∙ before.front;
+  }
 
-  module _ (first : List ℕ) where
-    -- where a metric is defined: the defined components
-    pub kept-some : 0 < length (defined_texts version undefined v version.printed) → first ++ defined_texts version undefined v version.printed ≡ joined (first ∷ kept_parts version undefined v)
-    kept-some some =
-        sym (joined-defined first version.printed)
-        ∙ ap (λ parts. joined (first ∷ parts)) (sym (or_if_none-some _ (components_of version v) _ (joined-defined [] version.printed) some))
-
-    -- and where none is: all
-    pub kept-none : length (defined_texts version undefined v version.printed) ≤ 0 → first ++ texts_with_slash version v version.printed ≡ joined (first ∷ kept_parts version undefined v)
-    kept-none none =
-        sym (joined-with_slash version v first version.printed)
-        ∙ ap (λ parts. joined (first ∷ parts)) (sym (or_if_none-none _ (components_of version v) _ (joined-defined [] version.printed) none))
-
-  pub text_without_after : (piece : List ℕ) → version.front v ≡ front_of piece → text_after piece (joined (piece ∷ kept_parts version undefined v)) ≡ text_without version undefined v
-  text_without_after piece front =
-      joined_after piece (kept_parts version undefined v) ∙ ap (λ pieces. joined (pieces ++ kept_parts version undefined v)) (sym front)
-
--- a text of no bytes is put nowhere
-pub none_put : (old first text now : List ℕ) (place end : ℕ) → length text ≤ 0 → end ≡ place + length text → HasPut old (first ++ text) now end → HasPut old first now place
-none_put old first [] now place end none is put = record {
-  begins = put.begins ∙ ap (λ text. begun text old) (append-nil first);
-  place_is = omega (arith, is, put.place_is, length-append first []);
-}
-none_put old first (byte ∷ bytes) now place end none is put = absurd (omega (arith, none))
+  pub HasDefinedTo-all : (new : V) → HasDefinedTo version undefined v (length version.printed) new → HasDefinedOf version undefined v new
+  HasDefinedTo-all new all = record {
+    front_is = all.front;
+    held_is = λ kind. all.copied kind (slice_get_within version.printed (place_of version kind) kind (version_laws.placed kind));
+  }

@@ -4,9 +4,6 @@ pub mod ExactLemmas
 pub mod LengthLemmas
 pub mod LinesLemmas
 pub mod ObjectionLemmas
-pub mod OverriddenLemmas
-pub mod PartLemmas
-pub mod PartsLemmas
-pub mod SegmentLemmas
-pub mod SettingLemmas
+pub mod RefusalLemmas
+pub mod RejectionLemmas
 pub mod UndefinedLemmas

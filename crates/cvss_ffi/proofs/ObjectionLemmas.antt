@@ -10,10 +10,11 @@ use Rattle.cvss_base.specs.declared.group.MetricGroup.TheVariants.{Environmental
 use Rattle.cvss_base.specs.declared.v4.MetricType.{MetricType}
 use Rattle.cvss_v4.specs.Overriding.{AreOverrides, IsFirstObjection, Objection, NamesOther, ObjectionAt, OfOtherGroup, OfText}
 use Rattle.cvss_base.specs.Refusal.{BadComponent, BadValue, FaultAt, IsNamedBefore, Spells, Missing, Refusal, Repeated, UnknownName, WrongPrefix, WrongVersion, name_at, piece_at, value_at}
-use Rattle.cvss_base.specs.Text.{IsComponent, name_part, value_part}
+use Rattle.cvss_base.specs.Text.{IsComponent, name_part, pieces, value_part}
 use Rattle.cvss_base.specs.V4Types.{group_of}
 use Rattle.cvss_v4.specs.declared.vector.Vector.{Vector}
 use Rattle.cvss_v4.specs.Vector.{v4}
+use Rattle.cvss_ffi.specs.Overriding.{overrides_in}
 use Rattle.cvss_base.specs.Version.{component_of, components_of, read, reading}
 
 -- whether a metric is an environmental one
@@ -120,9 +121,14 @@ module _ (texts : List (List ℕ)) where
       let most = overrides-most (take 15 texts) v are in
       elim (cases_lt 14 (length texts)) [
         | inl more ↦ absurd (omega (arith, most, length-take-le 15 texts (omega (arith, more))))
-        | inr fits ↦ subst (λ pieces. AreOverrides pieces v) (take_all 15 texts (omega (arith, fits))) are
+        | inr fits ↦ subst (λ each. AreOverrides each v) (take_all 15 texts (omega (arith, fits))) are
       ]
 
   pub all_overrides : (v : Vector) → AreOverrides texts v → AreOverrides (take 15 texts) v
   all_overrides v are =
-      subst (λ pieces. AreOverrides pieces v) (sym (take_all 15 texts (omega (arith, overrides-most texts v are)))) are
+      subst (λ each. AreOverrides each v) (sym (take_all 15 texts (omega (arith, overrides-most texts v are)))) are
+
+-- the overrides of a text that is not empty are its pieces
+pub overrides_in-some : (text : List ℕ) → 0 < length text → pieces text ≡ overrides_in text
+overrides_in-some [] some = absurd (omega (arith, some))
+overrides_in-some (byte ∷ bytes) some = refl

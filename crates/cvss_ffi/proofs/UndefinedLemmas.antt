@@ -1,31 +1,9 @@
 -- What is not defined counts as what is absent.
-use Rattle.std.proofs.Common.{◌≡◌, ◌≢◌, ◌⊎◌, inl, inr, ℕ, Bool, true, false, List, [], ◌∷◌, ◌++◌, codes, Option, Some, None, IfSome, bytes_eq, if◌then◌else◌, refl, sym, ap, ◌∙◌}
+use Rattle.std.proofs.Common.{◌≡◌, ◌⊎◌, inl, inr, ℕ, Bool, true, false, List, codes, Option, Some, None, IfSome, bytes_eq, if◌then◌else◌, refl, sym, ap}
 use Rattle.std.specs.Bool.{Decides}
-use Rattle.std.specs.List.{filter_map, cons_option}
 use Rattle.std.specs.Option.{option_map, option_map_or, option_and_then}
 use Rattle.std.proofs.lemmas.Slice.Eq.{bytes_eq-Decides}
-use Rattle.cvss_base.specs.Text.{component, joined}
-use Rattle.cvss_base.specs.Version.{Version, component_of, components_of}
-use Rattle.cvss_ffi.specs.Defined.{defined_component, if_defined, or_if_none}
-use Rattle.cvss_ffi.specs.laws.DefinedParts.{HasDefinedOf, IsPrintedAsWithout}
-
-or_if_none-kept : (parts others : List (List ℕ)) → parts ≢ [] → parts ≡ or_if_none parts others
-or_if_none-kept [] others some = absurd (some refl)
-or_if_none-kept (part ∷ parts) others some = refl
-
-module _ {V K : Type 0} (version : Version V K) (undefined : List ℕ) where
-  components-defined : (v w : V) → HasDefinedOf version undefined v w → (kinds : List K) → filter_map (component_of version w) kinds ≡ filter_map (defined_component version undefined v) kinds
-  components-defined v w part [] = refl
-  components-defined v w part (kind ∷ kinds) =
-      ap (λ value. cons_option (option_map (component (version.name kind)) value) (filter_map (component_of version w) kinds)) (part.held_is kind)
-      ∙ ap (λ parts. cons_option (defined_component version undefined v kind) parts) (components-defined v w part kinds)
-
-  pub printed_as_without : IsPrintedAsWithout version undefined
-  printed_as_without v w part some =
-      let parts = components-defined v w part version.printed in
-      ap (λ pieces. joined (pieces ++ components_of version w)) part.front_is
-      ∙ ap (λ kept. joined (version.front v ++ kept)) (or_if_none-kept (components_of version w) (components_of version v) some)
-      ∙ ap (λ kept. joined (version.front v ++ or_if_none kept (components_of version v))) parts
+use Rattle.cvss_ffi.specs.Defined.{if_defined}
 
 -- the letter of a value, where an absent one counts as X
 abbrev letter : {X : Type 0} → (X → List ℕ) → Option X → List ℕ

@@ -1,10 +1,8 @@
--- A vector's text without the metrics that are not defined: CVSS v2 guide, sections 2.2 and 2.3 (ND); v3.1
--- specification, sections 3 and 4 (X); v4.0 specification, sections 3 to 5 (X).
-use Rattle.std.specs.Prelude.{ℕ, List, [], ◌∷◌, ◌++◌, codes, bytes_eq, if◌then◌else◌, Option, Some, None, option_map}
-use Rattle.std.specs.List.{filter_map}
+-- A vector without the metrics that are not defined: CVSS v2 guide, sections 2.2 and 2.3 (ND); v3.1 specification,
+-- sections 3 and 4 (X); v4.0 specification, sections 3 to 5 (X).
+use Rattle.std.specs.Prelude.{◌≡◌, ◌⊎◌, ℕ, List, All, codes, bytes_eq, if◌then◌else◌, Option, Some, None}
 use Rattle.std.specs.Option.{option_and_then}
-use Rattle.cvss_base.specs.Text.{component, joined}
-use Rattle.cvss_base.specs.Version.{Version, components_of, held}
+use Rattle.cvss_base.specs.Version.{Version, held}
 use Rattle.cvss_v2.specs.Vector.{v2}
 use Rattle.cvss_v3.specs.Vector.{v3}
 use Rattle.cvss_v4.specs.Vector.{v4}
@@ -15,23 +13,27 @@ use Rattle.cvss_any.specs.declared.vector.Cvss.TheVariants.{CvssV20, CvssV30, Cv
 abbrev pub if_defined : List ℕ → List ℕ → Option (List ℕ)
 if_defined undefined spelling = if bytes_eq spelling undefined then None else Some spelling
 
--- the component that a vector has for a metric, unless this is not defined
-abbrev pub defined_component : {V K : Type 0} → Version V K → List ℕ → V → K → Option (List ℕ)
-defined_component version undefined v kind =
-    option_map (component (version.name kind)) (option_and_then (if_defined undefined) (held version v kind))
+-- the spelling of the vector's value for a metric, unless this is not defined
+abbrev pub defined_in : {V K : Type 0} → Version V K → List ℕ → V → K → Option (List ℕ)
+defined_in version undefined v kind = option_and_then (if_defined undefined) (held version v kind)
 
--- the ones, or the others where there are none
-abbrev pub or_if_none : List (List ℕ) → List (List ℕ) → List (List ℕ)
-or_if_none [] others = others
-or_if_none (part ∷ parts) others = part ∷ parts
+-- the second vector has the first's defined metrics, and no others
+pub record HasDefinedOf {V K : Type 0} (version : Version V K) (undefined : List ℕ) (v w : V) : Type 0 where
+  pub front_is : version.front w ≡ version.front v
+  pub held_is : (kind : K) → held version w kind ≡ defined_in version undefined v kind
 
--- a vector's canonical text less its undefined metrics; all are kept where none is defined, as may be in CVSS v3
-abbrev pub text_without : {V K : Type 0} → Version V K → List ℕ → V → List ℕ
-text_without version undefined v =
-    joined (version.front v ++ or_if_none (filter_map (defined_component version undefined v) version.printed) (components_of version v))
+-- the vector has no metric that is defined, as may be in CVSS v3
+abbrev pub HasNoneDefined : {V K : Type 0} → Version V K → List ℕ → V → Type 0
+HasNoneDefined version undefined v = All (λ kind. defined_in version undefined v kind ≡ None) version.printed
 
-abbrev pub text_without_undefined : Cvss → List ℕ
-text_without_undefined (CvssV20 vector) = text_without v2 (codes "ND") vector
-text_without_undefined (CvssV30 vector) = text_without v3 (codes "X") vector
-text_without_undefined (CvssV31 vector) = text_without v3 (codes "X") vector
-text_without_undefined (CvssV40 vector) = text_without v4 (codes "X") vector
+-- the second vector is the first without its undefined metrics; all are kept where none is defined
+abbrev pub IsWithout : {V K : Type 0} → Version V K → List ℕ → V → V → Type 0
+IsWithout version undefined v w =
+    (HasNoneDefined version undefined v × (w ≡ v)) ⊎ (¬ (HasNoneDefined version undefined v) × HasDefinedOf version undefined v w)
+
+abbrev pub IsWithoutUndefined : Cvss → Cvss → Type 0
+IsWithoutUndefined (CvssV20 vector) (CvssV20 new) = IsWithout v2 (codes "ND") vector new
+IsWithoutUndefined (CvssV30 vector) (CvssV30 new) = IsWithout v3 (codes "X") vector new
+IsWithoutUndefined (CvssV31 vector) (CvssV31 new) = IsWithout v3 (codes "X") vector new
+IsWithoutUndefined (CvssV40 vector) (CvssV40 new) = IsWithout v4 (codes "X") vector new
+IsWithoutUndefined _ _ = ⊥

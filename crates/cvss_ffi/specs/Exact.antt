@@ -14,7 +14,10 @@ use Rattle.cvss_v2.specs.Vector.{v2}
 use Rattle.cvss_v3.specs.Vector.{v3}
 use Rattle.cvss_v2.specs.Weights as weights_v2
 use Rattle.cvss_v3.specs.VectorWeights as weights_v3
-use Rattle.cvss_ffi.specs.Scores.{IsScoreInTenths}
+use Rattle.cvss_any.specs.declared.vector.Cvss.{Cvss}
+use Rattle.cvss_any.specs.declared.vector.Cvss.TheVariants.{CvssV20, CvssV31}
+use Rattle.cvss_json_record.specs.declared.group.Group.TheVariants.{Base, Temporal, Environmental}
+use Rattle.cvss_ffi.specs.Scores.{IsReportedScore}
 use Rattle.cvss_ffi.specs.declared.exact.CvssNumber.{CvssNumber}
 use Rattle.cvss_ffi.specs.declared.exact.CvssNumbers.{CvssNumbers}
 
@@ -52,37 +55,26 @@ pub record IsNumber (number : CvssNumber) : Type 0 where
   pub rest_from_lowest : neg_ℤ (pos (10 ^ 12)) <ℤ number.rest
   pub rest_to_highest : number.rest <ℤ pos (10 ^ 12)
 
--- three scores in tenths, and three exact sub-scores
-pub record AreNumbers (IsBase IsTemporal IsEnvironmental : ℤ → Type 0) (impact exploitability adjusted : Exact) (numbers : CvssNumbers) : Type 0 where
-  pub base : IsScoreInTenths IsBase numbers.base
-  pub temporal : IsScoreInTenths IsTemporal numbers.temporal
-  pub environmental : IsScoreInTenths IsEnvironmental numbers.environmental
+-- three scores of a vector in tenths, and three exact sub-scores
+pub record AreNumbers (cvss : Cvss) (impact exploitability adjusted : Exact) (numbers : CvssNumbers) : Type 0 where
+  pub base : IsReportedScore cvss Base numbers.base
+  pub temporal : IsReportedScore cvss Temporal numbers.temporal
+  pub environmental : IsReportedScore cvss Environmental numbers.environmental
   pub reserved_is : numbers.reserved ≡ pos 0
   pub impact_is : exact_of numbers.impact ≈ impact
   pub exploitability_is : exact_of numbers.exploitability ≈ exploitability
   pub adjusted_is : exact_of numbers.adjusted_impact ≈ adjusted
 
--- those of CVSS v2
+-- those of CVSS v2, and those of CVSS v3, by the vector's minor version: ISS, Exploitability and MISS
 abbrev pub AreNumbersV2 : vector_v2.Vector → CvssNumbers → Type 0
 AreNumbersV2 vector =
-    AreNumbers
-    (scores_v2.IsBaseScore (weights_v2.weights_of vector))
-    (scores_v2.IsTemporalScore (weights_v2.weights_of vector))
-    (scores_v2.IsEnvironmentalScore (weights_v2.weights_of vector))
-    (scores_v2.impact (weights_v2.weights_of vector))
-    (scores_v2.exploitability (weights_v2.weights_of vector))
-    (scores_v2.adjusted_impact (weights_v2.weights_of vector))
+    let w = weights_v2.weights_of vector in
+    AreNumbers (CvssV20 vector) (scores_v2.impact w) (scores_v2.exploitability w) (scores_v2.adjusted_impact w)
 
--- those of CVSS v3: ISS, Exploitability and MISS
 abbrev pub AreNumbersV3 : vector_v3.Vector → CvssNumbers → Type 0
 AreNumbersV3 vector =
-    AreNumbers
-    (scores_v3.IsBaseScore vector.minor_version (weights_v3.weights_of vector))
-    (scores_v3.IsTemporalScore vector.minor_version (weights_v3.weights_of vector))
-    (scores_v3.IsEnvironmentalScore vector.minor_version (weights_v3.weights_of vector))
-    (scores_v3.iss (weights_v3.weights_of vector))
-    (scores_v3.exploitability (weights_v3.weights_of vector))
-    (scores_v3.miss (weights_v3.weights_of vector))
+    let w = weights_v3.weights_of vector in
+    AreNumbers (CvssV31 vector) (scores_v3.iss w) (scores_v3.exploitability w) (scores_v3.miss w)
 
 -- the piece that says a version of CVSS v3
 abbrev pub front_v3 : ℕ → List (List ℕ)

@@ -10,5 +10,4 @@ pub mod Refusals
 pub mod Scores
 pub mod Setting
 pub mod Values
-pub mod laws
 pub mod private

@@ -18,30 +18,30 @@ overrides_in [] = []
 overrides_in (byte ∷ bytes) = pieces (byte ∷ bytes)
 
 -- the vector of CVSS v4.0 with the text's overrides in place
-pub record IsWithOverrides (cvss : Cvss) (text : List ℕ) (new : Vector) : Type 0 where
+pub record IsWithOverrides (cvss : Cvss) (text : List ℕ) (new : Cvss) : Type 0 where
   pub vector : Vector
   pub is_v4 : cvss ≡ CvssV40 vector
   pub utf8 : IsUtf8 text
   pub overrides : Vector
   pub are_overrides : AreOverrides (overrides_in text) overrides
-  pub overridden : IsOverridden vector overrides new
-
--- the text's overrides can be put into no such vector
-pub record IsWithoutOverrides (cvss : Cvss) (text : List ℕ) : Type 0 where
-  pub none : (new : Vector) → ¬ (IsWithOverrides cvss text new)
-
--- the one holds of the vector with the overrides in place, or there is none and the other holds
-abbrev pub AnswersOverridden : Cvss → List ℕ → (Vector → Type 0) → Type 0 → Type 0
-AnswersOverridden cvss text IsOf Otherwise =
-    ((new : Vector) × IsWithOverrides cvss text new × IsOf new) ⊎ (IsWithoutOverrides cvss text × Otherwise)
+  pub own : Vector
+  pub overridden : IsOverridden vector overrides own
+  pub new_is : new ≡ CvssV40 own
 
 -- the words that name an override, counted from 0
 abbrev pub override_words : ℕ → List ℕ
 override_words index = codes "override " ++ decimal index ++ codes ": "
 
+-- the words for an override of no environmental metric, and those for a vector of another version
+abbrev pub other_group_text : List ℕ
+other_group_text = codes "no environmental CVSSv4 metric"
+
+abbrev pub no_v4_text : List ℕ
+no_v4_text = codes "no CVSSv4 vector"
+
 -- what is wrong with an override, in the words of the errors (cvss_v4, Overriding)
 abbrev pub objection_text : Objection → List ℕ
-objection_text OfOtherGroup = codes "no environmental CVSSv4 metric"
+objection_text OfOtherGroup = other_group_text
 objection_text (OfText reason) = reason_text (wrapped V4 reason)
 
 -- the reason names the first override with which something is wrong, and says what
@@ -56,4 +56,4 @@ pub record IsObjectionText (text reason : List ℕ) : Type 0 where
 abbrev pub IsOverrideReason : Cvss → List ℕ → List ℕ → Type 0
 IsOverrideReason (CvssV40 vector) text reason =
     (¬ (IsUtf8 text) × (reason ≡ not_utf8_text)) ⊎ IsObjectionText text reason
-IsOverrideReason cvss text reason = reason ≡ codes "no CVSSv4 vector"
+IsOverrideReason cvss text reason = reason ≡ no_v4_text

@@ -66,10 +66,14 @@ IsWhyNot IsWhy metrics said = (¬ (IsUtf8 metrics) × (said ≡ not_utf8_text)) 
 abbrev pub IsWithReasonText : Cvss → List ℕ → List ℕ → Type 0
 IsWithReasonText cvss metrics = IsWhyNot (IsWithReason cvss metrics) metrics
 
+-- the words for a number that is none of a version
+abbrev pub no_version_text : List ℕ
+no_version_text = codes "unsupported CVSS version"
+
 -- the number is none of a version, and that is said
 pub record IsNoVersion (number : ℤ) (said : List ℕ) : Type 0 where
   pub none : (version : Version) → number_of version ≢ number
-  pub is : said ≡ codes "unsupported CVSS version"
+  pub is : said ≡ no_version_text
 
 -- it is that of a version, and this says why no vector is built
 pub record IsOfVersion (number : ℤ) (metrics said : List ℕ) : Type 0 where

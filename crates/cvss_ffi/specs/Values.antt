@@ -1,5 +1,5 @@
 -- The values of a vector's metrics as C sees them: a field of eight bytes for each metric.
-use Rattle.std.specs.Prelude.{◌≡◌, ℕ, ℤ, pos, List, [], ◌∷◌, map, Option, unwrap_or}
+use Rattle.std.specs.Prelude.{◌≡◌, ℕ, pos, List, [], ◌∷◌, map, Option, unwrap_or}
 use Rattle.std.specs.List.{repeat}
 use Rattle.cvss_any.specs.Answers.{IsScoreOf}
 use Rattle.cvss_any.specs.declared.vector.Cvss.{Cvss}
@@ -7,32 +7,25 @@ use Rattle.cvss_any.specs.declared.vector.Cvss.TheVariants.{CvssV20, CvssV30, Cv
 use Rattle.cvss_base.specs.Version.{Version, held}
 use Rattle.cvss_v2.specs.Vector.{v2}
 use Rattle.cvss_v3.specs.Vector.{v3}
-use Rattle.cvss_v4.specs.Nomenclature.{nomenclature_of}
 use Rattle.cvss_v4.specs.Vector.{v4}
 use Rattle.cvss_ffi.specs.Buffer.{begun}
 use Rattle.cvss_ffi.specs.Metrics.{padded}
-use Rattle.cvss_ffi.specs.Scores.{IsScoreInTenths, nomenclature_number, nothing, version_number}
+use Rattle.cvss_ffi.specs.Scores.{IsScoreInTenths, nomenclature_of_any, version_number}
 use Rattle.cvss_ffi.specs.declared.values.CvssValues.{CvssValues}
 
 -- the spelling of a value in eight bytes; bytes 0 where there is none
 abbrev pub field_of : Option (List ℕ) → List ℕ
 field_of value = padded (unwrap_or value [])
 
--- the fields of a vector's metrics, in the order of its canonical text
+-- 32 fields, the first of which are those of the vector's metrics, in the order of its canonical text
 abbrev pub fields_in : {V K : Type 0} → Version V K → V → List (List ℕ)
-fields_in version v = map (λ kind. field_of (held version v kind)) version.printed
+fields_in version v = begun (map (λ kind. field_of (held version v kind)) version.printed) (repeat 32 (padded [] ∷ []))
 
--- 32 fields, the first of which are those of the vector's metrics
 abbrev pub fields_of : Cvss → List (List ℕ)
-fields_of (CvssV20 vector) = begun (fields_in v2 vector) (repeat 32 (padded [] ∷ []))
-fields_of (CvssV30 vector) = begun (fields_in v3 vector) (repeat 32 (padded [] ∷ []))
-fields_of (CvssV31 vector) = begun (fields_in v3 vector) (repeat 32 (padded [] ∷ []))
+fields_of (CvssV20 vector) = fields_in v2 vector
+fields_of (CvssV30 vector) = fields_in v3 vector
+fields_of (CvssV31 vector) = fields_in v3 vector
 fields_of (CvssV40 vector) = fields_in v4 vector
-
--- the number of a vector's nomenclature, which only CVSS v4.0 has
-abbrev pub nomenclature_of_any : Cvss → ℤ
-nomenclature_of_any (CvssV40 vector) = nomenclature_number (nomenclature_of vector)
-nomenclature_of_any cvss = nothing
 
 -- the version, the published score in tenths, the nomenclature, and the values of a vector
 pub record AreValuesOf (cvss : Cvss) (values : CvssValues) : Type 0 where

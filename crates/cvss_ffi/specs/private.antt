@@ -1,3 +1,2 @@
-pub mod Overridden
-pub mod Setting
+pub mod Rejection
 pub mod Steps

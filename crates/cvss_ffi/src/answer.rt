@@ -1,14 +1,15 @@
 //! The line that the program answers to a text.
 
-ghost use Rattle.std.specs.Prelude.{◌≤◌, ◌+◌, ℕ, List, length};
+ghost use Rattle.std.specs.Prelude.{◌≤◌, ◌+◌, ◌++◌, ℕ, List, length};
 ghost use Rattle.cvss_any.specs.Answers.{HasScore};
 ghost use Rattle.cvss_ffi.specs.Answers.{IsAnswer, IsAnswerOf};
 ghost use Rattle.cvss_ffi.specs.Buffer.{IsWritten};
 ghost use Rattle.cvss_ffi.specs.private.Steps.{IsRated};
 
-use crate::buffer::put_both;
-use crate::message::put_error;
-use cvss_any::Cvss;
+use crate::buffer::write;
+use crate::message::write_message;
+use crate::refusal::read;
+use cvss_any::{Cvss, Message};
 use cvss_base::tenths::{tenths_of, text_of};
 use cvss_json_names::put_vector;
 use cvss_json_write::Page;
@@ -18,28 +19,32 @@ pub fn put_answer_to(text: &[u8], buffer: &mut [u8]) -> usize
     ensures { (answer : List ℕ) × IsAnswer text.now answer
         × IsWritten answer buffer.old buffer.new result }
 {
-    match Cvss::read_canonical(text) {
-        Some(cvss) => put_answer(&cvss, buffer),
-        None => put_other_answer(text, buffer),
-    }
+    write_answer(text, &[], buffer)
 }
 
-/// Writes the answer to a text that is not recognised as a canonical one.
-fn put_other_answer(text: &[u8], buffer: &mut [u8]) -> usize
+/// Writes the answer to a text and an end at the beginning of a buffer where both fit, and returns their
+/// length.
+pub(crate) fn write_answer<'a>(text: &'a [u8], end: &'a [u8], buffer: &mut [u8]) -> usize
+    requires { length end.now ≤ 1 }
     ensures { (answer : List ℕ) × IsAnswer text.now answer
-        × IsWritten answer buffer.old buffer.new result }
+        × IsWritten (answer ++ end.now) buffer.old buffer.new result }
 {
-    match Cvss::read(text) {
-        Ok(cvss) => put_answer(&cvss, buffer),
-        Err(error) => put_error("error: ", error, buffer),
+    if let Some(cvss) = Cvss::read_canonical(text) {
+        return write_answer_of(&cvss, end, buffer);
+    }
+    match read(text) {
+        Ok(cvss) => write_answer_of(&cvss, end, buffer),
+        Err(error) => write_message(b"error: ", Message::of(error).segments, end, buffer),
     }
 }
 
-/// Writes the answer of a vector at the beginning of a buffer where it fits, and returns its length.
-fn put_answer(cvss: &Cvss, buffer: &mut [u8]) -> usize
-    requires { HasScore cvss.now }
+/// Writes the answer of a vector and an end at the beginning of a buffer where both fit, and returns
+/// their length.
+fn write_answer_of(cvss: &Cvss, end: &[u8], buffer: &mut [u8]) -> usize
+    requires scored { HasScore cvss.now }
+    requires short { length end.now ≤ 1 }
     ensures { (answer : List ℕ) × IsAnswerOf answer cvss.now
-        × IsWritten answer buffer.old buffer.new result }
+        × IsWritten (answer ++ end.now) buffer.old buffer.new result }
 {
     let (score, rating) = rated(cvss);
     let mut page = Page::new();
@@ -48,7 +53,8 @@ fn put_answer(cvss: &Cvss, buffer: &mut [u8]) -> usize
     page.push(score.as_bytes());
     page.push(b" ");
     page.push(rating.as_bytes());
-    put_both(&[], page.bytes(), buffer)
+    page.push(end);
+    write(page.bytes(), buffer)
 }
 
 /// The score of a vector that has one, with one decimal, and the score's rating.

@@ -1,61 +1,57 @@
 //! Texts in a buffer of the caller, and items in an array, without memory.
 
-ghost use Rattle.std.specs.Prelude.{◌≡◌, ◌≤◌, ◌+◌, ◌++◌, length};
-ghost use Rattle.cvss_text.specs.private.Printing.{texts_with_slash};
+ghost use Rattle.std.specs.Prelude.{◌≡◌, ◌<◌, ◌+◌, ◌^◌, length};
+ghost use Rattle.cvss_any.specs.Segments.{segment_text, text_of};
 ghost use Rattle.cvss_ffi.specs.Buffer.{IsWritten};
-ghost use Rattle.cvss_ffi.specs.private.Steps.{Puts};
+ghost use Rattle.cvss_ffi.specs.private.Steps.{IsWrittenAt};
 
-use cvss_text::print::Printed;
+use cvss_any::Segment;
 
-/// No canonical text is longer than this: eight bytes that say a version, and ten for each of 32
-/// metrics.
-pub(crate) const LONGEST: usize = 328;
-
-/// Writes a text, or items, from a place in a buffer on, and says the place after it.
+/// Writes a text, or items, at the beginning of a buffer where they fit, and returns their number.
 // Its copy, inlined wherever it is called, would be a thirtieth of the module of WebAssembly.
 #[inline(never)]
-pub(crate) fn put<T: Copy>(text: &[T], buffer: &mut [T], place: usize) -> usize
-    requires room { place + length text.now ≤ length buffer.old }
-    ensures place { result ≡ place + length text.now }
-    ensures text { Puts text.now buffer.old place buffer.new result }
+pub(crate) fn write<T: Copy>(items: &[T], buffer: &mut [T]) -> usize
+    ensures { IsWritten items.now buffer.old buffer.new result }
 {
-    let end = place + text.len();
-    buffer[place..end].copy_from_slice(text);
-    end
-}
-
-/// Writes the components that a vector has for these metrics, each with a slash before it.
-pub(crate) fn put_components<V: Printed>(
-    vector: &V,
-    kinds: &[V::Kind],
-    buffer: &mut [u8],
-    place: usize,
-) -> usize
-    requires room { place + length (texts_with_slash V.version vector.now kinds.now)
-        ≤ length buffer.old }
-    ensures place { result ≡ place + length (texts_with_slash V.version vector.now kinds.now) }
-    ensures text { Puts (texts_with_slash V.version vector.now kinds.now) buffer.old place
-        buffer.new result }
-{
-    let mut end = place;
-    for kind in kinds {
-        if let Some(text) = vector.with_slash(*kind) {
-            end = put(text.as_bytes(), buffer, end);
-        }
+    let length = items.len();
+    if length > buffer.len() {
+        return length;
     }
-    end
-}
-
-/// Writes two texts, one after the other, at the beginning of a buffer where both fit, and says
-/// their length.
-pub fn put_both(first: &[u8], second: &[u8], buffer: &mut [u8]) -> usize
-    requires { length first.now ≤ 32 }
-    ensures { IsWritten (first.now ++ second.now) buffer.old buffer.new result }
-{
-    let length = first.len() + second.len();
-    if length <= buffer.len() {
-        let place = put(first, buffer, 0);
-        put(second, buffer, place);
-    }
+    buffer[..length].copy_from_slice(items);
     length
+}
+
+/// Writes segments from a place in a buffer on where all of them fit, and returns the place after them.
+pub(crate) fn write_segments(segments: &[Segment<'_>], place: usize, buffer: &mut [u8]) -> usize
+    requires { place + length (text_of segments.now) < 2 ^ 64 }
+    ensures { IsWrittenAt place (text_of segments.now) buffer.old buffer.new result }
+{
+    let [segment, rest @ ..] = segments else {
+        return place;
+    };
+    let end = place + segment_length(segment);
+    let last = write_segments(rest, end, buffer);
+    if last > buffer.len() {
+        return last;
+    }
+    write_segment(*segment, &mut buffer[place..end]);
+    last
+}
+
+/// How many bytes a segment has.
+fn segment_length(segment: &Segment<'_>) -> usize
+    ensures { result ≡ length (segment_text segment.now) }
+{
+    segment.bytes.len()
+}
+
+/// Writes a segment into a part of a buffer that is as long.
+fn write_segment(segment: Segment<'_>, part: &mut [u8])
+    requires { length part.old ≡ length (segment_text segment) }
+    ensures { part.new ≡ segment_text segment.entry }
+{
+    part.copy_from_slice(segment.bytes);
+    if segment.upper {
+        part.make_ascii_uppercase();
+    }
 }

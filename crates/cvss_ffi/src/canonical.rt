@@ -6,7 +6,7 @@ ghost use Rattle.cvss_any.specs.Dispatch.{DenotesCvss};
 ghost use Rattle.cvss_ffi.specs.Answers.{IsRefused};
 ghost use Rattle.cvss_ffi.specs.Buffer.{IsWritten};
 
-use crate::buffer::put_both;
+use crate::buffer::write;
 use cvss_any::Cvss;
 use cvss_json_names::put_vector;
 use cvss_json_write::Page;
@@ -22,36 +22,20 @@ pub fn put_canonical_of(text: &[u8], buffer: &mut [u8]) -> Option<Cvss>
     ensures left { IfNone result (buffer.new ≡ buffer.old) }
 {
     if let Some(cvss) = Cvss::read_canonical(text) {
-        put_where_it_fits(text, buffer);
+        write(text, buffer);
         return Some(cvss);
     }
     let cvss = Cvss::read_in_any_order(text)?;
-    put_in_order(&cvss, text, buffer);
+    write_canonical(&cvss, buffer);
     Some(cvss)
-}
-
-/// Writes a text at the beginning of a buffer where it fits.
-fn put_where_it_fits(text: &[u8], buffer: &mut [u8])
-    ensures { IsWritten text.now buffer.old buffer.new (length text.now) }
-{
-    put_both(&[], text, buffer);
-}
-
-/// Writes the canonical text of the vector that a text denotes at the beginning of a buffer where it
-/// fits.
-fn put_in_order(cvss: &Cvss, text: &[u8], buffer: &mut [u8])
-    requires { DenotesCvss text.now cvss.now }
-    ensures { IsWritten (text_of cvss.now) buffer.old buffer.new (length text.now) }
-{
-    put_canonical(cvss, buffer);
 }
 
 /// Writes the canonical text of a vector at the beginning of a buffer where it fits, and returns its
 /// length.
-pub(crate) fn put_canonical(cvss: &Cvss, buffer: &mut [u8]) -> usize
+pub(crate) fn write_canonical(cvss: &Cvss, buffer: &mut [u8]) -> usize
     ensures { IsWritten (text_of cvss.now) buffer.old buffer.new result }
 {
     let mut page = Page::new();
     put_vector(&mut page, cvss);
-    put_both(&[], page.bytes(), buffer)
+    write(page.bytes(), buffer)
 }

@@ -1,13 +1,18 @@
 //! A vector's text without the metrics that are not defined.
 
-ghost use Rattle.std.specs.Prelude.{◌≡◌, ◌≤◌, ◌+◌, length};
+ghost use Rattle.std.specs.Prelude.{◌≡◌, ◌↔◌, IsTrue, None, codes};
 ghost use Rattle.std.specs.Option.{option_copied};
-ghost use Rattle.cvss_text.specs.private.Printing.{with_slash, texts_with_slash};
+ghost use Rattle.cvss_any.specs.Answers.{text_of};
+ghost use Rattle.cvss_any.specs.declared.vector.Cvss.{Cvss};
+ghost use Rattle.cvss_text.specs.private.Walk.{HasNoValue};
+ghost use Rattle.cvss_v3.specs.Vector.{v3};
 ghost use Rattle.cvss_ffi.specs.Buffer.{IsWritten};
-ghost use Rattle.cvss_ffi.specs.Defined.{defined_component, text_without, text_without_undefined};
-ghost use Rattle.cvss_ffi.specs.private.Steps.{IsRead, Puts, PutsParts, defined_texts, front_of, kept_parts, text_after};
+ghost use Rattle.cvss_ffi.specs.Defined.{HasNoneDefined, IsWithout, IsWithoutUndefined, defined_in};
+ghost use Rattle.cvss_ffi.specs.private.Steps.{IsCopiedIfDefined};
 
-use crate::buffer::{LONGEST, put, put_both, put_components};
+use crate::canonical::write_canonical;
+use crate::empty::{empty_v2, empty_v3, empty_v4};
+use crate::v3;
 use cvss_any::Cvss;
 use cvss_json_names::spelled;
 use cvss_text::print::Printed;
@@ -18,93 +23,76 @@ const NOT_DEFINED_V2: [u8; 2] = *b"ND";
 /// How a metric of CVSS v3 and v4.0 is spelled that is not defined.
 const NOT_DEFINED: [u8; 1] = *b"X";
 
-/// Writes the text of a vector without its undefined metrics at the beginning of a buffer where it
-/// fits, and says its length.
+/// Writes the canonical text of a vector without its undefined metrics at the beginning of a buffer where
+/// it fits, and returns its length.
 pub fn put_without_undefined(cvss: &Cvss, buffer: &mut [u8]) -> usize
-    requires { IsRead cvss.now }
-    ensures { IsWritten (text_without_undefined cvss.now) buffer.old buffer.new result }
+    ensures { (new : Cvss) × IsWithoutUndefined cvss.now new
+        × IsWritten (text_of new) buffer.old buffer.new result }
+{
+    write_canonical(&without_undefined(cvss), buffer)
+}
+
+fn without_undefined(cvss: &Cvss) -> Cvss
+    ensures { IsWithoutUndefined cvss.now result }
 {
     match cvss {
-        Cvss::CvssV20(vector) => put_without(&[], vector, &NOT_DEFINED_V2, buffer),
-        Cvss::CvssV30(vector) => put_without("CVSS:3.0".as_bytes(), vector, &NOT_DEFINED, buffer),
-        Cvss::CvssV31(vector) => put_without("CVSS:3.1".as_bytes(), vector, &NOT_DEFINED, buffer),
-        Cvss::CvssV40(vector) => put_without("CVSS:4.0".as_bytes(), vector, &NOT_DEFINED, buffer),
-    }
-}
-
-/// Writes the text of a vector without its undefined metrics, of which the piece that says the
-/// version is given, or none. Without one there is no slash before the first component.
-fn put_without<V: Printed>(piece: &[u8], vector: &V, undefined: &[u8], buffer: &mut [u8]) -> usize
-    requires front { V.version.front vector.now ≡ front_of piece.now }
-    requires room { length piece.now
-        + length (texts_with_slash V.version vector.now V.version.printed) ≤ 328 }
-    ensures { IsWritten (text_without V.version undefined.now vector.now) buffer.old buffer.new
-        result }
-{
-    let mut whole = [0; LONGEST];
-    let place = put(piece, &mut whole, 0);
-    let end = put_kept(vector, undefined, &mut whole, place);
-    put_both(&[], text_after(piece, &whole[..end]), buffer)
-}
-
-/// The text after such a piece.
-pub(crate) fn text_after<'a>(piece: &[u8], whole: &'a [u8]) -> &'a [u8]
-    ensures { result.now ≡ text_after piece.now whole.now }
-{
-    match (piece, whole) {
-        ([], [_, text @ ..]) => text,
-        _ => whole,
-    }
-}
-
-/// Writes the components that a vector has for its defined metrics, each with a slash before it; all
-/// components where no metric is defined.
-fn put_kept<V: Printed>(vector: &V, undefined: &[u8], buffer: &mut [u8], place: usize) -> usize
-    requires room { place + length (texts_with_slash V.version vector.now V.version.printed)
-        ≤ length buffer.old }
-    ensures parts { PutsParts (kept_parts V.version undefined.now vector.now) buffer.old place
-        buffer.new result }
-    ensures within { result ≤ length buffer.old }
-{
-    let end = put_defined(vector, V::printed(), undefined, buffer, place);
-    if end > place {
-        return end;
-    }
-    put_components(vector, V::printed(), buffer, place)
-}
-
-/// Writes the components that a vector has for those of these metrics that are defined, each with a
-/// slash before it.
-fn put_defined<V: Printed>(
-    vector: &V,
-    kinds: &[V::Kind],
-    undefined: &[u8],
-    buffer: &mut [u8],
-    place: usize,
-) -> usize
-    requires room { place + length (defined_texts V.version undefined.now vector.now kinds.now)
-        ≤ length buffer.old }
-    ensures place { result
-        ≡ place + length (defined_texts V.version undefined.now vector.now kinds.now) }
-    ensures text { Puts (defined_texts V.version undefined.now vector.now kinds.now) buffer.old
-        place buffer.new result }
-{
-    let mut end = place;
-    for kind in kinds {
-        if let Some(text) = defined(vector, *kind, undefined) {
-            end = put(text.as_bytes(), buffer, end);
+        Cvss::CvssV20(vector) => Cvss::CvssV20(without(vector, empty_v2(), &NOT_DEFINED_V2)),
+        Cvss::CvssV30(vector) => Cvss::CvssV30(without_v3(vector)),
+        Cvss::CvssV31(vector) => Cvss::CvssV31(without_v3(vector)),
+        Cvss::CvssV40(vector) => {
+            Cvss::CvssV40(without(vector, empty_v4(vector.minor_version), &NOT_DEFINED))
         }
     }
-    end
 }
 
-/// The component that a vector has for a metric, with a slash before it, unless this is not defined.
-fn defined<V: Printed>(vector: &V, kind: V::Kind, undefined: &[u8]) -> Option<&'static str>
-    ensures { option_copied result
-        ≡ with_slash (defined_component V.version undefined.now vector.now kind) }
+fn without_v3(vector: &v3::Vector) -> v3::Vector
+    ensures { IsWithout v3 (codes "X") vector.now result }
+{
+    without(vector, empty_v3(vector.minor_version), &NOT_DEFINED)
+}
+
+/// A vector without its undefined metrics; the vector itself where it has no other. A vector without
+/// metrics is given, whose front is that of the vector.
+fn without<V: Printed>(vector: &V, empty: V, undefined: &[u8]) -> V
+    requires valueless { HasNoValue V.version empty }
+    requires front { V.version.front empty ≡ V.version.front vector.now }
+    ensures { IsWithout V.version undefined.now vector.now result }
+{
+    if has_none_defined(vector, undefined) {
+        return *vector;
+    }
+    let mut new = empty;
+    for kind in V::printed() {
+        copy_if_defined(vector, *kind, undefined, &mut new);
+    }
+    new
+}
+
+fn has_none_defined<V: Printed>(vector: &V, undefined: &[u8]) -> bool
+    ensures { IsTrue result ↔ HasNoneDefined V.version undefined.now vector.now }
+{
+    V::printed()
+        .iter()
+        .all(|kind| defined_in(vector, *kind, undefined).is_none())
+}
+
+/// Copies the value of a vector for a metric into another that has none, if the metric is defined.
+fn copy_if_defined<V: Printed>(vector: &V, kind: V::Kind, undefined: &[u8], new: &mut V)
+    requires { V.version.value_of new.old kind ≡ None }
+    ensures { IsCopiedIfDefined V.version undefined.now vector.now kind new.old new.new }
+{
+    if let Some(spelling) = defined_in(vector, kind, undefined) {
+        // The metric has this value, and the new vector has none.
+        let _ = new.put(kind, spelling);
+    }
+}
+
+/// How the vector's value for a metric is spelled, unless this is not defined.
+fn defined_in<V: Printed>(vector: &V, kind: V::Kind, undefined: &[u8]) -> Option<&'static [u8]>
+    ensures { option_copied result ≡ defined_in V.version undefined.now vector.now kind }
 {
     match spelled(vector, kind) {
-        Some(spelling) if spelling != undefined => vector.with_slash(kind),
+        Some(spelling) if spelling != undefined => Some(spelling),
         _ => None,
     }
 }

@@ -9,6 +9,8 @@ ghost use Rattle.cvss_v2.specs.Vector.{v2};
 ghost use Rattle.cvss_v3.specs.Vector.{v3};
 ghost use Rattle.cvss_ffi.specs.Exact.{AnswersNumbers, AnswersPartial, AnswersRounded, AnswersTemporal, AreNumbersV2, AreNumbersV3, IsBeforeV4, IsKept, IsNoPartial, IsNumber, IsPartial, IsRoundedFor, count_in, front_v3};
 
+use crate::empty::{empty_v2, empty_v3};
+use crate::scores::{tenths_of_v2, tenths_of_v3};
 use crate::{v2, v3};
 use cvss_base::TENTH;
 use cvss_text::print::Printed;
@@ -55,14 +57,14 @@ pub fn put_numbers(version: i32, metrics: &[u8], numbers: &mut CvssNumbers) -> b
     ensures { AnswersNumbers version metrics.now numbers.old numbers.new result }
 {
     match version {
-        20 => put_v2(metrics, numbers),
-        30 => put_v3(0, metrics, numbers),
-        31 => put_v3(1, metrics, numbers),
+        20 => write_v2(metrics, numbers),
+        30 => write_v3(0, metrics, numbers),
+        31 => write_v3(1, metrics, numbers),
         _ => false,
     }
 }
 
-fn put_v2(metrics: &[u8], numbers: &mut CvssNumbers) -> bool
+fn write_v2(metrics: &[u8], numbers: &mut CvssNumbers) -> bool
     ensures { AnswersPartial v2 [] metrics.now
         (λ vector. (result ≡ true) × AreNumbersV2 vector numbers.new)
         (IsKept numbers.old numbers.new result) }
@@ -76,7 +78,7 @@ fn put_v2(metrics: &[u8], numbers: &mut CvssNumbers) -> bool
     }
 }
 
-fn put_v3(minor_version: usize, metrics: &[u8], numbers: &mut CvssNumbers) -> bool
+fn write_v3(minor_version: usize, metrics: &[u8], numbers: &mut CvssNumbers) -> bool
     ensures { AnswersPartial v3 (front_v3 minor_version) metrics.now
         (λ vector. (result ≡ true) × AreNumbersV3 vector numbers.new)
         (IsKept numbers.old numbers.new result) }
@@ -158,30 +160,14 @@ fn partial<V: Printed>(empty: V, metrics: &[u8]) -> Option<V>
     }
 }
 
-/// The vector of CVSS v2 without metrics.
-fn empty_v2() -> v2::Vector
-    ensures { HasNoValue v2 result }
-{
-    v2::Vector::default()
-}
-
-/// The vector of CVSS v3 without metrics, of a minor version.
-fn empty_v3(minor_version: usize) -> v3::Vector
-    ensures version { result.minor_version ≡ minor_version }
-    ensures valueless { HasNoValue v3 result }
-{
-    let mut empty = v3::Vector::default();
-    empty.minor_version = minor_version;
-    empty
-}
-
 fn numbers_of_v2(vector: &v2::Vector) -> CvssNumbers
     ensures { AreNumbersV2 vector.now result }
 {
+    let (base, temporal, environmental) = tenths_of_v2(vector);
     CvssNumbers {
-        base: i32::from(vector.tenths()),
-        temporal: i32::from(vector.temporal_tenths()),
-        environmental: i32::from(vector.environmental_tenths()),
+        base,
+        temporal,
+        environmental,
         reserved: 0,
         impact: number_of(vector.impact().value()),
         exploitability: number_of(vector.exploitability().value()),
@@ -192,10 +178,11 @@ fn numbers_of_v2(vector: &v2::Vector) -> CvssNumbers
 fn numbers_of_v3(vector: &v3::Vector) -> CvssNumbers
     ensures { AreNumbersV3 vector.now result }
 {
+    let (base, temporal, environmental) = tenths_of_v3(vector);
     CvssNumbers {
-        base: i32::from(vector.tenths()),
-        temporal: i32::from(vector.temporal_tenths()),
-        environmental: i32::from(vector.environmental_tenths()),
+        base,
+        temporal,
+        environmental,
         reserved: 0,
         impact: number_of(vector.impact().value()),
         exploitability: number_of(vector.exploitability().value()),

@@ -11,31 +11,13 @@ ghost use Rattle.cvss_v4.specs.Vector.{v4};
 ghost use Rattle.cvss_v2.specs.Weights as weights_v2;
 ghost use Rattle.cvss_v3.specs.VectorWeights as weights_v3;
 ghost use Rattle.cvss_base.specs.Equality.{ClonesAlways, ClonesByValue};
-ghost use Rattle.cvss_ffi.specs.laws.DefinedParts.{HasDefinedOf, IsPrintedAsWithout};
+ghost use Rattle.cvss_ffi.specs.Defined.{HasDefinedOf};
 
 use crate::{CvssMetric, CvssScores, v2, v3, v4};
 use cvss_text::walk::Components;
 
-/// For each vector there is one that has its defined metrics, and no others.
-#[tactic(auto, using(crate::proofs::PartsLemmas::defined_part_v2, crate::proofs::PartsLemmas::defined_part_v3, crate::proofs::PartsLemmas::defined_part_v4))]
-pub fn vectors_have_defined_parts()
-    ensures v2 { (v : vector_v2.Vector)
-        → (w : vector_v2.Vector) × HasDefinedOf v2 (codes "ND") v w }
-    ensures v3 { (v : vector_v3.Vector)
-        → (w : vector_v3.Vector) × HasDefinedOf v3 (codes "X") v w }
-    ensures v4 { (v : vector_v4.Vector)
-        → (w : vector_v4.Vector) × HasDefinedOf v4 (codes "X") v w }
-{}
-
-/// A vector that has the defined metrics of another, and no others, is printed as the other's text
-/// without its undefined metrics.
-pub fn text_without_undefined_is_canonical()
-    ensures v2 { IsPrintedAsWithout v2 (codes "ND") }
-    ensures v3 { IsPrintedAsWithout v3 (codes "X") }
-    ensures v4 { IsPrintedAsWithout v4 (codes "X") }
-{}
-
-/// It has the other's weights, and in CVSS v4.0 its effective values; so it has its scores.
+/// A vector that has the defined metrics of another, and no others, has the other's weights, and in CVSS
+/// v4.0 its effective values; so it has its scores.
 pub fn undefined_metrics_change_no_score()
     ensures v2 { (v w : vector_v2.Vector) → HasDefinedOf v2 (codes "ND") v w
         → weights_v2.weights_of v ≡ weights_v2.weights_of w }

@@ -4,9 +4,10 @@
 #![tactic(auto)]
 
 pub mod answer;
-pub mod buffer;
+mod buffer;
 pub mod canonical;
 pub mod defined;
+mod empty;
 pub mod exact;
 pub mod laws;
 pub mod lines;
@@ -17,6 +18,7 @@ pub mod numbers;
 pub mod objects;
 pub mod overriding;
 pub mod refusal;
+mod rejection;
 pub mod scores;
 pub mod setting;
 pub mod values;

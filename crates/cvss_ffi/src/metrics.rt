@@ -1,10 +1,10 @@
 //! The metrics of a vector, as C sees them.
 
-ghost use Rattle.std.specs.Prelude.{◌≡◌, length};
+ghost use Rattle.std.specs.Prelude.{◌≡◌, ◌≤◌, length};
 ghost use Rattle.cvss_ffi.specs.Buffer.{IsWritten};
 ghost use Rattle.cvss_ffi.specs.Metrics.{metric_of, metrics_at, metrics_in_order, padded as padded_text};
 
-use crate::buffer::put;
+use crate::buffer::write;
 use cvss_any::Cvss;
 use cvss_json_names::spelled;
 use cvss_text::print::Printed;
@@ -36,7 +36,7 @@ pub(crate) fn padded(text: &[u8]) -> [u8; 8]
 {
     let mut field = [0; 8];
     let first = if text.len() > 8 { &text[..8] } else { text };
-    put(first, &mut field, 0);
+    write(first, &mut field);
     field
 }
 
@@ -46,39 +46,26 @@ pub fn put_metrics(cvss: &Cvss, metrics: &mut [CvssMetric]) -> usize
     ensures { IsWritten (metrics_in_order cvss.now) metrics.old metrics.new result }
 {
     match cvss {
-        Cvss::CvssV20(vector) => put_metrics_of(vector, metrics),
-        Cvss::CvssV30(vector) | Cvss::CvssV31(vector) => put_metrics_of(vector, metrics),
-        Cvss::CvssV40(vector) => put_metrics_of(vector, metrics),
+        Cvss::CvssV20(vector) => write_metrics(vector, metrics),
+        Cvss::CvssV30(vector) | Cvss::CvssV31(vector) => write_metrics(vector, metrics),
+        Cvss::CvssV40(vector) => write_metrics(vector, metrics),
     }
 }
 
 /// Writes the metrics that a vector of some version has, in printing order, at the beginning of an
 /// array where they fit, and says how many they are.
-fn put_metrics_of<V: Printed>(vector: &V, metrics: &mut [CvssMetric]) -> usize
+fn write_metrics<V: Printed>(vector: &V, metrics: &mut [CvssMetric]) -> usize
+    requires { length V.version.printed ≤ 32 }
     ensures { IsWritten (metrics_at V.version vector.now V.version.printed) metrics.old metrics.new
         result }
 {
-    let count = count_metrics(vector);
-    if count <= metrics.len() {
-        let mut place = 0;
-        for kind in V::printed() {
-            if let Some(value) = spelled(vector, *kind) {
-                let metric = CvssMetric::of(V::name(*kind).as_bytes(), value);
-                place = put(&[metric], metrics, place);
-            }
-        }
-    }
-    count
-}
-
-fn count_metrics<V: Printed>(vector: &V) -> usize
-    ensures { result ≡ length (metrics_at V.version vector.now V.version.printed) }
-{
+    let mut own = [CvssMetric::of(&[], &[]); 32];
     let mut count = 0;
     for kind in V::printed() {
-        if spelled(vector, *kind).is_some() {
+        if let Some(value) = spelled(vector, *kind) {
+            own[count] = CvssMetric::of(V::name(*kind).as_bytes(), value);
             count += 1;
         }
     }
-    count
+    write(&own[..count], metrics)
 }

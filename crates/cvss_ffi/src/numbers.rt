@@ -1,7 +1,7 @@
 //! Numbers for versions, ratings and nomenclatures.
 
 ghost use Rattle.std.specs.Prelude.{◌≡◌};
-ghost use Rattle.cvss_ffi.specs.Scores.{IsRatingNumber, nomenclature_number as number_of_nomenclature, severity_number as number_of_severity, version_number as number_of_version};
+ghost use Rattle.cvss_ffi.specs.Scores.{IsRatingNumber, nomenclature_of_any, severity_number as number_of_severity, version_number as number_of_version};
 
 use crate::v2;
 use cvss_any::Cvss;
@@ -40,7 +40,7 @@ pub fn rating_number(version: i32, tenths: i32) -> i32
 }
 
 /// 0 for none, to 4 for critical.
-pub(crate) fn severity_number(severity: Severity) -> i32
+fn severity_number(severity: Severity) -> i32
     ensures { result ≡ number_of_severity severity }
 {
     match severity {
@@ -52,11 +52,15 @@ pub(crate) fn severity_number(severity: Severity) -> i32
     }
 }
 
-/// The sum of 1 where there are environmental metrics, and 2 where there are threat metrics.
-pub(crate) fn nomenclature_number(nomenclature: Nomenclature) -> i32
-    ensures { result ≡ number_of_nomenclature nomenclature }
+/// Of CVSS v4.0 the sum of 1 where there are environmental metrics, and 2 where there are threat metrics;
+/// of other versions `NOTHING`.
+pub(crate) fn nomenclature_of(cvss: &Cvss) -> i32
+    ensures { result ≡ nomenclature_of_any cvss.now }
 {
-    match nomenclature {
+    let Cvss::CvssV40(vector) = cvss else {
+        return NOTHING;
+    };
+    match vector.nomenclature() {
         Nomenclature::CvssB => 0,
         Nomenclature::CvssBE => 1,
         Nomenclature::CvssBT => 2,

@@ -6,7 +6,7 @@ ghost use Rattle.cvss_any.specs.Answers.{HasScore};
 ghost use Rattle.cvss_ffi.specs.Buffer.{IsWritten};
 ghost use Rattle.cvss_json_record.specs.Record.{IsRecordText};
 
-use crate::buffer::put_both;
+use crate::buffer::write;
 use cvss_any::Cvss;
 use cvss_json_write::Page;
 
@@ -18,7 +18,7 @@ pub fn put_record(cvss: &Cvss, buffer: &mut [u8]) -> usize
 {
     let mut page = Page::new();
     cvss_json_record::put_record(&mut page, cvss);
-    put_both(&[], page.bytes(), buffer)
+    write(page.bytes(), buffer)
 }
 
 /// Writes why a vector has its score at the beginning of a buffer where it fits, and returns its length.
@@ -29,5 +29,5 @@ pub fn put_explanation(cvss: &Cvss, buffer: &mut [u8]) -> usize
 {
     let mut page = Page::new();
     cvss_explain::put_explanation(&mut page, None, cvss);
-    put_both(&[], page.bytes(), buffer)
+    write(page.bytes(), buffer)
 }

@@ -1,18 +1,18 @@
 //! Why a text is refused: the reason in words, its kind, the metric that it names, and the part of the
 //! text that it quotes. It takes no memory.
 
-ghost use Rattle.std.specs.Prelude.{◌≡◌, ℕ, List, [], MatchOption, pos};
+ghost use Rattle.std.specs.Prelude.{◌≡◌, ℕ, List, [], IfOk, IfErr, pos};
+ghost use Rattle.cvss_any.specs.Answers.{HasScore};
 ghost use Rattle.cvss_any.specs.Dispatch.{DenotesCvss};
 ghost use Rattle.cvss_any.specs.Reasons.{IsReason, said_of};
-ghost use Rattle.cvss_any.specs.Refusals.{IsReadError};
 ghost use Rattle.cvss_any.specs.Segments.{segment_text};
-ghost use Rattle.cvss_any.specs.declared.vector.Cvss.{Cvss};
-ghost use Rattle.cvss_ffi.specs.Answers.{Answers, IsRefused};
+ghost use Rattle.cvss_ffi.specs.Answers.{Answers};
 ghost use Rattle.cvss_ffi.specs.Buffer.{IsLeft, IsWritten};
 ghost use Rattle.cvss_ffi.specs.Refusals.{IsReportedKind, IsKind, IsQuoted, reported_name as reported_kind_name, kind_number as number_of_kind, not_utf8, quoted_part as part_quoted};
+ghost use Rattle.cvss_ffi.specs.private.Steps.{IsRefusedBy, IsWrittenAt};
 
-use crate::buffer::put_both;
-use crate::message::{put_error, put_segment_alone};
+use crate::buffer::{write, write_segments};
+use crate::message::write_error;
 use cvss_any::{Cvss, ReadError, Refusal, Segment};
 
 /// The number of a text that denotes a vector.
@@ -27,9 +27,9 @@ pub fn put_reason(text: &[u8], buffer: &mut [u8]) -> usize
         ((reason : List ℕ) × IsReason text.now reason
         × IsWritten reason buffer.old buffer.new result) }
 {
-    match error_in(text) {
-        Some(error) => put_error("", error, buffer),
-        None => 0,
+    match read(text) {
+        Ok(_) => 0,
+        Err(error) => write_error(error, buffer),
     }
 }
 
@@ -37,9 +37,9 @@ pub fn put_reason(text: &[u8], buffer: &mut [u8]) -> usize
 pub fn kind_of(text: &[u8]) -> i32
     ensures { Answers text.now (λ _. result ≡ pos 0) (IsKind text.now result) }
 {
-    match error_in(text) {
-        Some(error) => kind_number(error),
-        None => ACCEPTED,
+    match read(text) {
+        Ok(_) => ACCEPTED,
+        Err(error) => kind_number(error),
     }
 }
 
@@ -49,9 +49,9 @@ pub fn put_reported_kind(text: &[u8], buffer: &mut [u8]) -> usize
     ensures { Answers text.now (λ _. IsLeft buffer.old buffer.new result)
         ((name : List ℕ) × IsReportedKind text.now name × IsWritten name buffer.old buffer.new result) }
 {
-    match error_in(text) {
-        Some(error) => put_both(&[], reported_name(error).as_bytes(), buffer),
-        None => 0,
+    match read(text) {
+        Ok(_) => 0,
+        Err(error) => write(reported_name(error), buffer),
     }
 }
 
@@ -61,18 +61,19 @@ pub fn put_quoted(text: &[u8], buffer: &mut [u8]) -> usize
     ensures { Answers text.now (λ _. IsLeft buffer.old buffer.new result)
         ((part : List ℕ) × IsQuoted text.now part × IsWritten part buffer.old buffer.new result) }
 {
-    match error_in(text) {
-        Some(error) => put_segment_alone(quoted_part(error), buffer),
-        None => 0,
+    match read(text) {
+        Ok(_) => 0,
+        Err(error) => write_quoted(error, buffer),
     }
 }
 
-/// Why a text denotes no vector; `None` where it denotes one.
-fn error_in(text: &[u8]) -> Option<ReadError<'_>>
-    ensures { MatchOption result ((cvss : Cvss) × DenotesCvss text.now cvss)
-        (λ error. IsRefused text.now × IsReadError text.now error) }
+/// The vector that a text denotes, or else why it denotes none.
+pub(crate) fn read(text: &[u8]) -> Result<Cvss, ReadError<'_>>
+    ensures denoted { IfOk result (λ cvss. DenotesCvss text.now cvss) }
+    ensures scored { IfOk result (λ cvss. HasScore cvss) }
+    ensures refused { IfErr result (IsRefusedBy text.now) }
 {
-    Cvss::read(text).err()
+    Cvss::read(text)
 }
 
 fn kind_number(error: ReadError<'_>) -> i32
@@ -90,15 +91,23 @@ fn kind_number(error: ReadError<'_>) -> i32
     }
 }
 
-fn reported_name(error: ReadError<'_>) -> &'static str
+fn reported_name(error: ReadError<'_>) -> &'static [u8]
     ensures { result.now ≡ said_of reported_kind_name [] error.entry }
 {
     match error {
         ReadError::Invalid(
             Refusal::BadValue(metric, _) | Refusal::Repeated(metric) | Refusal::Missing(metric),
-        ) => metric.name(),
-        _ => "",
+        ) => metric.name().as_bytes(),
+        _ => &[],
     }
+}
+
+/// Writes the part of the text that an error quotes at the beginning of a buffer where it fits, and
+/// returns its length.
+fn write_quoted(error: ReadError<'_>, buffer: &mut [u8]) -> usize
+    ensures { IsWritten (said_of part_quoted [] error.entry) buffer.old buffer.new result }
+{
+    write_segments(&[quoted_part(error)], 0, buffer)
 }
 
 fn quoted_part(error: ReadError<'_>) -> Segment<'_>

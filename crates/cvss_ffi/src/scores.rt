@@ -1,19 +1,22 @@
 //! The scores of a vector, as C sees them.
 
-ghost use Rattle.std.specs.Prelude.{◌≡◌, ◌↔◌, IsTrue};
-ghost use Rattle.cvss_any.specs.Answers.{IsScoreOf};
-ghost use Rattle.cvss_base.specs.Tenths.{IsInTenths, IsFromZeroToTen};
+ghost use Rattle.std.specs.Prelude.{◌≡◌};
+ghost use Rattle.cvss_any.specs.Answers.{HasScore, IsScoreOf};
+ghost use Rattle.cvss_base.specs.Tenths.{IsInTenths};
 ghost use Rattle.cvss_base.specs.Version.{IsComplete};
-ghost use Rattle.cvss_v2.specs.Vector.{v2};
+ghost use Rattle.cvss_any.specs.declared.vector.Cvss.TheVariants.{CvssV20, CvssV31};
+ghost use Rattle.cvss_json_record.specs.declared.group.Group.TheVariants.{Base, Temporal, Environmental};
+ghost use Rattle.cvss_score.specs.declared.v4.nomenclature.Nomenclature.TheVariants.{CvssBTE};
+ghost use Rattle.cvss_score.specs.v4.Scores.{IsScore};
+ghost use Rattle.cvss_v4.specs.Merging.{effective_of};
+ghost use Rattle.cvss_v4.specs.Parts.{IsScoreBy};
 ghost use Rattle.cvss_v4.specs.Vector.{v4};
 ghost use Rattle.cvss_ffi.specs.Answers.{Answers};
-ghost use Rattle.cvss_ffi.specs.Scores.{AnswersScoresBy, AreScoresBy, AreScoresOf, AreScoresV2, AreScoresV3, AreScoresV4, HasBaseMetrics, IsScoreInTenths, count_of, nothing};
-ghost use Rattle.cvss_ffi.specs.private.Steps.{IsRead};
+ghost use Rattle.cvss_ffi.specs.Scores.{AnswersScoresBy, AreScoresBy, AreScoresOf, IsReportedScore, IsScoreInTenths, nothing};
 
-use crate::numbers::{NOTHING, nomenclature_number, severity_number};
+use crate::numbers::{NOTHING, nomenclature_of, rating_number, version_number};
 use crate::{v2, v3, v4};
 use cvss_any::Cvss;
-use cvss_base::tenths::tenths_of;
 use cvss_score::v4::Nomenclature;
 
 /// The version, the scores and the ratings of a vector. Scores are in tenths, from 0 to 100; ratings
@@ -59,78 +62,65 @@ pub struct CvssScoresBy {
 }
 
 impl CvssScores {
-    /// The scores of a vector that was read.
+    /// The scores of a vector that has one.
     pub fn of(cvss: &Cvss) -> CvssScores
-        requires { IsRead cvss.now }
+        requires { HasScore cvss.now }
         ensures { AreScoresOf cvss.now result }
     {
-        match cvss {
-            Cvss::CvssV20(vector) => CvssScores::of_v2(vector),
-            Cvss::CvssV30(vector) => CvssScores::of_v3(30, vector),
-            Cvss::CvssV31(vector) => CvssScores::of_v3(31, vector),
-            Cvss::CvssV40(vector) => CvssScores::of_v4(vector),
-        }
-    }
-
-    fn of_v2(vector: &v2::Vector) -> CvssScores
-        requires { IsComplete v2 vector.now }
-        ensures { AreScoresV2 vector.now result }
-    {
-        let base = vector.score();
-        let temporal = vector.temporal_score();
-        let environmental = vector.environmental_score();
-        CvssScores {
-            version: 20,
-            base: tenths(base.value()),
-            temporal: tenths(temporal.value()),
-            environmental: tenths(environmental.value()),
-            severity: severity_number(base.severity()),
-            temporal_severity: severity_number(temporal.severity()),
-            environmental_severity: severity_number(environmental.severity()),
-            nomenclature: NOTHING,
-            is_complete: 1,
-            reserved: [0; 7],
-        }
-    }
-
-    fn of_v3(version: i32, vector: &v3::Vector) -> CvssScores
-        ensures { AreScoresV3 version vector.now result }
-    {
-        let base_score = vector.base_score();
-        let temporal = vector.temporal_score();
-        let environmental = vector.environmental_score();
+        let version = version_number(cvss);
+        let (base, temporal, environmental) = tenths_of(cvss);
         CvssScores {
             version,
-            base: tenths(base_score.value()),
-            temporal: tenths(temporal.value()),
-            environmental: tenths(environmental.value()),
-            severity: severity_number(base_score.severity()),
-            temporal_severity: severity_number(temporal.severity()),
-            environmental_severity: severity_number(environmental.severity()),
-            nomenclature: NOTHING,
-            is_complete: i32::from(has_base_metrics(vector)),
+            base,
+            temporal,
+            environmental,
+            severity: rating_number(version, base),
+            temporal_severity: rating_number(version, temporal),
+            environmental_severity: rating_number(version, environmental),
+            nomenclature: nomenclature_of(cvss),
+            is_complete: i32::from(cvss.first_missing().is_none()),
             reserved: [0; 7],
         }
     }
+}
 
-    fn of_v4(vector: &v4::Vector) -> CvssScores
-        requires { IsComplete v4 vector.now }
-        ensures { AreScoresV4 vector.now result }
-    {
-        let score = vector.score();
-        CvssScores {
-            version: 40,
-            base: tenths(score.value()),
-            temporal: NOTHING,
-            environmental: NOTHING,
-            severity: severity_number(score.severity()),
-            temporal_severity: NOTHING,
-            environmental_severity: NOTHING,
-            nomenclature: nomenclature_number(vector.nomenclature()),
-            is_complete: 1,
-            reserved: [0; 7],
-        }
+/// The tenths of the base score, the temporal and the environmental one; `NOTHING` for one that the
+/// version lacks.
+fn tenths_of(cvss: &Cvss) -> (i32, i32, i32)
+    requires { HasScore cvss.now }
+    ensures base { IsReportedScore cvss.now Base result.0 }
+    ensures temporal { IsReportedScore cvss.now Temporal result.1 }
+    ensures environmental { IsReportedScore cvss.now Environmental result.2 }
+{
+    match cvss {
+        Cvss::CvssV20(vector) => tenths_of_v2(vector),
+        Cvss::CvssV30(vector) => tenths_of_v3(vector),
+        Cvss::CvssV31(vector) => tenths_of_v3(vector),
+        Cvss::CvssV40(vector) => (i32::from(vector.tenths()), NOTHING, NOTHING),
     }
+}
+
+pub(crate) fn tenths_of_v2(vector: &v2::Vector) -> (i32, i32, i32)
+    ensures base { IsReportedScore (CvssV20 vector.now) Base result.0 }
+    ensures temporal { IsReportedScore (CvssV20 vector.now) Temporal result.1 }
+    ensures environmental { IsReportedScore (CvssV20 vector.now) Environmental result.2 }
+{
+    let base = i32::from(vector.tenths());
+    let temporal = i32::from(vector.temporal_tenths());
+    let environmental = i32::from(vector.environmental_tenths());
+    (base, temporal, environmental)
+}
+
+/// The same of CVSS v3, by the vector's minor version.
+pub(crate) fn tenths_of_v3(vector: &v3::Vector) -> (i32, i32, i32)
+    ensures base { IsReportedScore (CvssV31 vector.now) Base result.0 }
+    ensures temporal { IsReportedScore (CvssV31 vector.now) Temporal result.1 }
+    ensures environmental { IsReportedScore (CvssV31 vector.now) Environmental result.2 }
+{
+    let base = i32::from(vector.tenths());
+    let temporal = i32::from(vector.temporal_tenths());
+    let environmental = i32::from(vector.environmental_tenths());
+    (base, temporal, environmental)
 }
 
 /// The tenths of the published score of the vector that a text denotes; `NOTHING` where it denotes none.
@@ -149,7 +139,7 @@ pub fn score_of(text: &[u8]) -> i32
 /// Whether a vector is of CVSS v4.0; then its scores by nomenclature are written. Else they are left as
 /// they were.
 pub fn put_scores_by(cvss: &Cvss, scores: &mut CvssScoresBy) -> bool
-    requires { IsRead cvss.now }
+    requires { HasScore cvss.now }
     ensures { AnswersScoresBy cvss.now scores.old scores.new result }
 {
     let Cvss::CvssV40(vector) = cvss else {
@@ -164,32 +154,18 @@ fn scores_by(vector: &v4::Vector) -> CvssScoresBy
     ensures { AreScoresBy vector.now result }
 {
     CvssScoresBy {
-        b: i32::from(vector.tenths_by(Nomenclature::CvssB)),
-        be: i32::from(vector.tenths_by(Nomenclature::CvssBE)),
-        bt: i32::from(vector.tenths_by(Nomenclature::CvssBT)),
-        bte: i32::from(vector.tenths_by(Nomenclature::CvssBTE)),
+        b: score_by(vector, Nomenclature::CvssB),
+        be: score_by(vector, Nomenclature::CvssBE),
+        bt: score_by(vector, Nomenclature::CvssBT),
+        bte: score_by(vector, Nomenclature::CvssBTE),
     }
 }
 
-/// Whether a vector of CVSS v3 has all base metrics.
-fn has_base_metrics(vector: &v3::Vector) -> bool
-    ensures { IsTrue result ↔ HasBaseMetrics vector.now }
+fn score_by(vector: &v4::Vector, nomenclature: Nomenclature) -> i32
+    requires { IsComplete v4 vector.now }
+    ensures value { IsScoreInTenths (IsScoreBy nomenclature vector.now) result }
+    ensures own { nomenclature ≡ CvssBTE
+        → IsScoreInTenths (IsInTenths (IsScore (effective_of vector.now))) result }
 {
-    vector.av.is_some()
-        && vector.ac.is_some()
-        && vector.pr.is_some()
-        && vector.ui.is_some()
-        && vector.s.is_some()
-        && vector.c.is_some()
-        && vector.i.is_some()
-        && vector.a.is_some()
-}
-
-/// The tenths of a published score, of which it is the count of 10^-24.
-fn tenths(count: i128) -> i32
-    requires { IsInTenths IsFromZeroToTen count }
-    ensures count { count ≡ count_of result }
-    ensures range { IsFromZeroToTen result }
-{
-    i32::from(tenths_of(count))
+    i32::from(vector.tenths_by(nomenclature))
 }

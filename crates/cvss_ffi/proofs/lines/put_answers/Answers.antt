@@ -1,8 +1,8 @@
-use Rattle.std.proofs.Common.{◌+◌, ◌-◌, ◌≤◌, ap, arith, inr, length, length-append, subst, sym}
+use Rattle.std.proofs.Common.{ap, arith, inr, length, length-append, subst, sym}
+use Rattle.cvss_ffi.proofs.BufferLemmas.{part_left, part_put, put_within}
 use Rattle.cvss_ffi.proofs.LinesLemmas.{AnswersLines-end, HasAnswered, HasAnswered-line, HasAnswered-start}
+use Rattle.cvss_ffi.specs.Answers.{IsAnswer}
 use Rattle.cvss_ffi.specs.Lines.{ended}
-use Rattle.cvss_ffi.proofs.BufferLemmas.{put_within}
-use Rattle.cvss_ffi.proofs.PartLemmas.{length-part, part_begun, part_kept}
 use Rattle.cvss_ffi.proofs.lines.put_answers.Goals as goal
 
 pub loop-line-init : goal.loop-line-init
@@ -11,34 +11,28 @@ loop-line-init c = HasAnswered-start c.args.texts.now c.args.buffer.now
 pub loop-line-preserved : goal.loop-line-preserved
 loop-line-preserved c =
     let cut = c.in-Some.ensures in
-    let put = c.in-Some-put_line.ensures in
-    let buffer = c.loop-line.buffer in
+    let one = c.write_answer-length.ensures in
     let done = c.loop-line.invariant in
-    let size = length buffer - c.loop-line.written in
-    let within : c.loop-line.written + size ≤ length buffer = omega (arith, put_within c.args.buffer.now done.answers buffer c.loop-line.written done.put) in
-    HasAnswered-line c.args.texts.now c.loop-line.rest.now c.in-Some.line.now c.in-Some.after.now c.args.buffer.now buffer _ put.0 c.loop-line.written _
-    done cut.1 (record { one_line = cut.0; is = put.1 })
-    (part_begun buffer c.loop-line.written size c.args.buffer.now done.answers (ended put.0) _ _ done.put (omega (arith, put.2.1.place_is))
-    (omega (arith, put.2.0, put.2.1.place_is, length-part buffer c.loop-line.written size within)) within put.2.1.begins)
+    HasAnswered-line c.args.texts.now c.loop-line.rest.now c.in-Some.line.now c.in-Some.after.now c.args.buffer.now c.loop-line.buffer _ one.0 c.loop-line.written _
+    done cut.1 (record { one_line = cut.0; is = subst (λ text. IsAnswer text one.0) c.line_text.ensures one.1 })
+    (part_put c.args.buffer.now done.answers c.loop-line.buffer (ended one.0) _ c.loop-line.written c.write_answer-length.result done.put one.2 (omega arith))
 
-pub returns-in_default-put_line : goal.returns-in_default-put_line
-returns-in_default-put_line c =
+pub returns-then-length-buffer : goal.returns-then-length-buffer
+returns-then-length-buffer c =
     let cut = c.in-Some.ensures in
-    let put = c.in_default-put_line.ensures in
+    let one = c.write_answer-length.ensures in
     let done = c.loop-line.invariant in
     let texts = c.args.texts.now in
     let rest = c.loop-line.rest.now in
-    let buffer = c.loop-line.buffer in
-    let size = length buffer - c.loop-line.written in
-    let within : c.loop-line.written + size ≤ length buffer = omega (arith, put_within c.args.buffer.now done.answers buffer c.loop-line.written done.put) in
+    let left = part_left c.args.buffer.now done.answers c.loop-line.buffer (ended one.0) _ c.loop-line.written c.write_answer-length.result done.put one.2 (omega arith) in
     AnswersLines-end texts rest c.args.buffer.now _ _ c.loop-line.written
-    (subst (λ now. HasAnswered texts rest c.args.buffer.now now c.loop-line.written) (sym (part_kept buffer c.loop-line.written size _ put.2.1)) done)
+    (subst (λ now. HasAnswered texts rest c.args.buffer.now now c.loop-line.written) (sym left) done)
     (omega (arith, ap length done.texts_are, length-append done.lines rest))
     (inr (record {
       next = c.in-Some.line.now;
       after = c.in-Some.after.now;
       texts_are = cut.1;
-      answer = put.0;
-      answered = record { one_line = cut.0; is = put.1 };
-      large = omega (arith, put.2.0, length-part buffer c.loop-line.written size within, c.loop-line.auto.buffer);
+      answer = one.0;
+      answered = record { one_line = cut.0; is = subst (λ text. IsAnswer text one.0) c.line_text.ensures one.1 };
+      large = omega (arith, one.2.reported_is, c.loop-line.auto.buffer, put_within c.args.buffer.now done.answers c.loop-line.buffer c.loop-line.written done.put);
     }))

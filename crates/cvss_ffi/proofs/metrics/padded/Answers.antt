@@ -1,7 +1,7 @@
-use Rattle.std.proofs.Common.{◌≡◌, take, sym, ap, ◌∙◌, [], ◌∷◌}
-use Rattle.std.proofs.lemmas.List.{take_all}
+use Rattle.std.proofs.Common.{◌≡◌, length, take, sym, ap, ◌∙◌, [], ◌∷◌, arith}
+use Rattle.std.proofs.lemmas.List.{length-take, take_all}
 use Rattle.cvss_ffi.specs.Buffer.{begun}
-use Rattle.cvss_ffi.proofs.BufferLemmas.{nothing_put}
+use Rattle.cvss_ffi.proofs.BufferLemmas.{written_there}
 use Rattle.cvss_ffi.proofs.metrics.padded.Goals as goal
 use Rattle.cvss_ffi.proofs.metrics.padded.Goals.{then-text-gt8, else-text-gt8}
 
@@ -13,4 +13,4 @@ returns c =
       | then-text-gt8 w ↦ ap (λ part. part.now) w.first-is
       | else-text-gt8 w ↦ ap (λ part. part.now) w.first-is ∙ sym (take_all 8 text w.if-text-gt8.false)
     ] in
-    (c.put.ensures.text zeros [] (nothing_put zeros)).begins ∙ ap (λ l. begun l zeros) first
+    written_there _ zeros _ _ c.write.ensures (omega (arith, c.write.ensures.reported_is, ap length first, length-take 8 text)) ∙ ap (λ l. begun l zeros) first

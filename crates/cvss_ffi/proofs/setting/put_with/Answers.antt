@@ -1,6 +1,5 @@
-use Rattle.std.proofs.Common.{inr, refl}
-use Rattle.cvss_ffi.proofs.SettingLemmas.{no_vector}
+use Rattle.cvss_ffi.proofs.RejectionLemmas.{new_written}
 use Rattle.cvss_ffi.proofs.setting.put_with.Goals as goal
 
-pub returns-in-Err : goal.returns-in-Err
-returns-in-Err c = inr (no_vector _ _ _ _ c.in-Err.ensures, record { reported_is = refl; now_is = refl })
+pub returns : goal.returns
+returns c = new_written _ _ _ c.with_metrics.ensures c.write_new.ensures

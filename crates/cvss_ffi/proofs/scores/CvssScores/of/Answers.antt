@@ -1,13 +1,17 @@
+use Rattle.std.proofs.Common.{rules}
 use Rattle.cvss_ffi.proofs.scores.CvssScores.of.Goals as goal
 
-pub returns-in-CvssV20 : goal.returns-in-CvssV20
-returns-in-CvssV20 c = rw c.in-CvssV20.is c.of_v2.ensures
-
-pub returns-in-CvssV30 : goal.returns-in-CvssV30
-returns-in-CvssV30 c = rw c.in-CvssV30.is c.of_v3.ensures
-
-pub returns-in-CvssV31 : goal.returns-in-CvssV31
-returns-in-CvssV31 c = rw c.in-CvssV31.is c.of_v3-in-CvssV31.ensures
-
-pub returns-in-CvssV40 : goal.returns-in-CvssV40
-returns-in-CvssV40 c = rw c.in-CvssV40.is c.of_v4.ensures
+pub returns : goal.returns
+returns c =
+    record {
+      version_is = search rules;
+      base = search rules;
+      temporal = search rules;
+      environmental = search rules;
+      severity = search rules;
+      temporal_severity = search rules;
+      environmental_severity = search rules;
+      nomenclature_is = search rules;
+      is_complete = search rules;
+      reserved_is = search rules;
+    }

@@ -1,0 +1,14 @@
+use Rattle.std.proofs.Common.{rules}
+use Rattle.cvss_ffi.proofs.exact.numbers_of_v3.Goals as goal
+
+pub returns : goal.returns
+returns c =
+    record {
+      base = search rules;
+      temporal = search rules;
+      environmental = search rules;
+      reserved_is = search rules;
+      impact_is = search rules;
+      exploitability_is = search rules;
+      adjusted_is = search rules;
+    }

@@ -1,8 +1,0 @@
-use Rattle.std.proofs.Common.{◌≡◌, ◌≤◌, length, take}
-use Rattle.cvss_ffi.specs.Metrics.{metrics_at}
-use Rattle.cvss_ffi.proofs.metrics.count_metrics.Given as goal
-
-abbrev pub invariant-loop-kind : goal.invariant-loop-kind
-invariant-loop-kind g l =
-    (l.count ≡ length (metrics_at g.V.Components.version l.vector (take l.kind-index l.kind-items)))
-    × (l.count ≤ l.kind-index)
