@@ -1,5 +1,5 @@
 -- The places of a decimal are its digits.
-use Rattle.std.proofs.Common.{◌≡◌, ◌≢◌, ◌<◌, ◌≤◌, ◌+◌, ◌-◌, ◌*◌, ◌/◌, ◌%◌, ◌^◌, ℕ, zero, suc, if◌then◌else◌, nat_eq, ℤ, unsigned_abs, List, [], ◌∷◌, fold, length, slice_index, refl, sym, ap, ◌∙◌, arith}
+use Rattle.std.proofs.Common.{◌≡◌, ◌≢◌, ◌<◌, ◌+◌, ◌-◌, ◌*◌, ◌/◌, ◌%◌, ◌^◌, ℕ, zero, suc, if◌then◌else◌, nat_eq, ℤ, unsigned_abs, List, [], ◌∷◌, fold, length, slice_index, refl, sym, ap, ◌∙◌, arith}
 use Rattle.std.proofs.Math.Arith.{mod-mul}
 use Rattle.std.proofs.Math.Nat.{div-div-eq-div-mul, mul_assoc, pow-suc, pow-succ'}
 use Rattle.std.proofs.lemmas.Bool.{cond_both, eqb-true}
