@@ -1,7 +1,6 @@
 -- A record's text gives the text of its vector: it is the string after the name `vectorString`.
 use Rattle.std.proofs.Common.{◌≡◌, ◌↔◌, ℕ, Bool, true, false, not, ◌&&◌, if◌then◌else◌, nat_eq, List, [], ◌∷◌, ◌++◌, codes, All, Option, Some, None, bytes_eq, option_and_then, option_map, refl, sym, ap, ◌∙◌, append_assoc}
 use Rattle.std.specs.List.{cons_option, filter_map, list_any, slice_split}
-use Rattle.std.specs.Fmt.{digits}
 use Rattle.std.specs.Prelude.{leb}
 use Rattle.std.proofs.lemmas.Bool.{and_parts, not-true}
 use Rattle.std.proofs.lemmas.List.Splits.{slice_split_at}
@@ -14,7 +13,7 @@ use Rattle.cvss_any.specs.declared.vector.Cvss.TheVariants.{CvssV20}
 use Rattle.cvss_laws.specs.any.GivenBack.{IsGivenBack}
 use Rattle.cvss_json_write.specs.Json.{Member, comma_if, member_text, rest_of_object, string_text, tenths_text}
 use Rattle.cvss_json_record.specs.Fields.{fields_of, name_of}
-use Rattle.cvss_json_record.specs.Record.{Expected, text, score, nothing, IsRecordText, expected_of, expected_text, has_member, member_at, said_at, value_at}
+use Rattle.cvss_json_record.specs.Record.{Expected, text, score, nothing, IsRecordText, expected_of, expected_text, has_member, member_at}
 use Rattle.cvss_json_record.specs.declared.field.Field.{Field}
 use Rattle.cvss_json_record.specs.declared.field.Field.TheVariants.{Text}
 use Rattle.cvss_json_record.specs.declared.score.Scores.{Scores}
@@ -68,48 +67,37 @@ number_cut front comma name number rest = simp append_assoc refl
 number_front : (number : List ℕ) → is_plain number ≡ true → is_other ((58 ∷ number) ++ comma_if true) ≡ true
 number_front number plain = ap (λ b. b && true) (list_all-append is_clear number (44 ∷ []) ∙ ap (λ b. b && true) plain)
 
-data IsValue : Option (List ℕ) → Type 0 where
-  absent : IsValue None
-  string : (word : List ℕ) → is_other word ≡ true → IsValue (Some (string_text word))
-  number : (digits : List ℕ) → is_plain digits ≡ true → IsValue (Some digits)
-
 -- the text is found after this front and these members
 abbrev Finds : List ℕ → List Member → Type 0
 Finds reported members = (front : List ℕ) (later : Bool) → is_other (front ++ comma_if later) ≡ true → text_in (front ++ rest_of_object later members) ≡ Some reported
 
-found_later : (reported : List ℕ) (name : List ℕ) (value : Option (List ℕ)) (members : List Member) → is_other name ≡ true → IsValue value → Finds reported members
-    → Finds reported (cons_option (option_map (λ each. (name, each)) value) members)
-found_later reported name value members named (absent) finds front later other = finds front later other
-found_later reported name value members named (string word fits) finds front later other =
+found_later : (reported name : List ℕ) (said : Option Expected) (members : List Member) → is_other name ≡ true → is_expected said ≡ true → Finds reported members
+    → Finds reported (cons_option (option_map (λ each. (name, each)) (option_and_then expected_text said)) members)
+found_later reported name None members named fits finds front later other = finds front later other
+found_later reported name (Some nothing) members named fits finds front later other = finds front later other
+found_later reported name (Some (text word)) members named fits finds front later other =
     ap text_in (string_cut front (comma_if later) name word (rest_of_object true members))
     ∙ pass (front ++ comma_if later) (name ++ 34 ∷ (58 ∷ 34 ∷ (word ++ 34 ∷ rest_of_object true members))) other
     ∙ pass name (58 ∷ 34 ∷ (word ++ 34 ∷ rest_of_object true members)) named ∙ pass (58 ∷ []) (word ++ 34 ∷ rest_of_object true members) refl
-    ∙ pass word (rest_of_object true members) fits ∙ finds [] true refl
-found_later reported name value members named (number digits plain) finds front later other =
+    ∙ pass word (rest_of_object true members) (and_parts _ _ fits).1 ∙ finds [] true refl
+found_later reported name (Some (score tenths)) members named fits finds front later other =
+    let digits = tenths_text tenths in
     ap text_in (number_cut front (comma_if later) name digits (rest_of_object true members))
     ∙ pass (front ++ comma_if later) (name ++ 34 ∷ ((58 ∷ digits) ++ rest_of_object true members)) other
     ∙ pass name ((58 ∷ digits) ++ rest_of_object true members) named
-    ∙ finds (58 ∷ digits) true (number_front digits plain)
-
-expected_value : (expected : Option Expected) → is_expected expected ≡ true → IsValue (option_and_then expected_text expected)
-expected_value None fits = absent
-expected_value (Some (text reported)) fits = string reported (and_parts _ _ fits).1
-expected_value (Some (score tenths)) fits = number (tenths_text tenths) (plain_tenths tenths)
-expected_value (Some nothing) fits = absent
+    ∙ finds (58 ∷ digits) true (number_front digits (plain_tenths tenths))
 
 module _ (cvss : Cvss) (scores : Scores) where
   abbrev members_of : List Field → List Member
   members_of fields = filter_map (member_at cvss scores) fields
 
-  said_value : (field : Field) → IsValue (option_and_then expected_text (said_at cvss scores field))
-  said_value field =
-      either (λ said. IsValue (option_and_then expected_text said)) (has_member cvss field) (expected_of cvss scores field) None
-      (expected_value (expected_of cvss scores field) (expected_fits cvss scores field)) absent
-
   -- another member than the vector's text
   found_after : (field : Field) (fields : List Field) → is_text field ≡ false → Finds (text_of cvss) (members_of fields) → Finds (text_of cvss) (members_of (field ∷ fields))
   found_after Text fields other finds = absurd (cc)
-  found_after field fields other finds = found_later (text_of cvss) (name_of field) (value_at cvss scores field) (members_of fields) (name_fits field other) (said_value field) finds
+  found_after field fields other finds =
+      either (λ said. Finds (text_of cvss) (cons_option (option_map (λ each. (name_of field, each)) (option_and_then expected_text said)) (members_of fields)))
+      (has_member cvss field) (expected_of cvss scores field) None
+      (found_later (text_of cvss) (name_of field) (expected_of cvss scores field) (members_of fields) (name_fits field other) (expected_fits cvss scores field) finds) finds
 
   found_in : (fields : List Field) → list_any is_text fields ≡ true → Finds (text_of cvss) (members_of fields)
   found_in [] has = λ front later other. absurd (cc)
