@@ -79,8 +79,8 @@ fn put_text<'a>(
     text: Option<&'a str>,
 ) -> Result<(), AllocError>
     ensures { OnOk result (trees.members_view members.new.entries
-        ≡ with_members (member_if name.now (option_map string (option_map (λ text. text.now) text.entry)))
-        (trees.members_view members.old.entries)) }
+        ≡ with_members (member_if name.now (option_map string
+        (option_map (λ text. text.now) text.entry))) (trees.members_view members.old.entries)) }
 {
     match text {
         Some(text) => put_tree(members, alloc, name, Tree::Text(text)),
@@ -152,7 +152,8 @@ fn put_score(
     tenths: Option<u8>,
 ) -> Result<(), AllocError>
     ensures { OnOk result (members_view members.new.entries
-        ≡ with_members (member_if name.now (option_map score_value tenths)) (members_view members.old.entries)) }
+        ≡ with_members (member_if name.now (option_map score_value tenths))
+        (members_view members.old.entries)) }
 {
     match tenths {
         Some(tenths) => put(members, alloc, name, score_value(tenths)),
