@@ -36,7 +36,8 @@ pub(crate) fn push_around<'a>(
 
 /// Whether a member of this name says another version than the vector's.
 fn is_wrong(cvss: &Cvss, name: &str) -> bool
-    ensures { result ≡ is_among name.now version_names && not (is_among name.now (names_of cvss.now)) }
+    ensures { result ≡ is_among name.now version_names
+        && not (is_among name.now (names_of cvss.now)) }
 {
     reports_version(name) && !reports_version_of(cvss, name)
 }

@@ -44,9 +44,9 @@ impl Group {
         }
     }
 
-    /// Whether the vector's record has the group's score: that of an optional group where the vector
-    /// has a metric of it, be it that the metric is not defined. Of CVSS v4.0, whose score is one, none
-    /// counts.
+    /// Whether the vector's record has the group's score: that of an optional group where the
+    /// vector has a metric of it, be it that the metric is not defined. Of CVSS v4.0, whose score
+    /// is one, none counts.
     pub(crate) fn is_reported(self, cvss: &Cvss) -> bool
         ensures { result ≡ reports_group cvss.now self }
     {
