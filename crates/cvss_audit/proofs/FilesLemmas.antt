@@ -1,13 +1,12 @@
 -- The first line of a file that is not blank.
-use Rattle.std.proofs.Common.{◌≡◌, ◌≢◌, ℕ, ◌==◌, Bool, true, false, All, List, [], ◌∷◌, ◌++◌, None, Some, refl, sym, ap, ◌∙◌, append_assoc}
-use Rattle.std.proofs.lemmas.Bool.{ne_eqb}
+use Rattle.std.proofs.Common.{◌≡◌, ◌≢◌, ℕ, ◌==◌, Bool, true, false, All, List, [], ◌∷◌, ◌++◌, Option, is_some, refl, sym, ap, ◌∙◌, append_assoc}
+use Rattle.std.proofs.lemmas.Bool.{false_from_ne_true, ne_eqb}
 use Rattle.std.proofs.lemmas.List.Elements.{All-head, All-tail}
 use Rattle.std.specs.Str.{IsUtf8, is_utf8}
 use Rattle.std.proofs.lemmas.Str.{is_utf8-from_IsUtf8, IsUtf8-from_is_utf8}
 use Rattle.serde_json.specs.Data.{Data}
 use Rattle.serde_json.specs.Read.{read}
 use Rattle.cvss_audit.specs.Answers.{is_blank}
-use Rattle.cvss_audit.specs.Task.{text_of}
 use Rattle.cvss_audit.specs.Files.{HasFirstText, first_line, first_text, is_json, without_blanks}
 
 not_end : (byte : ℕ) (line : List ℕ) → All (λ byte. byte ≢ 10) (byte ∷ line) → (byte == 10) ≡ false
@@ -48,23 +47,8 @@ first_text_settled bytes rest has = settled has.line has.after has.one_line has.
       ap first_line (blanks_before bytes rest byte (line ++ 10 ∷ after) is ∙ append_assoc (byte ∷ line) (10 ∷ after) rest)
       ∙ to_end (byte ∷ line) (after ++ rest) all ∙ sym (ap first_line is ∙ to_end (byte ∷ line) after all)
 
-pub is_json_of : (text : List ℕ) (document : Data) → IsUtf8 text → read text ≡ Some document → true ≡ is_json text
-is_json_of text document utf8 reads = sym (rw (is_utf8-from_IsUtf8 text utf8, reads) refl)
+pub json_test : (text : List ℕ) (seen : Option Data) → IsUtf8 text → read text ≡ seen → is_some seen ≡ is_json text
+json_test text seen utf8 reads = sym (rw (is_utf8-from_IsUtf8 text utf8, reads) refl)
 
-pub no_json_of : (text : List ℕ) → IsUtf8 text → read text ≡ None → false ≡ is_json text
-no_json_of text utf8 reads = sym (rw (is_utf8-from_IsUtf8 text utf8, reads) refl)
-
-pub no_text_of : (text : List ℕ) → ¬ (IsUtf8 text) → false ≡ is_json text
-no_text_of text none = go (is_utf8 text) refl where
-  go : (b : Bool) → is_utf8 text ≡ b → false ≡ is_json text
-  go true is = absurd (none (IsUtf8-from_is_utf8 text is))
-  go false is = sym (rw is refl)
-
-pub text_of_yes : (bytes : List ℕ) → IsUtf8 bytes → text_of bytes ≡ Some bytes
-text_of_yes bytes utf8 = rw (is_utf8-from_IsUtf8 bytes utf8) refl
-
-pub text_of_no : (bytes : List ℕ) → ¬ (IsUtf8 bytes) → text_of bytes ≡ None
-text_of_no bytes none = go (is_utf8 bytes) refl where
-  go : (b : Bool) → is_utf8 bytes ≡ b → text_of bytes ≡ None
-  go true is = absurd (none (IsUtf8-from_is_utf8 bytes is))
-  go false is = rw is refl
+pub no_utf8 : (bytes : List ℕ) → ¬ (IsUtf8 bytes) → is_utf8 bytes ≡ false
+no_utf8 bytes none = false_from_ne_true (is_utf8 bytes) (λ is. none (IsUtf8-from_is_utf8 bytes is))

@@ -60,24 +60,16 @@ pub record Found : Type 0 where
   pub text : List ℕ
   pub agrees : Bool
 
--- the object says of the text at the place
-abbrev pub IsTextObject : Input → Place → List ℕ → Data → Bool → Type 0
-IsTextObject input place text value agrees =
-    IsAcceptedPlace input place text value agrees ⊎ IsRefusedPlace input place text value agrees
-
 -- the object says of what is at the place
 abbrev pub IsObjectOf : Input → Place → Option (List ℕ) → Data → Bool → Type 0
-IsObjectOf input place (Some text) value agrees = IsTextObject input place text value agrees
+IsObjectOf input place (Some text) value agrees =
+    IsAcceptedPlace input place text value agrees ⊎ IsRefusedPlace input place text value agrees
 IsObjectOf input place None value agrees = IsNoString input place value agrees
-
--- the object says of the place
-abbrev pub IsPlaceObject : Input → Place → Data → Bool → Type 0
-IsPlaceObject input place value agrees = IsObjectOf input place place.2 value agrees
 
 -- this is found at the place
 pub record IsFound (input : Input) (place : Place) (found : Found) : Type 0 where
   pub value : Data
-  pub is_object : IsPlaceObject input place value found.agrees
+  pub is_object : IsObjectOf input place place.2 value found.agrees
   pub is_text : IsTextOf value found.text
 
 -- these are found at the places, in their order

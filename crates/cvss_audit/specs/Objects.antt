@@ -1,5 +1,5 @@
 -- The objects of an answer: one for each location of a vector, and one for a text that is no JSON.
-use Rattle.std.specs.Prelude.{ℕ, List, [], ◌∷◌, ◌++◌, codes, map, not, ◌&&◌, if◌then◌else◌, is_some, Option, Some, None}
+use Rattle.std.specs.Prelude.{ℕ, List, [], ◌∷◌, ◌++◌, codes, map, not, ◌&&◌, if◌then◌else◌, is_some, Option, Some, None, option_map}
 use Rattle.std.specs.List.{filter_map}
 use Rattle.cvss_any.specs.Answers.{rating_by, score_of_tenths, text_of}
 use Rattle.cvss_base.specs.Groups.{same_group}
@@ -23,19 +23,15 @@ use Rattle.serde_json.specs.Data.{Data, unsigned, number, string, array}
 use Rattle.serde_json.specs.View.{items_of}
 use Rattle.cvss_audit.specs.Inputs.{Input}
 
--- a member for a text, if there is one
-abbrev pub text_member : List ℕ → Option (List ℕ) → List Member
-text_member name None = []
-text_member name (Some text) = (name, string text) ∷ []
-
--- a member for a number, if there is one
-abbrev pub number_member : List ℕ → Option ℕ → List Member
-number_member name None = []
-number_member name (Some count) = (name, number (unsigned count)) ∷ []
+-- a member for a value, if there is one
+abbrev pub member_if : List ℕ → Option Data → List Member
+member_if name None = []
+member_if name (Some value) = (name, value) ∷ []
 
 -- where the document is from: its file, and its line
 abbrev pub input_members : Input → List Member
-input_members input = text_member (codes "file") input.0 ++ number_member (codes "line") input.1
+input_members input =
+    member_if (codes "file") (option_map string input.0) ++ member_if (codes "line") (option_map (λ count. number (unsigned count)) input.1)
 
 -- the reason why the document, or the vector's text, is refused
 abbrev pub refusal_member : List ℕ → Member
@@ -49,18 +45,14 @@ refusal_value input reason = object_of (input_members input ++ refusal_member re
 abbrev pub place_members : Input → Place → List Member
 place_members input place =
     (codes "at", string place.0)
-    ∷ (input_members input ++ (text_member (codes "id") place.4.1 ++ text_member (codes "given") place.2))
-
--- a member for a score, if there is one
-abbrev pub optional_member : List ℕ → Option ℕ → List Member
-optional_member name None = []
-optional_member name (Some tenths) = (name, score_value tenths) ∷ []
+    ∷ (input_members input ++ (member_if (codes "id") (option_map string place.4.1) ++ member_if (codes "given") (option_map string place.2)))
 
 -- the scores of a vector of CVSS v2 or v3
 abbrev pub score_members : Scores → List Member
 score_members scores =
     (codes "base", score_value scores.base)
-    ∷ (optional_member (codes "temporal") scores.temporal ++ optional_member (codes "environmental") scores.environmental)
+    ∷ (member_if (codes "temporal") (option_map score_value scores.temporal)
+    ++ member_if (codes "environmental") (option_map score_value scores.environmental))
 
 -- the score of a vector of CVSS v4.0, and the nomenclature of the groups that it rests on
 abbrev pub v4_members : type_v4.Vector → ℕ → List Member

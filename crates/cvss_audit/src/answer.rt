@@ -9,6 +9,7 @@ ghost use Rattle.cvss_json_tree.specs.Texts.{WritesObject};
 ghost use Rattle.cvss_document.specs.Places.{places_in};
 ghost use Rattle.serde_json.specs.View.{view};
 
+use crate::files::is_blank;
 use crate::input::Input;
 use crate::members::{put_input, put_refusal};
 use crate::place::answer_place;
@@ -60,8 +61,7 @@ pub(crate) fn answer_text<W: Write>(
 fn is_passed_over(text: &[u8]) -> bool
     ensures { result ≡ is_passed_over text.now }
 {
-    text.iter()
-        .all(|byte| matches!(byte, b' ' | b'\t' | b'\r' | b'\n'))
+    text.iter().all(|byte| is_blank(*byte))
 }
 
 /// Writes why a text is no document.

@@ -133,7 +133,8 @@ fn without_blanks(bytes: &[u8]) -> &[u8]
     left
 }
 
-fn is_blank(byte: u8) -> bool
+/// Whether a byte is a blank of JSON.
+pub(crate) fn is_blank(byte: u8) -> bool
     ensures { result ≡ is_blank byte }
 {
     matches!(byte, b' ' | b'\t' | b'\r' | b'\n')

@@ -1,13 +1,15 @@
 //! The members of the objects that are written.
 
 ghost use Rattle.std.specs.Prelude.{◌≡◌, ◌∷◌, [], IfOk, OnOk, map, option_map, string_bytes};
-ghost use Rattle.cvss_audit.specs.Objects.{accepted_members, input_members, list_member, number_member, optional_member, place_members, refusal_member, score_members, scores_value, text_member, reported_members, v4_members};
+ghost use Rattle.cvss_audit.specs.Objects.{accepted_members, input_members, list_member, member_if, place_members, refusal_member, reported_members, score_members, scores_value, v4_members};
 ghost use Rattle.cvss_audit.specs.Inputs.{input_view};
 ghost use Rattle.cvss_json_tree.specs.Trees as trees;
 ghost use Rattle.cvss_json_tree.specs.Trees.{tree_view};
 ghost use Rattle.cvss_document.specs.Differences.{difference_view};
 ghost use Rattle.cvss_json_tree.specs.Objects.{object_of, with_members};
 ghost use Rattle.cvss_document.specs.Places.{place_view};
+ghost use Rattle.cvss_document.specs.Scores.{score_value};
+ghost use Rattle.serde_json.specs.Data.{string};
 ghost use Rattle.serde_json.specs.View.{members_view, view};
 
 use crate::differs::put_differences;
@@ -33,21 +35,8 @@ pub(crate) fn put_input<'a>(
         (trees.members_view members.old.entries)) }
 {
     put_text(members, alloc, "file", input.file)?;
-    put_number(members, alloc, "line", input.line)
-}
-
-/// Puts a number under a name, if there is one.
-fn put_number(
-    members: &mut Map<String, Tree<'_>>,
-    alloc: Global,
-    name: &str,
-    number: Option<u64>,
-) -> Result<(), AllocError>
-    ensures { OnOk result (trees.members_view members.new.entries
-        ≡ with_members (number_member name.now number) (trees.members_view members.old.entries)) }
-{
-    match number {
-        Some(number) => put_tree(members, alloc, name, Tree::Own(Value::from(number))),
+    match input.line {
+        Some(line) => put_tree(members, alloc, "line", Tree::Own(Value::from(line))),
         None => Ok(()),
     }
 }
@@ -90,8 +79,8 @@ fn put_text<'a>(
     text: Option<&'a str>,
 ) -> Result<(), AllocError>
     ensures { OnOk result (trees.members_view members.new.entries
-        ≡ with_members (text_member name.now (option_map (λ text. text.now) text.entry))
-        (trees.members_view members.old.entries)) }
+        ≡ with_members (member_if name.now (option_map string
+        (option_map (λ text. text.now) text.entry))) (trees.members_view members.old.entries)) }
 {
     match text {
         Some(text) => put_tree(members, alloc, name, Tree::Text(text)),
@@ -163,7 +152,8 @@ fn put_score(
     tenths: Option<u8>,
 ) -> Result<(), AllocError>
     ensures { OnOk result (members_view members.new.entries
-        ≡ with_members (optional_member name.now tenths) (members_view members.old.entries)) }
+        ≡ with_members (member_if name.now (option_map score_value tenths))
+        (members_view members.old.entries)) }
 {
     match tenths {
         Some(tenths) => put(members, alloc, name, score_value(tenths)),

@@ -1,6 +1,7 @@
 //! The base metrics that a vector lacks.
 
-ghost use Rattle.std.specs.Prelude.{◌≡◌, IfOk, OnOk, map, option_map};
+ghost use Rattle.std.specs.Prelude.{◌≡◌, ◌++◌, IfOk, OnOk, map};
+ghost use Rattle.std.specs.Option.{option_to_list};
 ghost use Rattle.cvss_audit.specs.Objects.{missing_at, missing_members, missing_v3};
 ghost use Rattle.cvss_json_tree.specs.Trees.{members_view, tree_view};
 ghost use Rattle.cvss_json_tree.specs.Objects.{with_members};
@@ -36,24 +37,31 @@ pub(crate) fn put_missing<'a>(
 }
 
 /// The names of the base metrics that a vector lacks.
+#[tactic(auto, using(cvss_document::proofs::AddedLemmas::added))]
 fn missing_v3<'a>(alloc: Global, vector: &Vector) -> Result<Vec<Tree<'a>>, AllocError>
     ensures { IfOk result (λ missing. map tree_view missing.items ≡ missing_v3 vector.now) }
 {
     let mut missing = Vec::new(alloc);
     for kind in Vector::printed() {
-        if let Some(name) = missing_at(vector, *kind) {
-            missing.push(name)?;
-        }
+        push_missing(&mut missing, vector, *kind)?;
     }
     Ok(missing)
 }
 
-/// The name of a metric, if it is a base metric and a vector lacks it.
-fn missing_at<'a>(vector: &Vector, kind: MetricType) -> Option<Tree<'a>>
-    ensures { option_map tree_view result ≡ missing_at vector.now kind }
+/// Adds the name of a metric, if it is a base metric and a vector lacks it.
+fn push_missing<'a>(
+    missing: &mut Vec<Tree<'a>>,
+    vector: &Vector,
+    kind: MetricType,
+) -> Result<(), AllocError>
+    ensures { OnOk result (map tree_view missing.new.items
+        ≡ map tree_view missing.old.items ++ option_to_list (missing_at vector.now kind)) }
 {
     match kind.group() {
-        MetricGroup::Base if vector.with_slash(kind).is_none() => Some(Tree::Text(kind.name())),
-        _ => None,
+        MetricGroup::Base if vector.with_slash(kind).is_none() => {
+            missing.push(Tree::Text(kind.name()))?;
+            Ok(())
+        }
+        _ => Ok(()),
     }
 }

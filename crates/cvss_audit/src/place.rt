@@ -1,7 +1,7 @@
 //! The answer to one location of a vector.
 
-ghost use Rattle.std.specs.Prelude.{◌≡◌, ◌&&◌, IfOk, map};
-ghost use Rattle.cvss_audit.specs.Answers.{IsNoString, IsPlaceObject, IsTextObject, is_allowed, nothing_differs};
+ghost use Rattle.std.specs.Prelude.{◌≡◌, ◌&&◌, IfOk, Some, map};
+ghost use Rattle.cvss_audit.specs.Answers.{IsNoString, IsObjectOf, is_allowed, nothing_differs};
 ghost use Rattle.cvss_audit.specs.Inputs.{input_view};
 ghost use Rattle.cvss_audit.specs.private.Writing.{WritesPlace};
 ghost use Rattle.cvss_json_tree.specs.Trees.{members_view};
@@ -41,8 +41,8 @@ fn place_object<'a>(
     input: Input<'a>,
     place: &'a Place<'a>,
 ) -> Result<(Map<String, Tree<'a>>, bool), AllocError>
-    ensures { IfOk result (λ reported. IsPlaceObject (input_view input.entry) (place_view place.now)
-        (object (members_view reported.0.entries)) reported.1) }
+    ensures { IfOk result (λ reported. IsObjectOf (input_view input.entry) (place_view place.now)
+        (place_view place.now).2 (object (members_view reported.0.entries)) reported.1) }
 {
     match place.text {
         Some(text) => text_object(alloc, input, place, text),
@@ -57,8 +57,8 @@ fn text_object<'a>(
     place: &'a Place<'a>,
     text: &str,
 ) -> Result<(Map<String, Tree<'a>>, bool), AllocError>
-    ensures { IfOk result (λ reported. IsTextObject (input_view input.entry) (place_view place.now)
-        text.now (object (members_view reported.0.entries)) reported.1) }
+    ensures { IfOk result (λ reported. IsObjectOf (input_view input.entry) (place_view place.now)
+        (Some text.now) (object (members_view reported.0.entries)) reported.1) }
 {
     let mut members = Map::new(alloc);
     put_place(&mut members, alloc, input, place)?;
@@ -82,14 +82,8 @@ fn all_right(input: Input<'_>, cvss: &Cvss, differences: &[Difference<'_>]) -> b
     ensures { result ≡ nothing_differs (map difference_view differences.now)
         && is_allowed (input_view input.entry) cvss.now }
 {
-    nothing_differs(differences) && is_allowed(input, cvss)
-}
-
-fn nothing_differs(differences: &[Difference<'_>]) -> bool
-    ensures { result ≡ nothing_differs (map difference_view differences.now) }
-{
     match differences {
-        [] => true,
+        [] => is_allowed(input, cvss),
         [_, ..] => false,
     }
 }

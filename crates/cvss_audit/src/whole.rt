@@ -38,15 +38,8 @@ pub(crate) fn answer_whole<R: Read, W: Write>(
 fn summary_of_one(accepted: bool) -> Summary
     ensures { result ≡ summary_of_one accepted }
 {
-    if accepted {
-        Summary {
-            accepted: 1,
-            refused: 0,
-        }
-    } else {
-        Summary {
-            accepted: 0,
-            refused: 1,
-        }
+    Summary {
+        accepted: u64::from(accepted),
+        refused: u64::from(!accepted),
     }
 }

@@ -1,4 +1,4 @@
-mod FloatLemmas
+pub mod AddedLemmas
 mod PlacesLemmas
 mod PointerLemmas
 mod RecordLemmas

@@ -1,5 +1,5 @@
 -- The members of a record beside the texts that are written for them.
-use Rattle.std.proofs.Common.{◌≡◌, ◌≤◌, ◌&&◌, ℕ, Float, Bool, true, false, not, nat_eq, if◌then◌else◌, List, [], ◌∷◌, ◌++◌, length, map, Option, Some, None, Ordering, Less, Equal, Greater, nat_cmp, option_and_then, option_map, refl, sym, ap, ap₂, subst, leb-true}
+use Rattle.std.proofs.Common.{◌≡◌, ◌≤◌, ◌&&◌, ℕ, Float, true, false, not, nat_eq, List, [], ◌∷◌, ◌++◌, length, map, Option, Some, None, Ordering, Less, Equal, Greater, nat_cmp, option_and_then, option_map, refl, sym, ap, ap₂, subst, leb-true}
 use Rattle.std.specs.Cmp.Lexicographic.{slice_cmp}
 use Rattle.std.specs.List.{AllByRecursion, cons_option, filter_map}
 use Rattle.std.specs.List.Sorted.{IsStrictlySortedBy}
@@ -16,13 +16,12 @@ use Rattle.cvss_any.specs.declared.vector.Cvss.{Cvss}
 use Rattle.cvss_json_write.specs.Json as object
 use Rattle.cvss_json_write.specs.Json.{string_text, tenths_text}
 use Rattle.cvss_json_record.proofs.PlainLemmas.{plain_text}
-use Rattle.cvss_json_record.proofs.WordLemmas.{expected_fits, is_clear, is_expected, is_other, is_plain, name_fits}
+use Rattle.cvss_json_record.proofs.WordLemmas.{either, expected_fits, is_clear, is_expected, is_other, is_plain, name_fits}
 use Rattle.cvss_json_record.specs.Fields.{name_of}
 use Rattle.cvss_json_record.specs.Record as written
-use Rattle.cvss_json_record.specs.Record.{Expected, text, score, nothing, expected_of, expected_text, rating_expected, spelled_at, reports_group, word_expected}
+use Rattle.cvss_json_record.specs.Record.{Expected, text, score, nothing, expected_of, expected_text, has_member, rating_expected, spelled_at, word_expected}
 use Rattle.cvss_json_record.specs.declared.field.Field.{Field}
-use Rattle.cvss_json_record.specs.declared.field.Field.TheVariants.{V2, V3, V4, Score, Rating, Text, Version}
-use Rattle.cvss_json_record.specs.declared.group.Group.{Group}
+use Rattle.cvss_json_record.specs.declared.field.Field.TheVariants.{V2, V3, V4, Score, Rating, Text}
 use Rattle.cvss_json_record.specs.declared.group.Group.TheVariants.{Base, Temporal, Environmental}
 use Rattle.cvss_json_record.specs.declared.score.Scores.{Scores}
 use Rattle.cvss_json_record.specs.Groups.{tenths_at}
@@ -60,12 +59,7 @@ unescaped bytes all = ap (λ each. 34 ∷ (each ++ 34 ∷ [])) (plain bytes all)
 
 name_unescaped : (field : Field) → is_plain (name_of field) ≡ true
 name_unescaped Text = refl
-name_unescaped (V2 kind) = (and_parts _ _ (name_fits (V2 kind) refl)).0
-name_unescaped (V3 kind) = (and_parts _ _ (name_fits (V3 kind) refl)).0
-name_unescaped (V4 kind) = (and_parts _ _ (name_fits (V4 kind) refl)).0
-name_unescaped (Score group) = (and_parts _ _ (name_fits (Score group) refl)).0
-name_unescaped (Rating group) = (and_parts _ _ (name_fits (Rating group) refl)).0
-name_unescaped Version = refl
+name_unescaped field = (and_parts _ _ (name_fits field refl)).0
 
 -- ---- each value, and the text that is written for it
 
@@ -79,6 +73,10 @@ abbrev InRange : Option Expected → Type 0
 InRange (Some (score tenths)) = tenths ≤ 100
 InRange _ = ⊤
 
+score_range : (tenths : Option ℕ) → IfSome tenths (λ each. each ≤ 100) → InRange (option_map score tenths)
+score_range None within = tt
+score_range (Some tenths) within = within
+
 word_range : (rows : List Row) (spelling : Option (List ℕ)) → InRange (Some (word_expected rows spelling))
 word_range rows None = tt
 word_range rows (Some spelling) = tt
@@ -87,18 +85,15 @@ rating_range : (cvss : Cvss) (tenths : Option ℕ) → InRange (option_map (rati
 rating_range cvss None = tt
 rating_range cvss (Some tenths) = tt
 
-score_range : (tenths : Option ℕ) → IfSome tenths (λ each. each ≤ 100) → InRange (option_map score tenths)
-score_range None within = tt
-score_range (Some tenths) within = within
-
-group_range : (scores : Scores) → AreInRange scores → (group : Group) → InRange (option_map score (tenths_at scores group))
-group_range scores range Base = range.base
-group_range scores range Temporal = score_range scores.temporal range.temporal
-group_range scores range Environmental = score_range scores.environmental range.environmental
-
-same_if : (b : Bool) (value : Option Data) (bytes : Option (List ℕ)) → AreSame value bytes → AreSame (if b then value else None) (if b then bytes else None)
-same_if true value bytes same = same
-same_if false value bytes same = tt
+range_of : (cvss : Cvss) (scores : Scores) → AreInRange scores → (field : Field) → InRange (expected_of cvss scores field)
+range_of cvss scores range (V2 kind) = word_range (words_v2.words_of kind) (spelled_at cvss (V2 kind))
+range_of cvss scores range (V3 kind) = word_range (words_v3.words_of kind) (spelled_at cvss (V3 kind))
+range_of cvss scores range (V4 kind) = word_range (words_v4.words_of kind) (spelled_at cvss (V4 kind))
+range_of cvss scores range (Score Base) = range.base
+range_of cvss scores range (Score Temporal) = score_range scores.temporal range.temporal
+range_of cvss scores range (Score Environmental) = score_range scores.environmental range.environmental
+range_of cvss scores range (Rating group) = rating_range cvss (tenths_at scores group)
+range_of cvss scores range _ = tt
 
 more : (name : List ℕ) (value : Option Data) (bytes : Option (List ℕ)) (members : List Member) (texts : List object.Member) → IsUnescaped name → AreSame value bytes → AreMemberTexts members texts
     → AreMemberTexts (cons_option (option_map (λ each. (name, each)) value) members) (cons_option (option_map (λ each. (name, each)) bytes) texts)
@@ -116,17 +111,12 @@ module _ (string_reads : (bytes : List ℕ) → IsUnescaped bytes → IsTextOf (
   expected_same (Some (score tenths)) fits within = float_reads (score_number tenths) (tenths_text tenths) (is_number tenths within) (nearest tenths within)
   expected_same (Some nothing) fits within = tt
 
-  field_same : (field : Field) → InRange (expected_of cvss scores field) → AreSame (option_and_then value_of (expected_of cvss scores field)) (option_and_then expected_text (expected_of cvss scores field))
-  field_same field = expected_same (expected_of cvss scores field) (expected_fits cvss scores field)
-
   value_same : (field : Field) → AreSame (value_at cvss scores field) (written.value_at cvss scores field)
   value_same Text = string_reads (text_of cvss) (unescaped (text_of cvss) (plain_text cvss))
-  value_same (V2 kind) = field_same (V2 kind) (word_range (words_v2.words_of kind) (spelled_at cvss (V2 kind)))
-  value_same (V3 kind) = field_same (V3 kind) (word_range (words_v3.words_of kind) (spelled_at cvss (V3 kind)))
-  value_same (V4 kind) = field_same (V4 kind) (word_range (words_v4.words_of kind) (spelled_at cvss (V4 kind)))
-  value_same (Score group) = same_if (reports_group cvss group) _ _ (field_same (Score group) (group_range scores range group))
-  value_same (Rating group) = same_if (reports_group cvss group) _ _ (field_same (Rating group) (rating_range cvss (tenths_at scores group)))
-  value_same Version = field_same Version tt
+  value_same field =
+      let expected = expected_of cvss scores field in
+      either (λ said. AreSame (option_and_then value_of said) (option_and_then expected_text said)) (has_member cvss field) expected None
+      (expected_same expected (expected_fits cvss scores field) (range_of cvss scores range field)) tt
 
   pub are_texts : (fields : List Field) → AreMemberTexts (filter_map (member_at cvss scores) fields) (filter_map (written.member_at cvss scores) fields)
   are_texts [] = tt

@@ -1,17 +1,31 @@
--- The texts of scores read as the doubles that are nearest to them: computed for each score.
-use Rattle.std.proofs.Common.{◌≡◌, ℕ, ◌<◌, ◌≤◌, List, [], Option, Some, map, get_or, refl, sym, ap, ◌∙◌, zero-add, arith}
+-- The numbers of scores are finite, and their texts read as the doubles that are nearest to them: computed for each score.
+use Rattle.std.proofs.Common.{◌≡◌, ℕ, ◌<◌, ◌≤◌, Bool, true, List, [], Option, Some, map, get_or, refl, sym, ap, ◌∙◌, zero-add, arith, option_map, unwrap_or}
 use Rattle.std.specs.Float.{float_is_finite}
 use Rattle.std.specs.Float.Numeral.{scan_numeral}
 use Rattle.std.specs.Fmt.{digits}
 use Rattle.std.specs.List.{range_with_len}
+use Rattle.std.specs.Prelude.{Float}
+use Rattle.std.proofs.lemmas.Bool.{agree_below_at}
 use Rattle.std.proofs.lemmas.List.FromFn.{get_or-map-range_with_len}
 use lib.Ieee.{of_int, of_bits, div}
 use Rattle.json.specs.Print.{IsNumber}
 use Rattle.json.specs.Word.{after_number}
-use Rattle.serde_json.specs.Data.{Num, float}
+use Rattle.serde_json.specs.Data.{Num, float, null, number}
+use Rattle.serde_json.specs.Find.{of_float}
 use Rattle.serde_json.specs.Read.{number_of}
 use Rattle.cvss_json_write.specs.Json.{decimal_text, places_text, tenths_text}
-use Rattle.cvss_document.specs.Scores.{score_number}
+use Rattle.cvss_document.specs.Scores.{score_number, score_value}
+
+is_finite : ℕ → Bool
+is_finite tenths = float_is_finite (score_number tenths)
+
+finite : (tenths : ℕ) → tenths < 256 → is_finite tenths ≡ true
+unfolding is_finite float_is_finite of_int of_bits div
+finite tenths within = agree_below_at is_finite (λ _. true) 256 tenths refl within
+
+pub number_is : (tenths : ℕ) (reported : Float) → tenths < 256 → reported ≡ score_number tenths → unwrap_or (option_map number (of_float reported)) null ≡ score_value tenths
+unfolding is_finite
+number_is tenths reported within is = rw is (rw (finite tenths within) refl)
 
 -- two functions agree at each score if they do where they are computed
 at_each : {A : Type 0} (f g : ℕ → A) → map f (range_with_len 0 101) ≡ map g (range_with_len 0 101) → (tenths : ℕ) → tenths ≤ 100 → f tenths ≡ g tenths

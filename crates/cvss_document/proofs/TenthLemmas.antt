@@ -9,7 +9,7 @@ use Rattle.cvss_score.specs.v3.Scores.{impact, iss}
 use Rattle.cvss_score.specs.declared.v3.rules.Exponent.TheVariants.{Fifteen}
 use Rattle.cvss_score.specs.declared.v3.weights.Weights.{Weights}
 use Rattle.cvss_score.proofs.v3_lemmas.EqualLemmas.{impact_bottom as exponent_bottom}
-use Rattle.cvss_document.specs.SubScores.{IsNearestTenth, tolerance}
+use Rattle.cvss_document.specs.SubScores.{IsNearestTenth}
 use Rattle.cvss_document.specs.private.Tenths.{AreNearest}
 
 -- the half tenth below those that are nearest to a count is at most what the count is at most

@@ -1,6 +1,6 @@
 -- Where an object disagrees with the vector in it.
 use Rattle.std.specs.Prelude.{◌≡◌, ℕ, Bool, true, false, not, ◌&&◌, List, [], ◌∷◌, ◌++◌, codes, bytes_eq, if◌then◌else◌, is_some, Option, Some, None, option_and_then}
-use Rattle.std.specs.List.{filter_map, list_any}
+use Rattle.std.specs.List.{filter_map}
 use Rattle.std.specs.Option.{option_to_list}
 use Rattle.cvss_any.specs.Answers.{rating_by, score_of_tenths}
 use Rattle.cvss_any.specs.declared.vector.Cvss.{Cvss}
@@ -10,12 +10,14 @@ use Rattle.serde_json.specs.Data.{Data, Members, no_members, member, string}
 use Rattle.serde_json.specs.Find.{as_number, get_member}
 use Rattle.serde_json.specs.View.{view}
 use Rattle.cvss_document.specs.Expected.{agrees, expected_at, expected_value, is_text}
-use Rattle.cvss_json_record.specs.Record.{Expected, text, score, rating_expected}
+use Rattle.cvss_json_record.specs.Record.{Expected, text, score, rating_word}
 use Rattle.cvss_json_record.specs.Groups.{AreScoresOf}
 use Rattle.cvss_json_tree.specs.Objects.{Member}
 use Rattle.cvss_document.specs.Places.{Around, Place, is_among, object_at}
 use Rattle.cvss_document.specs.SubScores.{AreSubScoresOf}
 use Rattle.cvss_json_names.specs.Versions.{version_of}
+use Rattle.cvss_document.specs.declared.difference.Claim as code_claim
+use Rattle.cvss_document.specs.declared.difference.Claim.TheVariants.{Number, Text, Severity}
 use Rattle.cvss_document.specs.declared.difference.Difference as code
 use Rattle.cvss_document.specs.declared.difference.Said.{Said}
 use Rattle.cvss_document.specs.declared.difference.Said.TheVariants.{Value, Name}
@@ -37,16 +39,24 @@ list_of (member name said rest) = (name, said) ∷ list_of rest
 abbrev pub difference_from : Member → Expected → Option Difference
 difference_from said expected = if agrees expected said.1 then None else Some (said.0, said.1, expected_value expected)
 
--- a number in the member of this name differs if it is not so many tenths
-abbrev pub number_difference : List ℕ → ℕ → Data → Option Difference
-number_difference name tenths said = if is_some (as_number said) then difference_from (name, said) (score tenths) else None
+-- what a member is to say: so many tenths, if it is a number; a text; or a rating, unless it is unknown
+pub data Claim : Type 0 where
+  tenths : ℕ → Claim
+  word : List ℕ → Claim
+  severity : List ℕ → Claim
+
+-- what is expected of a value by a claim, if anything is
+abbrev pub expected_by : Claim → Data → Option Expected
+expected_by (tenths count) said = if is_some (as_number said) then Some (score count) else None
+expected_by (word expected) said = Some (text expected)
+expected_by (severity expected) said = if is_text (codes "unknown") said then None else Some (text expected)
 
 -- the member's difference, if it says otherwise than the vector's record, or is a number at `score` that is not the
 -- vector's
 abbrev pub difference_at : Cvss → Scores → Member → Option Difference
 difference_at cvss scores said =
-    if bytes_eq (codes "score") said.0 then number_difference (codes "score") scores.base said.1
-    else option_and_then (difference_from said) (expected_at cvss scores said.0)
+    option_and_then (difference_from said)
+    (if bytes_eq (codes "score") said.0 then expected_by (tenths scores.base) said.1 else expected_at cvss scores said.0)
 
 -- the differences of the members of an object: one for each that says otherwise, in the order of their names
 abbrev pub record_differences : Cvss → Scores → Members → List Difference
@@ -58,30 +68,14 @@ pub record AreDifferences (cvss : Cvss) (object : Members) (differences : List D
   pub are_scores : AreScoresOf cvss scores
   pub are : differences ≡ record_differences cvss scores object
 
--- the difference of the member of this name, if there is one, in the list of differences
-abbrev pub differences_at : (Data → Option Difference) → List ℕ → Members → List Difference
-differences_at difference name object = option_to_list (option_and_then difference (get_member name object))
-
--- the difference of a number in the member of this name from so many tenths
-abbrev pub number_differences : List ℕ → ℕ → Members → List Difference
-number_differences name tenths object = differences_at (number_difference name tenths) name object
-
--- the difference of the member of this name from a text
-abbrev pub text_differences : List ℕ → List ℕ → Members → List Difference
-text_differences name expected object = differences_at (λ said. difference_from (name, said) (text expected)) name object
+-- the difference of the member of this name from what it is to say, if it is there
+abbrev pub differences_at : List ℕ → Claim → Members → List Difference
+differences_at name claim object =
+    option_to_list (option_and_then (λ said. option_and_then (difference_from (name, said)) (expected_by claim said)) (get_member name object))
 
 -- the rating of so many tenths, in lower case
 abbrev pub severity_text_of : Cvss → ℕ → List ℕ
-severity_text_of cvss tenths = severity_text (rating_by cvss (score_of_tenths tenths))
-
--- a severity differs if it is not the rating of so many tenths; `unknown` says nothing
-abbrev pub severity_difference : List ℕ → Cvss → ℕ → Data → Option Difference
-severity_difference name cvss tenths said =
-    if is_text (codes "unknown") said then None
-    else difference_from (name, said) (text (severity_text_of cvss tenths))
-
-abbrev pub severity_differences : List ℕ → Cvss → ℕ → Members → List Difference
-severity_differences name cvss tenths object = differences_at (severity_difference name cvss tenths) name object
+severity_text_of cvss count = severity_text (rating_by cvss (score_of_tenths count))
 
 -- the type that OSV gives the score of the vector
 abbrev pub osv_type : Cvss → List ℕ
@@ -100,16 +94,16 @@ method_of (CvssV40 _) = codes "CVSSv4"
 -- the difference of the base score in `metrics`, as grype has it
 abbrev pub metrics_differences : Scores → Option Members → List Difference
 metrics_differences scores None = []
-metrics_differences scores (Some metrics) = number_differences (codes "baseScore") scores.base metrics
+metrics_differences scores (Some metrics) = differences_at (codes "baseScore") (tenths scores.base) metrics
 
 -- the differences of a rating, as CycloneDX and grype have it
 abbrev pub given_rating_differences : Cvss → Scores → Members → List Difference
 given_rating_differences cvss scores object =
-    text_differences (codes "method") (method_of cvss) object
+    differences_at (codes "method") (word (method_of cvss)) object
     ++ (metrics_differences scores (object_at (codes "metrics") object)
-    ++ (number_differences (codes "score") scores.base object
-    ++ (severity_differences (codes "severity") cvss scores.base object
-    ++ text_differences (codes "version") (version_of cvss) object)))
+    ++ (differences_at (codes "score") (tenths scores.base) object
+    ++ (differences_at (codes "severity") (severity (severity_text_of cvss scores.base)) object
+    ++ differences_at (codes "version") (word (version_of cvss)) object)))
 
 -- the member in which Trivy gives the vector
 abbrev pub trivy_name : Cvss → List ℕ
@@ -118,29 +112,29 @@ trivy_name (CvssV30 _) = codes "V3Vector"
 trivy_name (CvssV31 _) = codes "V3Vector"
 trivy_name (CvssV40 _) = codes "V40Vector"
 
--- the name of the member that holds a vector, as Trivy has it, differs if it says another version
-abbrev pub holder_differences : Cvss → List ℕ → List Difference
-holder_differences cvss name = if bytes_eq name (trivy_name cvss) then [] else (name, string name, string (version_of cvss)) ∷ []
+-- the name of a member that says another version than the vector's
+abbrev pub wrong_name : Cvss → List ℕ → Bool → List Difference
+wrong_name cvss name is_wrong = if is_wrong then (name, string name, string (version_of cvss)) ∷ [] else []
 
 -- the differences of a vector and its score, as Trivy has them in members of these names
 abbrev pub trivy_differences : Cvss → Scores → List ℕ → List ℕ → Members → List Difference
 trivy_differences cvss scores score_name name object =
-    number_differences score_name scores.base object
-    ++ holder_differences cvss name
+    differences_at score_name (tenths scores.base) object
+    ++ wrong_name cvss name (not (bytes_eq name (trivy_name cvss)))
 
 -- the differences of a score and a severity, as SPDX 3 has them
 abbrev pub spdx_differences : Cvss → Scores → Members → List Difference
 spdx_differences cvss scores object =
-    number_differences (codes "security_score") scores.base object
-    ++ severity_differences (codes "security_severity") cvss scores.base object
+    differences_at (codes "security_score") (tenths scores.base) object
+    ++ differences_at (codes "security_severity") (severity (severity_text_of cvss scores.base)) object
 
 -- the differences of the members of an object that holds a vector in this form, in the order of their names: of a
 -- record, those of all its members; of GitHub's advisories, that of the score; of OSV's records, that of the type;
 -- RustSec's advisories say no more than the vector
 abbrev pub member_differences : Cvss → Scores → Form → Members → List Difference
 member_differences cvss scores Record object = record_differences cvss scores object
-member_differences cvss scores GitHub object = number_differences (codes "score") scores.base object
-member_differences cvss scores Osv object = text_differences (codes "type") (osv_type cvss) object
+member_differences cvss scores GitHub object = differences_at (codes "score") (tenths scores.base) object
+member_differences cvss scores Osv object = differences_at (codes "type") (word (osv_type cvss)) object
 member_differences cvss scores Rating object = given_rating_differences cvss scores object
 member_differences cvss scores TrivyV2 object = trivy_differences cvss scores (codes "V2Score") (codes "V2Vector") object
 member_differences cvss scores TrivyV3 object = trivy_differences cvss scores (codes "V3Score") (codes "V3Vector") object
@@ -163,15 +157,7 @@ names_of (CvssV40 _) = codes "cvssV4_0" ∷ codes "cvss_v4" ∷ []
 
 -- the name of the member that the object is differs if it says another version
 abbrev pub name_differences : Cvss → List ℕ → List Difference
-name_differences cvss name =
-    if is_among name version_names && not (is_among name (names_of cvss))
-    then (name, string name, string (version_of cvss)) ∷ []
-    else []
-
--- the difference of `baseSeverity` from the rating of so many tenths
-abbrev pub base_severity_differences : Cvss → ℕ → Members → List Difference
-base_severity_differences cvss tenths object =
-    differences_at (λ said. difference_from (codes "baseSeverity", said) (rating_expected cvss tenths)) (codes "baseSeverity") object
+name_differences cvss name = wrong_name cvss name (is_among name version_names && not (is_among name (names_of cvss)))
 
 -- the records of the version say ratings
 abbrev pub is_rated : Cvss → Bool
@@ -182,16 +168,18 @@ is_rated (CvssV40 _) = true
 
 -- NVD says the rating of a vector of CVSS v2 beside the member `cvssData` that holds the vector
 abbrev pub rating_differences : Cvss → ℕ → Around → List Difference
-rating_differences cvss tenths around =
-    if not (is_rated cvss) && bytes_eq (codes "cvssData") around.0 then base_severity_differences cvss tenths around.1 else []
+rating_differences cvss count around =
+    if not (is_rated cvss) && bytes_eq (codes "cvssData") around.0
+    then differences_at (codes "baseSeverity") (word (rating_word (rating_by cvss (score_of_tenths count)))) around.1
+    else []
 
 -- NVD says the sub-scores of a vector beside the member `cvssData` that holds it
 abbrev pub sub_score_differences : Option SubScores → Around → List Difference
 sub_score_differences None around = []
 sub_score_differences (Some reported) around =
     if bytes_eq (codes "cvssData") around.0
-    then number_differences (codes "exploitabilityScore") reported.exploitability around.1
-    ++ number_differences (codes "impactScore") reported.impact around.1
+    then differences_at (codes "exploitabilityScore") (tenths reported.exploitability) around.1
+    ++ differences_at (codes "impactScore") (tenths reported.impact) around.1
     else []
 
 -- the differences of what is around the object
@@ -212,6 +200,12 @@ pub record AreDifferencesAt (cvss : Cvss) (place : Place) (differences : List Di
   pub parts : Option SubScores
   pub are_parts : AreSubScoresOf cvss parts
   pub are : differences ≡ differences_of cvss scores parts place
+
+-- a claim, as the code holds it
+abbrev pub claim_view : code_claim.Claim → Claim
+claim_view (Number count) = tenths count
+claim_view (Text expected) = word expected.now
+claim_view (Severity expected) = severity expected.now
 
 -- what a member says, as the code holds it
 abbrev pub said_view : Said → Data

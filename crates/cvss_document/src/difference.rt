@@ -1,9 +1,9 @@
 //! Where an object disagrees with the vector in it.
 
-ghost use Rattle.std.specs.Prelude.{◌≡◌, ◌∷◌, [], IfOk, OnOk, map};
+ghost use Rattle.std.specs.Prelude.{◌≡◌, ◌∷◌, [], IfOk, OnOk, map, option_and_then, option_map};
 ghost use Rattle.std.specs.Option.{option_to_list};
 ghost use Rattle.cvss_any.specs.Answers.{HasScore};
-ghost use Rattle.cvss_document.specs.Differences.{AreDifferences, AreDifferencesAt, difference_at, difference_from, difference_view, member_differences, number_difference, number_differences, osv_type, record_differences, said_view, text_differences};
+ghost use Rattle.cvss_document.specs.Differences.{AreDifferences, AreDifferencesAt, claim_view, difference_at, difference_from, difference_view, differences_at, expected_by, member_differences, osv_type, record_differences, said_view, wrong_name};
 ghost use Rattle.cvss_document.specs.Expected.{expected_value};
 ghost use Rattle.cvss_document.specs.Places.{place_view};
 ghost use Rattle.cvss_document.specs.private.Views.{Adds};
@@ -16,6 +16,7 @@ use crate::ratings::{push_rating_members, push_spdx, push_trivy};
 use crate::sub_scores::SubScores;
 use crate::surroundings::push_around;
 use cvss_any::Cvss;
+use cvss_json_names::version;
 use cvss_json_record::{Expected, Scores};
 use serde_json::{Map, Value};
 use std::alloc::{AllocError, Global};
@@ -38,6 +39,17 @@ pub enum Said<'a> {
     Value(&'a Value),
     /// Its name, where that is what says otherwise.
     Name(&'a str),
+}
+
+/// What a member is to say.
+#[derive(Clone, Copy)]
+pub(crate) enum Claim {
+    /// So many tenths, if it is a number.
+    Number(u8),
+    /// This text.
+    Text(&'static str),
+    /// This rating, unless it is `unknown`.
+    Severity(&'static str),
 }
 
 /// The members of an object that say otherwise than the record of a vector, in the order of their
@@ -109,8 +121,8 @@ fn push_object<'a>(
     let object = place.object;
     match place.form {
         Form::Record => push_members(found, alloc, cvss, scores, object),
-        Form::GitHub => push_number(found, alloc, "score", scores.base, object),
-        Form::Osv => push_text(found, alloc, "type", osv_type(cvss), object),
+        Form::GitHub => push_at(found, alloc, "score", Claim::Number(scores.base), object),
+        Form::Osv => push_at(found, alloc, "type", Claim::Text(osv_type(cvss)), object),
         Form::Rating => push_rating_members(found, alloc, cvss, scores, object),
         Form::TrivyV2 => push_trivy(found, alloc, cvss, scores, ("V2Score", "V2Vector"), object),
         Form::TrivyV3 => push_trivy(found, alloc, cvss, scores, ("V3Score", "V3Vector"), object),
@@ -146,37 +158,44 @@ fn push_members<'a>(
     Ok(())
 }
 
-/// Adds the difference of the number in the member of this name from so many tenths, if there is one.
-pub(crate) fn push_number<'a>(
+/// Adds the difference of the member of this name from what it is to say, if it is there.
+pub(crate) fn push_at<'a>(
     found: &mut Vec<Difference<'a>>,
     alloc: Global,
     name: &'a str,
-    tenths: u8,
+    claim: Claim,
     object: &'a Map<String, Value>,
 ) -> Result<(), AllocError>
     ensures { OnOk result (Adds found.old.items
-        (number_differences name.now tenths (members_view object.now.entries)) found.new.items) }
+        (differences_at name.now (claim_view claim) (members_view object.now.entries))
+        found.new.items) }
 {
     match member(object, name) {
-        Some(said) => push_if_number(found, alloc, name, tenths, said),
+        Some(said) => push_if_other(found, alloc, name, said, expected_by(claim, said)),
         None => Ok(()),
     }
 }
 
-/// Adds the difference of the member of this name from a text, if it is there.
-pub(crate) fn push_text<'a>(
-    found: &mut Vec<Difference<'a>>,
-    alloc: Global,
-    name: &'a str,
-    expected: &'static str,
-    object: &'a Map<String, Value>,
-) -> Result<(), AllocError>
-    ensures { OnOk result (Adds found.old.items
-        (text_differences name.now expected.now (members_view object.now.entries)) found.new.items) }
+/// What is expected of a value by a claim, if anything is.
+fn expected_by(claim: Claim, said: &Value) -> Option<Expected>
+    ensures { option_map expected_view result ≡ expected_by (claim_view claim) (view said.now) }
 {
-    match member(object, name) {
-        Some(said) => push_if_other(found, alloc, name, said, Expected::Text(expected)),
-        None => Ok(()),
+    match claim {
+        Claim::Number(tenths) => {
+            if said.is_number() {
+                Some(Expected::Score(tenths))
+            } else {
+                None
+            }
+        }
+        Claim::Text(text) => Some(Expected::Text(text)),
+        Claim::Severity(text) => {
+            if said.as_str() == Some("unknown") {
+                None
+            } else {
+                Some(Expected::Text(text))
+            }
+        }
     }
 }
 
@@ -205,53 +224,53 @@ fn push_member<'a>(
         found.new.items) }
 {
     if name == "score" {
-        return push_if_number(found, alloc, "score", scores.base, said);
+        let expected = expected_by(Claim::Number(scores.base), said);
+        return push_if_other(found, alloc, name, said, expected);
     }
-    match expected_at(cvss, scores, name) {
-        Some(expected) => push_if_other(found, alloc, name, said, expected),
-        None => Ok(()),
-    }
-}
-
-/// Adds the difference of what a member says from so many tenths, if it is a number.
-fn push_if_number<'a>(
-    found: &mut Vec<Difference<'a>>,
-    alloc: Global,
-    name: &'a str,
-    tenths: u8,
-    said: &'a Value,
-) -> Result<(), AllocError>
-    ensures { OnOk result (Adds found.old.items
-        (option_to_list (number_difference name.now tenths (view said.now))) found.new.items) }
-{
-    if said.is_number() {
-        push_if_other(found, alloc, name, said, Expected::Score(tenths))
-    } else {
-        Ok(())
-    }
+    push_if_other(found, alloc, name, said, expected_at(cvss, scores, name))
 }
 
 /// Adds the difference between what is said and what is expected, if there is one.
-pub(crate) fn push_if_other<'a>(
+fn push_if_other<'a>(
     found: &mut Vec<Difference<'a>>,
     alloc: Global,
     member: &'a str,
     said: &'a Value,
-    expected: Expected,
+    expected: Option<Expected>,
 ) -> Result<(), AllocError>
     ensures { OnOk result (Adds found.old.items
-        (option_to_list (difference_from (member.now, view said.now) (expected_view expected)))
+        (option_to_list (option_and_then (difference_from (member.now, view said.now))
+        (option_map expected_view expected))) found.new.items) }
+{
+    let Some(expected) = expected else {
+        return Ok(());
+    };
+    if agrees(expected, said) {
+        return Ok(());
+    }
+    push_difference(found, alloc, member, Said::Value(said), expected)
+}
+
+/// Adds the name of a member, if it says another version than the vector's.
+pub(crate) fn push_name<'a>(
+    found: &mut Vec<Difference<'a>>,
+    alloc: Global,
+    cvss: &Cvss,
+    name: &'a str,
+    is_wrong: bool,
+) -> Result<(), AllocError>
+    ensures { OnOk result (Adds found.old.items (wrong_name cvss.now name.now is_wrong)
         found.new.items) }
 {
-    if agrees(expected, said) {
-        Ok(())
-    } else {
-        push_difference(found, alloc, member, Said::Value(said), expected)
+    if is_wrong {
+        let expected = Expected::Text(version(cvss));
+        return push_difference(found, alloc, name, Said::Name(name), expected);
     }
+    Ok(())
 }
 
 /// Adds the difference between what a member says and what is expected.
-pub(crate) fn push_difference<'a>(
+fn push_difference<'a>(
     found: &mut Vec<Difference<'a>>,
     alloc: Global,
     member: &'a str,

@@ -1,17 +1,16 @@
 //! Where ratings of CycloneDX, grype, Trivy and SPDX 3 disagree with the vector in them.
 
 ghost use Rattle.std.specs.Prelude.{◌≡◌, OnOk, option_map};
-ghost use Rattle.std.specs.Option.{option_to_list};
-ghost use Rattle.cvss_document.specs.Differences.{given_rating_differences, holder_differences, method_of, metrics_differences, severity_difference, severity_differences, severity_text_of, spdx_differences, trivy_differences, trivy_name};
+ghost use Rattle.cvss_document.specs.Differences.{claim_view, given_rating_differences, method_of, metrics_differences, severity, severity_text_of, spdx_differences, trivy_differences, trivy_name};
 ghost use Rattle.cvss_document.specs.private.Views.{Adds};
-ghost use Rattle.serde_json.specs.View.{members_view, view};
+ghost use Rattle.serde_json.specs.View.{members_view};
 
-use crate::difference::{Difference, Said, push_difference, push_if_other, push_number, push_text};
-use crate::place::{member, object_at};
+use crate::difference::{Claim, Difference, push_at, push_name};
+use crate::place::object_at;
 use cvss_any::Cvss;
 use cvss_base::TENTH;
 use cvss_json_names::version;
-use cvss_json_record::{Expected, Scores};
+use cvss_json_record::Scores;
 use serde_json::{Map, Value};
 use std::alloc::{AllocError, Global};
 
@@ -27,11 +26,11 @@ pub(crate) fn push_rating_members<'a>(
         (given_rating_differences cvss.now scores.now (members_view object.now.entries))
         found.new.items) }
 {
-    push_text(found, alloc, "method", method_of(cvss), object)?;
+    push_at(found, alloc, "method", Claim::Text(method_of(cvss)), object)?;
     push_metrics(found, alloc, scores, object_at(object, "metrics"))?;
-    push_number(found, alloc, "score", scores.base, object)?;
-    push_severity(found, alloc, cvss, scores.base, "severity", object)?;
-    push_text(found, alloc, "version", version(cvss), object)
+    push_at(found, alloc, "score", Claim::Number(scores.base), object)?;
+    push_at(found, alloc, "severity", severity(cvss, scores), object)?;
+    push_at(found, alloc, "version", Claim::Text(version(cvss)), object)
 }
 
 /// Adds the difference of the base score in `metrics`, as grype has it.
@@ -46,7 +45,13 @@ fn push_metrics<'a>(
         (option_map (λ object. members_view object.now.entries) metrics.entry)) found.new.items) }
 {
     match metrics {
-        Some(metrics) => push_number(found, alloc, "baseScore", scores.base, metrics),
+        Some(metrics) => push_at(
+            found,
+            alloc,
+            "baseScore",
+            Claim::Number(scores.base),
+            metrics,
+        ),
         None => Ok(()),
     }
 }
@@ -77,30 +82,8 @@ pub(crate) fn push_trivy<'a>(
         (trivy_differences cvss.now scores.now names.entry.0.now names.entry.1.now
         (members_view object.now.entries)) found.new.items) }
 {
-    push_number(found, alloc, names.0, scores.base, object)?;
-    push_holder(found, alloc, cvss, names.1)
-}
-
-/// Adds the difference of the name of the member that holds a vector, if it says another version.
-fn push_holder<'a>(
-    found: &mut Vec<Difference<'a>>,
-    alloc: Global,
-    cvss: &Cvss,
-    name: &'a str,
-) -> Result<(), AllocError>
-    ensures { OnOk result (Adds found.old.items (holder_differences cvss.now name.now)
-        found.new.items) }
-{
-    if name == trivy_name(cvss) {
-        return Ok(());
-    }
-    push_difference(
-        found,
-        alloc,
-        name,
-        Said::Name(name),
-        Expected::Text(version(cvss)),
-    )
+    push_at(found, alloc, names.0, Claim::Number(scores.base), object)?;
+    push_name(found, alloc, cvss, names.1, names.1 != trivy_name(cvss))
 }
 
 /// The member in which Trivy gives a vector.
@@ -125,57 +108,25 @@ pub(crate) fn push_spdx<'a>(
     ensures { OnOk result (Adds found.old.items
         (spdx_differences cvss.now scores.now (members_view object.now.entries)) found.new.items) }
 {
-    push_number(found, alloc, "security_score", scores.base, object)?;
-    push_severity(found, alloc, cvss, scores.base, "security_severity", object)
-}
-
-/// Adds the difference of the severity in the member of this name, if it is there.
-fn push_severity<'a>(
-    found: &mut Vec<Difference<'a>>,
-    alloc: Global,
-    cvss: &Cvss,
-    tenths: u8,
-    name: &'a str,
-    object: &'a Map<String, Value>,
-) -> Result<(), AllocError>
-    ensures { OnOk result (Adds found.old.items
-        (severity_differences name.now cvss.now tenths (members_view object.now.entries))
-        found.new.items) }
-{
-    match member(object, name) {
-        Some(said) => push_if_rated(found, alloc, cvss, tenths, name, said),
-        None => Ok(()),
-    }
-}
-
-/// Adds the difference of a severity, unless it is `unknown`.
-fn push_if_rated<'a>(
-    found: &mut Vec<Difference<'a>>,
-    alloc: Global,
-    cvss: &Cvss,
-    tenths: u8,
-    name: &'a str,
-    said: &'a Value,
-) -> Result<(), AllocError>
-    ensures { OnOk result (Adds found.old.items
-        (option_to_list (severity_difference name.now cvss.now tenths (view said.now)))
-        found.new.items) }
-{
-    if said.as_str() == Some("unknown") {
-        return Ok(());
-    }
-    push_if_other(
+    push_at(
         found,
         alloc,
-        name,
-        said,
-        Expected::Text(severity_text(cvss, tenths)),
+        "security_score",
+        Claim::Number(scores.base),
+        object,
+    )?;
+    push_at(
+        found,
+        alloc,
+        "security_severity",
+        severity(cvss, scores),
+        object,
     )
 }
 
-/// The rating of so many tenths, in lower case.
-fn severity_text(cvss: &Cvss, tenths: u8) -> &'static str
-    ensures { result.now ≡ severity_text_of cvss.now tenths }
+/// The rating of a vector's score, in lower case.
+fn severity(cvss: &Cvss, scores: &Scores) -> Claim
+    ensures { claim_view result ≡ severity (severity_text_of cvss.now scores.now.base) }
 {
-    cvss.severity_of(i128::from(tenths) * TENTH).as_str()
+    Claim::Severity(cvss.severity_of(i128::from(scores.base) * TENTH).as_str())
 }

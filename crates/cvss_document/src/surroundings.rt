@@ -1,17 +1,16 @@
 //! Where the surroundings of a record say otherwise than its vector: the name of the member that the
 //! record is, and the rating and the sub-scores beside it.
 
-ghost use Rattle.std.specs.Prelude.{◌≡◌, OnOk, option_map};
-ghost use Rattle.cvss_document.specs.Differences.{around_differences, is_rated, name_differences, names_of, rating_differences, sub_score_differences, version_names};
+ghost use Rattle.std.specs.Prelude.{◌≡◌, ◌&&◌, not, OnOk, option_map};
+ghost use Rattle.cvss_document.specs.Differences.{around_differences, is_rated, names_of, rating_differences, sub_score_differences, version_names};
 ghost use Rattle.cvss_document.specs.Places.{around_view, is_among};
 ghost use Rattle.cvss_document.specs.private.Views.{Adds};
 
-use crate::difference::{Difference, Said, push_difference, push_if_other, push_number};
-use crate::place::{Around, member};
+use crate::difference::{Claim, Difference, push_at, push_name};
+use crate::place::Around;
 use crate::sub_scores::SubScores;
 use cvss_any::Cvss;
-use cvss_json_names::version;
-use cvss_json_record::{Expected, Scores, rating};
+use cvss_json_record::{Scores, rating};
 use std::alloc::{AllocError, Global};
 
 /// Adds the differences of what is around an object.
@@ -30,26 +29,17 @@ pub(crate) fn push_around<'a>(
     let Some(around) = around else {
         return Ok(());
     };
-    push_name(found, alloc, cvss, around.name)?;
+    push_name(found, alloc, cvss, around.name, is_wrong(cvss, around.name))?;
     push_rating(found, alloc, cvss, scores.base, around)?;
     push_sub_scores(found, alloc, parts, around)
 }
 
-/// Adds the difference of the name of a member, if it says another version than the vector's.
-fn push_name<'a>(
-    found: &mut Vec<Difference<'a>>,
-    alloc: Global,
-    cvss: &Cvss,
-    name: &'a str,
-) -> Result<(), AllocError>
-    ensures { OnOk result (Adds found.old.items (name_differences cvss.now name.now) found.new.items) }
+/// Whether a member of this name says another version than the vector's.
+fn is_wrong(cvss: &Cvss, name: &str) -> bool
+    ensures { result ≡ is_among name.now version_names
+        && not (is_among name.now (names_of cvss.now)) }
 {
-    if reports_version(name) && !reports_version_of(cvss, name) {
-        let expected = Expected::Text(version(cvss));
-        push_difference(found, alloc, name, Said::Name(name), expected)
-    } else {
-        Ok(())
-    }
+    reports_version(name) && !reports_version_of(cvss, name)
 }
 
 /// Whether a member of this name says the version of what it holds.
@@ -89,13 +79,8 @@ fn push_rating<'a>(
     if is_rated(cvss) || around.name != "cvssData" {
         return Ok(());
     }
-    match member(around.object, "baseSeverity") {
-        Some(said) => {
-            let expected = Expected::Text(rating(cvss, tenths));
-            push_if_other(found, alloc, "baseSeverity", said, expected)
-        }
-        None => Ok(()),
-    }
+    let claim = Claim::Text(rating(cvss, tenths));
+    push_at(found, alloc, "baseSeverity", claim, around.object)
 }
 
 /// Whether records of the vector's version have ratings.
@@ -117,15 +102,21 @@ fn push_sub_scores<'a>(
 {
     match parts {
         Some(parts) if around.name == "cvssData" => {
-            let object = around.object;
-            push_number(
+            let exploitability = Claim::Number(parts.exploitability);
+            push_at(
                 found,
                 alloc,
                 "exploitabilityScore",
-                parts.exploitability,
-                object,
+                exploitability,
+                around.object,
             )?;
-            push_number(found, alloc, "impactScore", parts.impact, object)
+            push_at(
+                found,
+                alloc,
+                "impactScore",
+                Claim::Number(parts.impact),
+                around.object,
+            )
         }
         _ => Ok(()),
     }

@@ -1,5 +1,3 @@
-mod FieldFacts
-mod FieldLemmas
 pub mod PlainLemmas
 mod ReportingLemmas
 pub mod WordLemmas

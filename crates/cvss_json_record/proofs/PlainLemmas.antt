@@ -1,5 +1,5 @@
 -- Canonical texts and decimals need no escape in JSON.
-use Rattle.std.proofs.Common.{◌≡◌, ◌+◌, ◌/◌, ◌%◌, ◌<◌, ℕ, zero, suc, Bool, true, false, ◌&&◌, if◌then◌else◌, ◌==◌, ◌*◌, List, [], ◌∷◌, ◌++◌, codes, map, drop, take, Option, Some, None, decimal, option_map, pos, int_lt, unsigned_abs, refl, lt-ltb, ap, ap₂, ◌∙◌, arith, rules}
+use Rattle.std.proofs.Common.{◌≡◌, ◌+◌, ◌/◌, ◌%◌, ◌<◌, ℕ, zero, suc, Bool, true, false, ◌&&◌, if◌then◌else◌, ◌==◌, ◌*◌, List, [], ◌∷◌, ◌++◌, codes, map, nat_eq, Option, Some, None, decimal, option_map, pos, int_lt, unsigned_abs, refl, lt-ltb, ap, ap₂, ◌∙◌, arith, rules}
 use Rattle.std.specs.List.{cons_option, filter_map, list_all}
 use Rattle.std.specs.Fmt.{digits, digits_onto, digit_glyph}
 use Rattle.std.specs.Int.Digits.{AllBelowBase, digits_of}
@@ -14,11 +14,11 @@ use Rattle.cvss_base.specs.Version.{Version, canonical_text, component_of, compo
 use Rattle.cvss_base.specs.declared.v2.MetricType.TheVariants as metric_v2
 use Rattle.cvss_base.specs.declared.v3.MetricType.TheVariants as metric_v3
 use Rattle.cvss_base.specs.declared.v4.MetricType.TheVariants as metric_v4
-use Rattle.cvss_json_write.specs.Json.{decimal_text, place_count, places_text, seven_digits, tenths_text}
+use Rattle.cvss_json_write.specs.Json.{decimal_text, place_units, places, places_text, tenths_text}
 use Rattle.cvss_v2.specs.Vector.{v2}
 use Rattle.cvss_v3.specs.Vector.{v3}
 use Rattle.cvss_v4.specs.Vector.{v4}
-use Rattle.cvss_json_record.proofs.WordLemmas.{is_clear, is_plain}
+use Rattle.cvss_json_record.proofs.WordLemmas.{either, is_clear, is_plain}
 
 both : (one other : List ℕ) → is_plain one ≡ true → is_plain other ≡ true → is_plain (one ++ other) ≡ true
 both one other first second = list_all-append is_clear one other ∙ ap₂ (λ (a b : Bool). a && b) first second
@@ -28,47 +28,32 @@ both one other first second = list_all-append is_clear one other ∙ ap₂ (λ (
 digit_more : (d : ℕ) (digits : List ℕ) → d < 10 → is_plain digits ≡ true → is_plain ((48 + d) ∷ digits) ≡ true
 digit_more d digits small plain = ap₂ (λ (a b : Bool). a && b) (agree_below_at (λ x. is_clear (48 + x)) (λ _. true) 10 d refl small) plain
 
-plain_if : (b : Bool) (one other : List ℕ) → is_plain one ≡ true → is_plain other ≡ true → is_plain (if b then one else other) ≡ true
-plain_if true one other first second = first
-plain_if false one other first second = second
-
 plain_onto : (k n : ℕ) (digits : List ℕ) → is_plain digits ≡ true → is_plain (digits_onto k 10 false n digits) ≡ true
 plain_onto zero n digits plain = plain
 plain_onto (suc k) n digits plain =
     let longer : is_plain (digit_glyph false (n % 10) ∷ digits) ≡ true =
     ap (λ b. is_plain ((if b then 48 + n % 10 else 87 + n % 10) ∷ digits)) (lt-ltb (n % 10) 10 (omega arith)) ∙ digit_more (n % 10) digits (omega arith) plain in
-    plain_if (n / 10 == 0) (digit_glyph false (n % 10) ∷ digits) (digits_onto k 10 false (n / 10) (digit_glyph false (n % 10) ∷ digits)) longer
+    either (λ text. is_plain text ≡ true) (n / 10 == 0) (digit_glyph false (n % 10) ∷ digits) (digits_onto k 10 false (n / 10) (digit_glyph false (n % 10) ∷ digits)) longer
     (plain_onto k (n / 10) (digit_glyph false (n % 10) ∷ digits) longer)
 
 plain_decimal : (n : ℕ) → is_plain (decimal n) ≡ true
 unfolding digits
 plain_decimal n = plain_onto 64 n [] refl
 
-plain_take : (k : ℕ) (text : List ℕ) → is_plain text ≡ true → is_plain (take k text) ≡ true
-plain_take zero text plain = refl
-plain_take (suc k) [] plain = refl
-plain_take (suc k) (byte ∷ text) plain =
-    let parts = and_parts (is_clear byte) (is_plain text) plain in
-    ap₂ (λ (a b : Bool). a && b) parts.0 (plain_take k text parts.1)
-
-seven_plain : (n : ℕ) → is_plain (seven_digits n) ≡ true
-seven_plain n =
-    let one : (d k : ℕ) → d < 10 → is_plain (drop (k + 1) (seven_digits n)) ≡ true → is_plain ((48 + d) ∷ drop (k + 1) (seven_digits n)) ≡ true = λ d k. digit_more d (drop (k + 1) (seven_digits n)) in
-    one (n / 1_000_000 % 10) 0 (omega arith) (one (n / 100_000 % 10) 1 (omega arith) (one (n / 10_000 % 10) 2 (omega arith)
-    (one (n / 1000 % 10) 3 (omega arith) (one (n / 100 % 10) 4 (omega arith) (one (n / 10 % 10) 5 (omega arith) (one (n % 10) 6 (omega arith) refl))))))
-
-plain_places : (n : ℕ) → is_plain (places_text n) ≡ true
-unfolding places_text
-plain_places n = plain_take (place_count n) (seven_digits n) (seven_plain n)
+plain_places : (units : List ℕ) (n : ℕ) → is_plain (map (λ digit. 48 + digit) (places units n)) ≡ true
+plain_places [] n = refl
+plain_places (unit ∷ units) n =
+    digit_more (n / unit % 10) (map (λ digit. 48 + digit) (if nat_eq (n % unit) 0 then [] else places units n)) (omega arith)
+    (either (λ more. is_plain (map (λ digit. 48 + digit) more) ≡ true) (nat_eq (n % unit) 0) [] (places units n) refl (plain_places units n))
 
 pub plain_tenths : (tenths : ℕ) → is_plain (tenths_text tenths) ≡ true
-unfolding decimal_text
+unfolding decimal_text places_text
 plain_tenths tenths =
     let count = pos (tenths * 1_000_000) in
-    both (if int_lt count (pos 0) then codes "-" else []) (decimal (unsigned_abs count / 10_000_000) ++ 46 ∷ places_text (unsigned_abs count % 10_000_000))
-    (plain_if (int_lt count (pos 0)) (codes "-") [] refl refl)
-    (both (decimal (unsigned_abs count / 10_000_000)) (46 ∷ places_text (unsigned_abs count % 10_000_000)) (plain_decimal (unsigned_abs count / 10_000_000))
-    (plain_places (unsigned_abs count % 10_000_000)))
+    let places = places_text place_units (unsigned_abs count % 10_000_000) in
+    both (if int_lt count (pos 0) then codes "-" else []) (decimal (unsigned_abs count / 10_000_000) ++ 46 ∷ places)
+    (either (λ sign. is_plain sign ≡ true) (int_lt count (pos 0)) (codes "-") [] refl refl)
+    (both (decimal (unsigned_abs count / 10_000_000)) (46 ∷ places) (plain_decimal (unsigned_abs count / 10_000_000)) (plain_places place_units (unsigned_abs count % 10_000_000)))
 
 -- ---- canonical texts
 

@@ -1,7 +1,6 @@
 -- A record's text gives the text of its vector: it is the string after the name `vectorString`.
 use Rattle.std.proofs.Common.{◌≡◌, ◌↔◌, ℕ, Bool, true, false, not, ◌&&◌, if◌then◌else◌, nat_eq, List, [], ◌∷◌, ◌++◌, codes, All, Option, Some, None, bytes_eq, option_and_then, option_map, refl, sym, ap, ◌∙◌, append_assoc}
 use Rattle.std.specs.List.{cons_option, filter_map, list_any, slice_split}
-use Rattle.std.specs.Fmt.{digits}
 use Rattle.std.specs.Prelude.{leb}
 use Rattle.std.proofs.lemmas.Bool.{and_parts, not-true}
 use Rattle.std.proofs.lemmas.List.Splits.{slice_split_at}
@@ -14,12 +13,12 @@ use Rattle.cvss_any.specs.declared.vector.Cvss.TheVariants.{CvssV20}
 use Rattle.cvss_laws.specs.any.GivenBack.{IsGivenBack}
 use Rattle.cvss_json_write.specs.Json.{Member, comma_if, member_text, rest_of_object, string_text, tenths_text}
 use Rattle.cvss_json_record.specs.Fields.{fields_of, name_of}
-use Rattle.cvss_json_record.specs.Record.{Expected, text, score, nothing, IsRecordText, expected_of, expected_text, member_at, reports_group, value_at}
+use Rattle.cvss_json_record.specs.Record.{Expected, text, score, nothing, IsRecordText, expected_of, expected_text, has_member, member_at}
 use Rattle.cvss_json_record.specs.declared.field.Field.{Field}
-use Rattle.cvss_json_record.specs.declared.field.Field.TheVariants.{V2, V3, V4, Score, Rating, Text, Version}
+use Rattle.cvss_json_record.specs.declared.field.Field.TheVariants.{Text}
 use Rattle.cvss_json_record.specs.declared.score.Scores.{Scores}
 use Rattle.cvss_json_record.proofs.PlainLemmas.{plain_text, plain_tenths}
-use Rattle.cvss_json_record.proofs.WordLemmas.{expected_fits, is_clear, is_expected, is_other, is_plain, is_text, name_fits}
+use Rattle.cvss_json_record.proofs.WordLemmas.{either, expected_fits, is_clear, is_expected, is_other, is_plain, is_text, name_fits}
 
 abbrev is_quote : ℕ → Bool
 is_quote byte = nat_eq byte 34
@@ -68,38 +67,25 @@ number_cut front comma name number rest = simp append_assoc refl
 number_front : (number : List ℕ) → is_plain number ≡ true → is_other ((58 ∷ number) ++ comma_if true) ≡ true
 number_front number plain = ap (λ b. b && true) (list_all-append is_clear number (44 ∷ []) ∙ ap (λ b. b && true) plain)
 
-data IsValue : Option (List ℕ) → Type 0 where
-  absent : IsValue None
-  string : (word : List ℕ) → is_other word ≡ true → IsValue (Some (string_text word))
-  number : (digits : List ℕ) → is_plain digits ≡ true → IsValue (Some digits)
-
 -- the text is found after this front and these members
 abbrev Finds : List ℕ → List Member → Type 0
 Finds reported members = (front : List ℕ) (later : Bool) → is_other (front ++ comma_if later) ≡ true → text_in (front ++ rest_of_object later members) ≡ Some reported
 
-found_later : (reported : List ℕ) (name : List ℕ) (value : Option (List ℕ)) (members : List Member) → is_other name ≡ true → IsValue value → Finds reported members
-    → Finds reported (cons_option (option_map (λ each. (name, each)) value) members)
-found_later reported name value members named (absent) finds front later other = finds front later other
-found_later reported name value members named (string word fits) finds front later other =
+found_later : (reported name : List ℕ) (said : Option Expected) (members : List Member) → is_other name ≡ true → is_expected said ≡ true → Finds reported members
+    → Finds reported (cons_option (option_map (λ each. (name, each)) (option_and_then expected_text said)) members)
+found_later reported name None members named fits finds front later other = finds front later other
+found_later reported name (Some nothing) members named fits finds front later other = finds front later other
+found_later reported name (Some (text word)) members named fits finds front later other =
     ap text_in (string_cut front (comma_if later) name word (rest_of_object true members))
     ∙ pass (front ++ comma_if later) (name ++ 34 ∷ (58 ∷ 34 ∷ (word ++ 34 ∷ rest_of_object true members))) other
     ∙ pass name (58 ∷ 34 ∷ (word ++ 34 ∷ rest_of_object true members)) named ∙ pass (58 ∷ []) (word ++ 34 ∷ rest_of_object true members) refl
-    ∙ pass word (rest_of_object true members) fits ∙ finds [] true refl
-found_later reported name value members named (number digits plain) finds front later other =
+    ∙ pass word (rest_of_object true members) (and_parts _ _ fits).1 ∙ finds [] true refl
+found_later reported name (Some (score tenths)) members named fits finds front later other =
+    let digits = tenths_text tenths in
     ap text_in (number_cut front (comma_if later) name digits (rest_of_object true members))
     ∙ pass (front ++ comma_if later) (name ++ 34 ∷ ((58 ∷ digits) ++ rest_of_object true members)) other
     ∙ pass name ((58 ∷ digits) ++ rest_of_object true members) named
-    ∙ finds (58 ∷ digits) true (number_front digits plain)
-
-expected_value : (expected : Option Expected) → is_expected expected ≡ true → IsValue (option_and_then expected_text expected)
-expected_value None fits = absent
-expected_value (Some (text reported)) fits = string reported (and_parts _ _ fits).1
-expected_value (Some (score tenths)) fits = number (tenths_text tenths) (plain_tenths tenths)
-expected_value (Some nothing) fits = absent
-
-value_if : (b : Bool) (value : Option (List ℕ)) → IsValue value → IsValue (if b then value else None)
-value_if true value is = is
-value_if false value is = absent
+    ∙ finds (58 ∷ digits) true (number_front digits (plain_tenths tenths))
 
 module _ (cvss : Cvss) (scores : Scores) where
   abbrev members_of : List Field → List Member
@@ -107,17 +93,11 @@ module _ (cvss : Cvss) (scores : Scores) where
 
   -- another member than the vector's text
   found_after : (field : Field) (fields : List Field) → is_text field ≡ false → Finds (text_of cvss) (members_of fields) → Finds (text_of cvss) (members_of (field ∷ fields))
-  found_after (V2 kind) fields other finds = found_later (text_of cvss) (name_of (V2 kind)) (value_at cvss scores (V2 kind)) (members_of fields) (name_fits (V2 kind) refl) (expected_value (expected_of cvss scores (V2 kind)) (expected_fits cvss scores (V2 kind))) finds
-  found_after (V3 kind) fields other finds = found_later (text_of cvss) (name_of (V3 kind)) (value_at cvss scores (V3 kind)) (members_of fields) (name_fits (V3 kind) refl) (expected_value (expected_of cvss scores (V3 kind)) (expected_fits cvss scores (V3 kind))) finds
-  found_after (V4 kind) fields other finds = found_later (text_of cvss) (name_of (V4 kind)) (value_at cvss scores (V4 kind)) (members_of fields) (name_fits (V4 kind) refl) (expected_value (expected_of cvss scores (V4 kind)) (expected_fits cvss scores (V4 kind))) finds
-  found_after (Score group) fields other finds =
-      found_later (text_of cvss) (name_of (Score group)) (value_at cvss scores (Score group)) (members_of fields) (name_fits (Score group) refl)
-      (value_if (reports_group cvss group) (option_and_then expected_text (expected_of cvss scores (Score group))) (expected_value (expected_of cvss scores (Score group)) (expected_fits cvss scores (Score group)))) finds
-  found_after (Rating group) fields other finds =
-      found_later (text_of cvss) (name_of (Rating group)) (value_at cvss scores (Rating group)) (members_of fields) (name_fits (Rating group) refl)
-      (value_if (reports_group cvss group) (option_and_then expected_text (expected_of cvss scores (Rating group))) (expected_value (expected_of cvss scores (Rating group)) (expected_fits cvss scores (Rating group)))) finds
   found_after Text fields other finds = absurd (cc)
-  found_after Version fields other finds = found_later (text_of cvss) (name_of Version) (value_at cvss scores Version) (members_of fields) (name_fits Version refl) (expected_value (expected_of cvss scores Version) (expected_fits cvss scores Version)) finds
+  found_after field fields other finds =
+      either (λ said. Finds (text_of cvss) (cons_option (option_map (λ each. (name_of field, each)) (option_and_then expected_text said)) (members_of fields)))
+      (has_member cvss field) (expected_of cvss scores field) None
+      (found_later (text_of cvss) (name_of field) (expected_of cvss scores field) (members_of fields) (name_fits field other) (expected_fits cvss scores field) finds) finds
 
   found_in : (fields : List Field) → list_any is_text fields ≡ true → Finds (text_of cvss) (members_of fields)
   found_in [] has = λ front later other. absurd (cc)
@@ -125,12 +105,7 @@ module _ (cvss : Cvss) (scores : Scores) where
       ap text_in (string_cut front (comma_if later) (codes "vectorString") (text_of cvss) (rest_of_object true (members_of fields)))
       ∙ pass (front ++ comma_if later) (codes "vectorString" ++ 34 ∷ (58 ∷ 34 ∷ (text_of cvss ++ 34 ∷ rest_of_object true (members_of fields)))) other
       ∙ found (text_of cvss) (rest_of_object true (members_of fields)) (plain_text cvss)
-  found_in (V2 kind ∷ fields) has = found_after (V2 kind) fields refl (found_in fields has)
-  found_in (V3 kind ∷ fields) has = found_after (V3 kind) fields refl (found_in fields has)
-  found_in (V4 kind ∷ fields) has = found_after (V4 kind) fields refl (found_in fields has)
-  found_in (Score group ∷ fields) has = found_after (Score group) fields refl (found_in fields has)
-  found_in (Rating group ∷ fields) has = found_after (Rating group) fields refl (found_in fields has)
-  found_in (Version ∷ fields) has = found_after Version fields refl (found_in fields has)
+  found_in (field ∷ fields) has = found_after field fields refl (found_in fields has)
 
 has_text : (cvss : Cvss) → list_any is_text (fields_of cvss) ≡ true
 has_text (CvssV20 _) = refl

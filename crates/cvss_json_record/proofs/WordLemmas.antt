@@ -1,11 +1,10 @@
 -- The names and words of members are short, need no escape in JSON, and are not the name of the vector's text.
-use Rattle.std.proofs.Common.{◌≡◌, ◌≤◌, ℕ, Bool, true, false, not, ◌&&◌, if◌then◌else◌, nat_eq, List, [], ◌∷◌, codes, length, Option, Some, None, bytes_eq, option_map, refl, ap, ◌∙◌, arith}
+use Rattle.std.proofs.Common.{◌≡◌, ◌≤◌, ℕ, Bool, true, false, not, ◌&&◌, ◌||◌, if◌then◌else◌, nat_eq, List, [], ◌∷◌, codes, length, Option, Some, None, bytes_eq, option_map, refl, sym, ap, ◌∙◌}
 use Rattle.std.specs.List.{list_all}
 use Rattle.std.specs.Prelude.{leb}
-use Rattle.std.proofs.lemmas.Bool.{and_parts}
-use Rattle.std.proofs.lemmas.Bool.Decides.{nat_tests}
+use Rattle.std.proofs.lemmas.Bool.{and_parts, leb-true}
 use Rattle.cvss_any.specs.declared.vector.Cvss.{Cvss}
-use Rattle.cvss_any.specs.declared.vector.Cvss.TheVariants.{CvssV20, CvssV30, CvssV31, CvssV40}
+use Rattle.cvss_any.specs.declared.vector.Cvss.TheVariants.{CvssV20}
 use Rattle.cvss_base.specs.declared.severity.Severity.{Severity}
 use Rattle.cvss_base.specs.declared.severity.Severity.TheVariants as severity
 use Rattle.cvss_base.specs.declared.v2.MetricType as type_v2
@@ -19,10 +18,9 @@ use Rattle.cvss_json_names.specs.Words.{Row, word_in}
 use Rattle.cvss_json_names.specs.WordsV2 as words_v2
 use Rattle.cvss_json_names.specs.WordsV3 as words_v3
 use Rattle.cvss_json_names.specs.WordsV4 as words_v4
-use Rattle.cvss_json_record.specs.Fields.{fields_of, name_of}
+use Rattle.cvss_json_record.specs.Fields.{name_of}
 use Rattle.cvss_json_record.specs.Groups.{tenths_at}
-use Rattle.cvss_json_record.specs.Record.{Expected, text, score, nothing, expected_of, rating_expected, rating_word, spelled_at, word_expected}
-use Rattle.cvss_json_record.specs.private.Room.{fields_room}
+use Rattle.cvss_json_record.specs.Record.{Expected, text, score, expected_of, rating_expected, rating_word, spelled_at, word_expected}
 use Rattle.cvss_json_record.specs.declared.field.Field.{Field}
 use Rattle.cvss_json_record.specs.declared.field.Field.TheVariants.{V2, V3, V4, Score, Rating, Text, Version}
 use Rattle.cvss_json_record.specs.declared.group.Group.TheVariants.{Base}
@@ -59,23 +57,22 @@ words_v4_fit : (kind : type_v4.MetricType) → are_words (words_v4.entry_of kind
 words_v4_fit kind_v4.AV = refl
 words_v4_fit _ = refl
 
-either : (test : List ℕ → Bool) (b : Bool) (one other : List ℕ) → test one ≡ true → test other ≡ true → test (if b then one else other) ≡ true
-either test true one other first second = first
-either test false one other first second = second
+-- what holds of both holds of either
+pub either : {A : Type 0} (P : A → Type 0) (b : Bool) (one other : A) → P one → P other → P (if b then one else other)
+either P true one other first second = first
+either P false one other first second = second
 
 -- a test that each word passes is passed by the word of a value, and by none
 within : (test : List ℕ → Bool) (rows : List Row) (spelling : List ℕ) → test [] ≡ true → list_all (λ row. test row.1) rows ≡ true → test (word_in rows spelling) ≡ true
 within test [] spelling none all = none
 within test (row ∷ rows) spelling none all =
     let both = and_parts (test row.1) (list_all (λ each. test each.1) rows) all in
-    either test (bytes_eq row.0 spelling) row.1 (word_in rows spelling) both.0 (within test rows spelling none both.1)
+    either (λ word. test word ≡ true) (bytes_eq row.0 spelling) row.1 (word_in rows spelling) both.0 (within test rows spelling none both.1)
 
 -- what a member may say
 abbrev pub is_expected : Option Expected → Bool
-is_expected None = true
 is_expected (Some (text reported)) = is_word 16 reported
-is_expected (Some (score tenths)) = true
-is_expected (Some nothing) = true
+is_expected _ = true
 
 word_fits : (entry : List ℕ × List Row) (spelling : Option (List ℕ)) → are_words entry ≡ true → is_expected (Some (word_expected entry.1 spelling)) ≡ true
 word_fits entry None fit = refl
@@ -85,13 +82,9 @@ rating_fits : (rating : Severity) → is_word 16 (rating_word rating) ≡ true
 rating_fits severity.None = refl
 rating_fits _ = refl
 
-score_expected_fits : (tenths : Option ℕ) → is_expected (option_map score tenths) ≡ true
-score_expected_fits None = refl
-score_expected_fits (Some tenths) = refl
-
-rating_expected_fits : (cvss : Cvss) (tenths : Option ℕ) → is_expected (option_map (rating_expected cvss) tenths) ≡ true
-rating_expected_fits cvss None = refl
-rating_expected_fits cvss (Some tenths) = rating_fits _
+mapped_fits : (f : ℕ → Expected) (tenths : Option ℕ) → ((each : ℕ) → is_expected (Some (f each)) ≡ true) → is_expected (option_map f tenths) ≡ true
+mapped_fits f None fits = refl
+mapped_fits f (Some tenths) fits = fits tenths
 
 version_fits : (cvss : Cvss) → is_word 16 (version_of cvss) ≡ true
 version_fits (CvssV20 _) = refl
@@ -101,56 +94,34 @@ pub expected_fits : (cvss : Cvss) (scores : Scores) (field : Field) → is_expec
 expected_fits cvss scores (V2 kind) = word_fits (words_v2.entry_of kind) (spelled_at cvss (V2 kind)) (words_v2_fit kind)
 expected_fits cvss scores (V3 kind) = word_fits (words_v3.entry_of kind) (spelled_at cvss (V3 kind)) (words_v3_fit kind)
 expected_fits cvss scores (V4 kind) = word_fits (words_v4.entry_of kind) (spelled_at cvss (V4 kind)) (words_v4_fit kind)
-expected_fits cvss scores (Score group) = score_expected_fits (tenths_at scores group)
-expected_fits cvss scores (Rating group) = rating_expected_fits cvss (tenths_at scores group)
+expected_fits cvss scores (Score group) = mapped_fits score (tenths_at scores group) (λ _. refl)
+expected_fits cvss scores (Rating group) = mapped_fits (rating_expected cvss) (tenths_at scores group) (λ _. rating_fits _)
 expected_fits cvss scores Text = refl
 expected_fits cvss scores Version = version_fits cvss
-
-name_within : (entry : List ℕ × List Row) → are_words entry ≡ true → leb (length entry.0) 40 ≡ true
-name_within entry fit = (and_parts _ _ (and_parts _ _ fit).0).0
-
-short_name : (field : Field) → leb (length (name_of field)) 40 ≡ true
-short_name (V2 kind) = name_within (words_v2.entry_of kind) (words_v2_fit kind)
-short_name (V3 kind) = name_within (words_v3.entry_of kind) (words_v3_fit kind)
-short_name (V4 kind) = name_within (words_v4.entry_of kind) (words_v4_fit kind)
-short_name (Score Base) = refl
-short_name (Score _) = refl
-short_name (Rating Base) = refl
-short_name (Rating _) = refl
-short_name Text = refl
-short_name Version = refl
 
 -- the member is that of the vector's text
 abbrev pub is_text : Field → Bool
 is_text Text = true
 is_text _ = false
 
-name_other : (entry : List ℕ × List Row) → are_words entry ≡ true → is_other entry.0 ≡ true
-name_other entry fit = (and_parts _ _ (and_parts _ _ fit).0).1
+-- no name is longer than 40 bytes
+name_word : (field : Field) → (leb (length (name_of field)) 40 && (is_text field || is_other (name_of field))) ≡ true
+name_word (V2 kind) = (and_parts _ _ (words_v2_fit kind)).0
+name_word (V3 kind) = (and_parts _ _ (words_v3_fit kind)).0
+name_word (V4 kind) = (and_parts _ _ (words_v4_fit kind)).0
+name_word (Score Base) = refl
+name_word (Score _) = refl
+name_word (Rating Base) = refl
+name_word _ = refl
 
 pub name_fits : (field : Field) → is_text field ≡ false → is_other (name_of field) ≡ true
-name_fits (V2 kind) other = name_other (words_v2.entry_of kind) (words_v2_fit kind)
-name_fits (V3 kind) other = name_other (words_v3.entry_of kind) (words_v3_fit kind)
-name_fits (V4 kind) other = name_other (words_v4.entry_of kind) (words_v4_fit kind)
-name_fits (Score Base) other = refl
-name_fits (Score _) other = refl
-name_fits (Rating Base) other = refl
-name_fits (Rating _) other = refl
-name_fits Text other = absurd (cc)
-name_fits Version other = refl
+name_fits field other = ap (λ text. text || is_other (name_of field)) (sym other) ∙ (and_parts _ _ (name_word field)).1
 
--- no name is longer than 40 bytes, and no text that a member says, the vector's aside, than 16
 pub name_short : (field : Field) → length (name_of field) ≤ 40
-name_short field = grind (arith, nat_tests, short_name field)
+name_short field = leb-true _ _ (and_parts _ _ (name_word field)).0
 
+-- no text that a member says, the vector's aside, is longer than 16 bytes
 pub text_short : (cvss : Cvss) (scores : Scores) (field : Field) (reported : List ℕ) → Some (text reported) ≡ expected_of cvss scores field → length reported ≤ 16
 text_short cvss scores field reported is =
     let fit : is_word 16 reported ≡ true = ap is_expected is ∙ expected_fits cvss scores field in
-    grind (arith, nat_tests, (and_parts (leb (length reported) 16) (is_other reported) fit).0)
-
--- all members of a record have room on a page
-pub fields_fit : (cvss : Cvss) → fields_room (fields_of cvss) ≤ 4000
-fields_fit (CvssV20 _) = omega arith
-fields_fit (CvssV30 _) = omega arith
-fields_fit (CvssV31 _) = omega arith
-fields_fit (CvssV40 _) = omega arith
+    leb-true _ _ (and_parts (leb (length reported) 16) (is_other reported) fit).0

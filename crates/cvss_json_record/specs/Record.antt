@@ -90,10 +90,14 @@ has_member cvss (Score group) = reports_group cvss group
 has_member cvss (Rating group) = reports_group cvss group
 has_member cvss _ = true
 
+-- what the record says in a member, the vector's text aside, if it has the member
+abbrev pub said_at : Cvss → Scores → Field → Option Expected
+said_at cvss scores field = if has_member cvss field then expected_of cvss scores field else None
+
 -- the value of a member of the vector's record, as JSON, if the record has it
 abbrev pub value_at : Cvss → Scores → Field → Option (List ℕ)
 value_at cvss scores Text = Some (string_text (text_of cvss))
-value_at cvss scores field = if has_member cvss field then option_and_then expected_text (expected_of cvss scores field) else None
+value_at cvss scores field = option_and_then expected_text (said_at cvss scores field)
 
 -- the member, if the record has it
 abbrev pub member_at : Cvss → Scores → Field → Option Member

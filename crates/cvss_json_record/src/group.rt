@@ -44,26 +44,17 @@ impl Group {
         }
     }
 
-    /// Whether the vector's record has the group's score: that of an optional group where the vector
-    /// has a metric of it.
+    /// Whether the vector's record has the group's score: that of an optional group where the
+    /// vector has a metric of it, be it that the metric is not defined. Of CVSS v4.0, whose score
+    /// is one, none counts.
     pub(crate) fn is_reported(self, cvss: &Cvss) -> bool
         ensures { result ≡ reports_group cvss.now self }
     {
-        match self {
-            Group::Base => true,
-            Group::Temporal | Group::Environmental => self.is_in(cvss),
-        }
-    }
-
-    /// Whether a vector has an optional metric of the group, be it that the metric is not defined. Of
-    /// CVSS v4.0, whose score is one, none counts.
-    fn is_in(self, cvss: &Cvss) -> bool
-        ensures { result ≡ has_group cvss.now self }
-    {
-        match cvss {
-            Cvss::CvssV20(vector) => self.is_in_v2(vector),
-            Cvss::CvssV30(vector) | Cvss::CvssV31(vector) => self.is_in_v3(vector),
-            Cvss::CvssV40(_) => false,
+        match (self, cvss) {
+            (Group::Base, _) => true,
+            (_, Cvss::CvssV20(vector)) => self.is_in_v2(vector),
+            (_, Cvss::CvssV30(vector) | Cvss::CvssV31(vector)) => self.is_in_v3(vector),
+            (_, Cvss::CvssV40(_)) => false,
         }
     }
 

@@ -1,10 +1,11 @@
 //! The record of a vector, as JSON text.
 
-ghost use Rattle.std.specs.Prelude.{◌≡◌, ◌+◌, ◌≤◌, [], ◌++◌, List, false, codes, filter_map, length};
+ghost use Rattle.std.specs.Prelude.{◌≡◌, ◌+◌, ◌≤◌, [], ◌++◌, List, false, IfSome, codes, filter_map, length, option_and_then, option_map};
 ghost use Rattle.std.specs.List.{cons_option};
 ghost use Rattle.cvss_any.specs.Answers.{HasScore};
 ghost use Rattle.cvss_json_write.specs.Json.{Member, rest_of_object};
-ghost use Rattle.cvss_json_record.specs.Record.{IsRecordText, has_member, member_at};
+ghost use Rattle.cvss_json_write.specs.Scalars.{scalar_room, scalar_text};
+ghost use Rattle.cvss_json_record.specs.Record.{IsRecordText, expected_text, has_member, member_at, said_at};
 ghost use Rattle.cvss_json_record.specs.private.Room.{field_room, fields_room};
 
 use crate::expected::{Expected, expected_of};
@@ -41,6 +42,7 @@ fn put_fields(page: &mut Page, cvss: &Cvss, scores: &Scores, fields: &[Field])
 }
 
 /// Writes a member, if the record has it, and returns whether members are written now.
+#[tactic(auto, using(crate::proofs::WordLemmas::name_short))]
 fn put_field(page: &mut Page, later: bool, cvss: &Cvss, scores: &Scores, field: Field) -> bool
     requires { length page.old + field_room field ≤ 4096 }
     ensures text { (more : List Member) → page.new ++ rest_of_object result more
@@ -51,19 +53,29 @@ fn put_field(page: &mut Page, later: bool, cvss: &Cvss, scores: &Scores, field: 
         put_vector_member(page, later, "vectorString", cvss);
         return true;
     }
-    if !has_member(cvss, field) {
-        return later;
+    match value_at(cvss, scores, field) {
+        Some(value) => {
+            put_member(page, later, field.name(), value);
+            true
+        }
+        None => later,
     }
-    match expected_of(cvss, scores, field) {
-        Some(Expected::Text(text)) => {
-            put_member(page, later, field.name(), Scalar::Text(text));
-            true
-        }
-        Some(Expected::Score(tenths)) => {
-            put_member(page, later, field.name(), Scalar::Tenths(tenths));
-            true
-        }
-        _ => later,
+}
+
+/// The value of a member, the vector's text aside, if the record has it.
+#[tactic(auto, using(crate::proofs::WordLemmas::text_short))]
+fn value_at(cvss: &Cvss, scores: &Scores, field: Field) -> Option<Scalar>
+    ensures text { option_map scalar_text result
+        ≡ option_and_then expected_text (said_at cvss.now scores.now field) }
+    ensures room { IfSome result (λ value. scalar_room value ≤ 32) }
+{
+    if !has_member(cvss, field) {
+        return None;
+    }
+    match expected_of(cvss, scores, field)? {
+        Expected::Text(text) => Some(Scalar::Text(text)),
+        Expected::Score(tenths) => Some(Scalar::Tenths(tenths)),
+        Expected::Nothing => None,
     }
 }
 

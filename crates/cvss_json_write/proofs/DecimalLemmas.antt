@@ -1,148 +1,96 @@
--- The places of a decimal, as the code writes them.
-use Rattle.std.proofs.Common.{◌≡◌, ◌≢◌, ◌<◌, ◌≤◌, ◌+◌, ◌-◌, ◌*◌, ◌/◌, ◌%◌, ◌^◌, ℕ, Bool, true, false, if◌then◌else◌, nat_eq, ℤ, pos, int_lt, unsigned_abs, List, [], ◌∷◌, ◌++◌, All, codes, decimal, length, map, slice_index, take, refl, ap, ◌∙◌, arith}
+-- The places of a decimal are its digits.
+use Rattle.std.proofs.Common.{◌≡◌, ◌≢◌, ◌<◌, ◌+◌, ◌-◌, ◌*◌, ◌/◌, ◌%◌, ◌^◌, ℕ, zero, suc, if◌then◌else◌, nat_eq, ℤ, unsigned_abs, List, [], ◌∷◌, fold, length, slice_index, refl, sym, ap, ◌∙◌, arith}
+use Rattle.std.proofs.Math.Arith.{mod-mul}
+use Rattle.std.proofs.Math.Nat.{div-div-eq-div-mul, mul_assoc, pow-suc, pow-succ'}
+use Rattle.std.proofs.lemmas.Bool.{cond_both, eqb-true}
 use Rattle.std.proofs.lemmas.Bool.Decides.{nat_tests}
+use Rattle.std.proofs.lemmas.Nat.{div-add-mod'}
 use Rattle.std.proofs.lemmas.List.Elements.{All-from_recursion}
 use Rattle.std.specs.List.{AllByRecursion}
-use Rattle.cvss_json_write.specs.Json.{decimal_text, places_text, seven_digits}
-use Rattle.cvss_json_write.specs.laws.Decimals.{IsShortestDecimal, number_of}
+use Rattle.cvss_json_write.specs.Json.{decimal_text, place_units, places, places_text}
+use Rattle.cvss_json_write.specs.laws.Decimals.{IsShortestDecimal}
 
--- the text has the places of so many ten-millionths, less than one
-record ArePlaces (n : ℕ) (text : List ℕ) : Type 0 where
-  places : List ℕ
-  written : text ≡ map (λ digit. 48 + digit) places
-  digits : All (λ digit. digit < 10) places
-  value : number_of places * 10_000_000 ≡ n * 10 ^ length places
-  any_place : 1 ≤ length places
-  shortest : 1 < length places → slice_index places (length places - 1) ≢ 0
+by_test : (P : List ℕ → Type 0) (m : ℕ) (x y : List ℕ) → (m ≡ 0 → P x) → (0 < m → P y) → P (if nat_eq m 0 then x else y)
+by_test P m x y first second =
+    cond_both (nat_eq m 0) x y P (λ is. first (eqb-true m 0 is)) (λ is. second (grind (arith, nat_tests, is)))
 
-is_zero : (m : ℕ) → nat_eq m 0 ≡ true → m ≡ 0
-is_zero m is = grind (arith, nat_tests, is)
+-- the first of several is not the last
+last_later : (digit : ℕ) (rest : List ℕ) → 0 < length rest → slice_index (digit ∷ rest) (length (digit ∷ rest) - 1) ≡ slice_index rest (length rest - 1)
+last_later digit [] some = absurd (omega (arith, some))
+last_later digit (next ∷ rest) some =
+    let before : length (digit ∷ next ∷ rest) - 1 ≡ suc (length rest) = omega arith in
+    let last : length (next ∷ rest) - 1 ≡ length rest = omega arith in
+    rw (before, last) refl
 
-not_zero : (m : ℕ) → nat_eq m 0 ≡ false → 0 < m
-not_zero m is = grind (arith, nat_tests, is)
+-- so many powers of ten, the highest first
+abbrev powers : ℕ → List ℕ
+powers zero = []
+powers (suc k) = 10 ^ k ∷ powers k
 
-by_test : (P : ℕ → Type 0) (b : Bool) (x y : ℕ) → (b ≡ true → P x) → (b ≡ false → P y) → P (if b then x else y)
-by_test P true x y first second = first refl
-by_test P false x y first second = second refl
+power_positive : (k : ℕ) → 0 < 10 ^ k
+power_positive zero = omega arith
+power_positive (suc k) = omega (arith, pow-suc 10 k, power_positive k)
 
-differs : (m : ℕ) → 0 < m → m ≢ 0
-differs m some none = absurd (omega (arith, some, none))
+-- the number that digits make after those before them
+abbrev number_after : ℕ → List ℕ → ℕ
+number_after = fold (λ number digit. number * 10 + digit)
 
-module _ (n : ℕ) (small : n < 10_000_000) where
-  -- ---- each digit is added to those before it
+module _ (n : ℕ) where
+  small : (units : List ℕ) → AllByRecursion (λ digit. digit < 10) (places units n)
+  small [] = tt
+  small (unit ∷ units) =
+      by_test (λ rest. AllByRecursion (λ digit. digit < 10) (n / unit % 10 ∷ rest)) (n % unit) [] (places units n)
+      (λ _. (omega arith, tt)) (λ _. (omega arith, small units))
 
-  step_1 : 0 * 10 + n / 1_000_000 % 10 ≡ n / 1_000_000
-  step_1 = omega (arith, small)
+  -- a digit is added to those before it
+  step : (k : ℕ) → n / 10 ^ suc k * 10 + n / 10 ^ k % 10 ≡ n / 10 ^ k
+  step k = omega (arith, ap (λ unit. n / unit) (pow-suc 10 k), div-div-eq-div-mul n (10 ^ k) 10)
 
-  step_2 : n / 1_000_000 * 10 + n / 100_000 % 10 ≡ n / 100_000
-  step_2 = omega arith
+  scaled : (number k count : ℕ) → number * 10 ^ k ≡ n * 10 ^ count → number * 10 ^ suc k ≡ n * 10 ^ suc count
+  scaled number k count is =
+      ap (λ unit. number * unit) (pow-suc 10 k) ∙ sym (mul_assoc number (10 ^ k) 10) ∙ ap (λ m. m * 10) is
+      ∙ mul_assoc n (10 ^ count) 10 ∙ ap (λ unit. n * unit) (sym (pow-suc 10 count))
 
-  step_3 : n / 100_000 * 10 + n / 10_000 % 10 ≡ n / 10_000
-  step_3 = omega arith
+  value : (k : ℕ) → number_after (n / 10 ^ k) (places (powers k) n) * 10 ^ k ≡ n * 10 ^ length (places (powers k) n)
+  value zero = omega arith
+  value (suc k) =
+      let digit = n / 10 ^ k % 10 in
+      let more : (rest : List ℕ) → number_after (n / 10 ^ k) rest * 10 ^ k ≡ n * 10 ^ length rest
+      → number_after (n / 10 ^ suc k) (digit ∷ rest) * 10 ^ suc k ≡ n * 10 ^ length (digit ∷ rest) =
+      λ rest is. ap (λ number. number_after number rest * 10 ^ suc k) (step k) ∙ scaled (number_after (n / 10 ^ k) rest) k (length rest) is in
+      by_test (λ rest. number_after (n / 10 ^ suc k) (digit ∷ rest) * 10 ^ suc k ≡ n * 10 ^ length (digit ∷ rest)) (n % 10 ^ k) [] (places (powers k) n)
+      (λ none. more [] (omega (arith, div-add-mod' n (10 ^ k), none))) (λ _. more (places (powers k) n) (value k))
 
-  step_4 : n / 10_000 * 10 + n / 1000 % 10 ≡ n / 1000
-  step_4 = omega arith
+  abbrev EndsWell : List ℕ → Type 0
+  EndsWell digits = (0 < length digits) × (slice_index digits (length digits - 1) ≢ 0)
 
-  step_5 : n / 1000 * 10 + n / 100 % 10 ≡ n / 100
-  step_5 = omega arith
+  ends : (k : ℕ) → 0 < n % 10 ^ k → EndsWell (places (powers k) n)
+  ends zero some = absurd (omega (arith, some))
+  ends (suc k) some =
+      let digit = n / 10 ^ k % 10 in
+      let parts = ap (λ unit. n % unit) (pow-succ' 10 k) ∙ mod-mul n {m = 10} {c = 10 ^ k} (omega arith) (power_positive k) in
+      by_test (λ rest. EndsWell (digit ∷ rest)) (n % 10 ^ k) [] (places (powers k) n)
+      (λ none. (omega arith, λ is. absurd (omega (arith, some, parts, none, ap (λ each. each * 10 ^ k) is))))
+      (λ left. let more = ends k left in (omega arith, λ is. more.1 (sym (last_later digit (places (powers k) n) more.0) ∙ is)))
 
-  step_6 : n / 100 * 10 + n / 10 % 10 ≡ n / 10
-  step_6 = omega arith
-
-  step_7 : n / 10 * 10 + n % 10 ≡ n
-  step_7 = omega arith
-
-  number_2 : number_of (n / 1_000_000 % 10 ∷ n / 100_000 % 10 ∷ []) ≡ n / 100_000
-  number_2 = ap (λ number. number * 10 + n / 100_000 % 10) step_1 ∙ step_2
-
-  number_3 : number_of (n / 1_000_000 % 10 ∷ n / 100_000 % 10 ∷ n / 10_000 % 10 ∷ []) ≡ n / 10_000
-  number_3 = ap (λ number. number * 10 + n / 10_000 % 10) number_2 ∙ step_3
-
-  number_4 : number_of (n / 1_000_000 % 10 ∷ n / 100_000 % 10 ∷ n / 10_000 % 10 ∷ n / 1000 % 10 ∷ []) ≡ n / 1000
-  number_4 = ap (λ number. number * 10 + n / 1000 % 10) number_3 ∙ step_4
-
-  number_5 : number_of (n / 1_000_000 % 10 ∷ n / 100_000 % 10 ∷ n / 10_000 % 10 ∷ n / 1000 % 10 ∷ n / 100 % 10 ∷ []) ≡ n / 100
-  number_5 = ap (λ number. number * 10 + n / 100 % 10) number_4 ∙ step_5
-
-  number_6 : number_of (n / 1_000_000 % 10 ∷ n / 100_000 % 10 ∷ n / 10_000 % 10 ∷ n / 1000 % 10 ∷ n / 100 % 10 ∷ n / 10 % 10 ∷ []) ≡ n / 10
-  number_6 = ap (λ number. number * 10 + n / 10 % 10) number_5 ∙ step_6
-
-  number_7 : number_of (n / 1_000_000 % 10 ∷ n / 100_000 % 10 ∷ n / 10_000 % 10 ∷ n / 1000 % 10 ∷ n / 100 % 10 ∷ n / 10 % 10 ∷ n % 10 ∷ []) ≡ n
-  number_7 = ap (λ number. number * 10 + n % 10) number_6 ∙ step_7
-
-  -- ---- so many places are written where zeros follow them
-
-  are : (places : List ℕ) → AllByRecursion (λ digit. digit < 10) places → number_of places * 10_000_000 ≡ n * 10 ^ length places → 1 ≤ length places
-      → (1 < length places → slice_index places (length places - 1) ≢ 0) → ArePlaces n (map (λ digit. 48 + digit) places)
-  are places digits value any_place shortest = record {
-    places = places;
-    written = refl;
-    digits = All-from_recursion (λ digit. digit < 10) places digits;
-    value = value;
-    any_place = any_place;
-    shortest = shortest;
-  }
-
-  places_1 : n % 1_000_000 ≡ 0 → ArePlaces n (take 1 (seven_digits n))
-  places_1 ends =
-      are (n / 1_000_000 % 10 ∷ []) (omega arith, tt) (omega (arith, step_1, ends)) (omega arith)
-      (λ several. absurd (omega (arith, several)))
-
-  places_2 : n % 100_000 ≡ 0 → 0 < n % 1_000_000 → ArePlaces n (take 2 (seven_digits n))
-  places_2 ends goes_on =
-      are (n / 1_000_000 % 10 ∷ n / 100_000 % 10 ∷ []) (omega arith, (omega arith, tt)) (omega (arith, number_2, ends)) (omega arith)
-      (λ several. differs (n / 100_000 % 10) (omega (arith, ends, goes_on)))
-
-  places_3 : n % 10_000 ≡ 0 → 0 < n % 100_000 → ArePlaces n (take 3 (seven_digits n))
-  places_3 ends goes_on =
-      are (n / 1_000_000 % 10 ∷ n / 100_000 % 10 ∷ n / 10_000 % 10 ∷ []) (omega arith, (omega arith, (omega arith, tt))) (omega (arith, number_3, ends)) (omega arith)
-      (λ several. differs (n / 10_000 % 10) (omega (arith, ends, goes_on)))
-
-  places_4 : n % 1000 ≡ 0 → 0 < n % 10_000 → ArePlaces n (take 4 (seven_digits n))
-  places_4 ends goes_on =
-      are (n / 1_000_000 % 10 ∷ n / 100_000 % 10 ∷ n / 10_000 % 10 ∷ n / 1000 % 10 ∷ []) (omega arith, (omega arith, (omega arith, (omega arith, tt)))) (omega (arith, number_4, ends)) (omega arith)
-      (λ several. differs (n / 1000 % 10) (omega (arith, ends, goes_on)))
-
-  places_5 : n % 100 ≡ 0 → 0 < n % 1000 → ArePlaces n (take 5 (seven_digits n))
-  places_5 ends goes_on =
-      are (n / 1_000_000 % 10 ∷ n / 100_000 % 10 ∷ n / 10_000 % 10 ∷ n / 1000 % 10 ∷ n / 100 % 10 ∷ []) (omega arith, (omega arith, (omega arith, (omega arith, (omega arith, tt))))) (omega (arith, number_5, ends)) (omega arith)
-      (λ several. differs (n / 100 % 10) (omega (arith, ends, goes_on)))
-
-  places_6 : n % 10 ≡ 0 → 0 < n % 100 → ArePlaces n (take 6 (seven_digits n))
-  places_6 ends goes_on =
-      are (n / 1_000_000 % 10 ∷ n / 100_000 % 10 ∷ n / 10_000 % 10 ∷ n / 1000 % 10 ∷ n / 100 % 10 ∷ n / 10 % 10 ∷ []) (omega arith, (omega arith, (omega arith, (omega arith, (omega arith, (omega arith, tt)))))) (omega (arith, number_6, ends)) (omega arith)
-      (λ several. differs (n / 10 % 10) (omega (arith, ends, goes_on)))
-
-  places_7 : 0 < n % 10 → ArePlaces n (take 7 (seven_digits n))
-  places_7 goes_on =
-      are (n / 1_000_000 % 10 ∷ n / 100_000 % 10 ∷ n / 10_000 % 10 ∷ n / 1000 % 10 ∷ n / 100 % 10 ∷ n / 10 % 10 ∷ n % 10 ∷ []) (omega arith, (omega arith, (omega arith, (omega arith, (omega arith, (omega arith, (omega arith, tt))))))) (omega (arith, number_7)) (omega arith)
-      (λ several. differs (n % 10) (omega (arith, goes_on)))
-
-  are_places : ArePlaces n (places_text n)
-  unfolding places_text
-  are_places =
-      let places : ℕ → Type 0 = λ k. ArePlaces n (take k (seven_digits n)) in
-      by_test places (nat_eq (n % 1_000_000) 0) 1 (if nat_eq (n % 100_000) 0 then 2 else (if nat_eq (n % 10_000) 0 then 3 else (if nat_eq (n % 1000) 0 then 4 else (if nat_eq (n % 100) 0 then 5 else (if nat_eq (n % 10) 0 then 6 else 7))))) (λ is. places_1 (is_zero _ is)) (λ not_1.
-      by_test places (nat_eq (n % 100_000) 0) 2 (if nat_eq (n % 10_000) 0 then 3 else (if nat_eq (n % 1000) 0 then 4 else (if nat_eq (n % 100) 0 then 5 else (if nat_eq (n % 10) 0 then 6 else 7)))) (λ is. places_2 (is_zero _ is) (not_zero _ not_1)) (λ not_2.
-      by_test places (nat_eq (n % 10_000) 0) 3 (if nat_eq (n % 1000) 0 then 4 else (if nat_eq (n % 100) 0 then 5 else (if nat_eq (n % 10) 0 then 6 else 7))) (λ is. places_3 (is_zero _ is) (not_zero _ not_2)) (λ not_3.
-      by_test places (nat_eq (n % 1000) 0) 4 (if nat_eq (n % 100) 0 then 5 else (if nat_eq (n % 10) 0 then 6 else 7)) (λ is. places_4 (is_zero _ is) (not_zero _ not_3)) (λ not_4.
-      by_test places (nat_eq (n % 100) 0) 5 (if nat_eq (n % 10) 0 then 6 else 7) (λ is. places_5 (is_zero _ is) (not_zero _ not_4)) (λ not_5.
-      by_test places (nat_eq (n % 10) 0) 6 7 (λ is. places_6 (is_zero _ is) (not_zero _ not_5)) (λ not_6.
-      places_7 (not_zero _ not_6)))))))
+  several : 1 < length (places place_units n) → 0 < n
+  several = by_test (λ rest. 1 < length (n / 1_000_000 % 10 ∷ rest) → 0 < n) (n % 1_000_000) [] _ (λ _ one. absurd (omega (arith, one))) (λ left _. omega (arith, left))
 
 pub shortest : (count : ℤ) → IsShortestDecimal count (decimal_text count)
-unfolding decimal_text
+unfolding decimal_text places_text
 shortest count =
     let whole = unsigned_abs count / 10_000_000 in
     let left = unsigned_abs count % 10_000_000 in
-    let are = are_places left (omega arith) in
+    let digits = places place_units left in
+    let none : left / 10_000_000 ≡ 0 = omega arith in
+    let are : number_after 0 digits * 10_000_000 ≡ left * 10 ^ length digits = ap (λ number. number_after number digits * 10_000_000) (sym none) ∙ value left 7 in
     let parts : unsigned_abs count ≡ whole * 10_000_000 + left = omega arith in
     record {
       whole = whole;
-      places = are.places;
-      written = ap (λ places. (if int_lt count (pos 0) then codes "-" else []) ++ (decimal whole ++ 46 ∷ places)) are.written;
-      digits = are.digits;
-      value = omega (arith, are.value, ap (λ n. n * 10 ^ length are.places) parts);
-      any_place = are.any_place;
-      shortest = are.shortest;
+      places = digits;
+      written = refl;
+      digits = All-from_recursion (λ digit. digit < 10) digits (small left place_units);
+      value = omega (arith, are, ap (λ n. n * 10 ^ length digits) parts);
+      any_place = omega arith;
+      shortest = λ more. (ends left 7 (omega (arith, several left more))).1;
     }

@@ -1,2 +1,1 @@
-mod DecimalFacts
 mod DecimalLemmas

@@ -1,5 +1,5 @@
 -- JSON text without spaces: RFC 8259. Its strings are ones that need no escape.
-use Rattle.std.specs.Prelude.{◌≡◌, ℕ, Bool, true, false, ◌+◌, ◌*◌, ◌/◌, ◌%◌, nat_eq, if◌then◌else◌, ℤ, pos, int_lt, unsigned_abs, List, [], ◌∷◌, ◌++◌, codes, take}
+use Rattle.std.specs.Prelude.{◌≡◌, ℕ, Bool, true, false, ◌+◌, ◌*◌, ◌/◌, ◌%◌, nat_eq, if◌then◌else◌, ℤ, pos, int_lt, unsigned_abs, List, [], ◌∷◌, ◌++◌, codes, map}
 use Rattle.std.specs.Fmt.{decimal}
 
 -- a string
@@ -42,39 +42,24 @@ abbrev pub array_text : List (List ℕ) → List ℕ
 array_text [] = codes "[]"
 array_text (value ∷ values) = 91 ∷ (value ++ further_values values)
 
--- the seven digits of so many ten-millionths, less than one
-abbrev pub seven_digits : ℕ → List ℕ
-seven_digits n =
-    (48 + n / 1_000_000 % 10)
-    ∷ (48 + n / 100_000 % 10)
-    ∷ (48 + n / 10_000 % 10)
-    ∷ (48 + n / 1000 % 10)
-    ∷ (48 + n / 100 % 10)
-    ∷ (48 + n / 10 % 10)
-    ∷ (48 + n % 10)
-    ∷ []
+-- the units of decimal places, in ten-millionths
+abbrev pub place_units : List ℕ
+place_units = 1_000_000 ∷ 100_000 ∷ 10_000 ∷ 1000 ∷ 100 ∷ 10 ∷ 1 ∷ []
 
--- how many of them are written: none after the last that is not 0, and at least one
-abbrev pub place_count : ℕ → ℕ
-place_count n =
-    if nat_eq (n % 1_000_000) 0 then 1
-    else (if nat_eq (n % 100_000) 0 then 2
-    else (if nat_eq (n % 10_000) 0 then 3
-    else (if nat_eq (n % 1000) 0 then 4
-    else (if nat_eq (n % 100) 0 then 5
-    else (if nat_eq (n % 10) 0 then 6
-    else 7)))))
+-- the digits of these units of a number, as far as not all that are left are zeros
+abbrev pub places : List ℕ → ℕ → List ℕ
+places [] n = []
+places (unit ∷ units) n = n / unit % 10 ∷ (if nat_eq (n % unit) 0 then [] else places units n)
 
--- the places of so many ten-millionths, less than one
-unfoldable pub places_text : ℕ → List ℕ
-places_text n = take (place_count n) (seven_digits n)
+unfoldable pub places_text : List ℕ → ℕ → List ℕ
+places_text units n = map (λ digit. 48 + digit) (places units n)
 
 -- so many ten-millionths, as the shortest decimal that has this value and at least one place: see laws/Decimals
 unfoldable pub decimal_text : ℤ → List ℕ
 decimal_text count =
     (if int_lt count (pos 0) then codes "-" else [])
     ++ (decimal (unsigned_abs count / 10_000_000)
-    ++ 46 ∷ places_text (unsigned_abs count % 10_000_000))
+    ++ 46 ∷ places_text place_units (unsigned_abs count % 10_000_000))
 
 -- so many tenths, with one place
 abbrev pub tenths_text : ℕ → List ℕ

@@ -1,7 +1,8 @@
 //! Text that is put together without memory.
 
-ghost use Rattle.std.specs.Prelude.{◌≡◌, ◌+◌, ◌%◌, ◌≤◌, ◌++◌, [], length, decimal};
-ghost use Rattle.cvss_json_write.specs.Json.{decimal_text, place_count, places_text, seven_digits};
+ghost use Rattle.std.specs.Prelude.{◌≡◌, ◌+◌, ◌%◌, ◌≤◌, ◌++◌, [], true, ltb, length, decimal};
+ghost use Rattle.std.specs.List.{list_all};
+ghost use Rattle.cvss_json_write.specs.Json.{decimal_text, places_text};
 
 use std::marker::Model;
 
@@ -82,18 +83,10 @@ impl Page {
         ensures text { self.new ≡ self.old ++ decimal number }
         ensures room { length self.new ≤ length self.old + 20 }
     {
-        self.digits(number);
-    }
-
-    /// Writes the digits of a whole number.
-    fn digits(&mut self, number: u64)
-        requires { length self.old + length (decimal number) ≤ 4096 }
-        ensures { self.new ≡ self.old ++ decimal number }
-    {
         if number >= 10 {
-            self.digits(number / 10);
+            self.whole(number / 10);
         }
-        self.push(&[b'0' + (number % 10) as u8]);
+        self.push(&[digit(number)]);
     }
 
     /// Writes so many ten-millionths, as a decimal.
@@ -109,20 +102,28 @@ impl Page {
         let count = count.unsigned_abs();
         self.whole(count / 10_000_000);
         self.push(b".");
-        self.places((count % 10_000_000) as u32);
+        self.places(&UNITS, count % 10_000_000);
     }
 
-    /// Writes the places of so many ten-millionths, less than one.
+    /// Writes the digits of these units of a number, as far as not all that are left are zeros.
     #[tactic(auto, unfolding(crate::specs::Json::places_text))]
-    fn places(&mut self, count: u32)
-        requires { length self.old + 7 ≤ 4096 }
-        ensures text { self.new ≡ self.old ++ places_text count }
-        ensures room { length self.new ≤ length self.old + 7 }
+    fn places(&mut self, units: &[u64], number: u64)
+        requires room { length self.old + length units.now ≤ 4096 }
+        requires positive { list_all (λ unit. ltb 0 unit) units.now ≡ true }
+        ensures text { self.new ≡ self.old ++ places_text units.now number }
+        ensures room { length self.new ≤ length self.old + length units.now }
     {
-        let digits = seven_digits(count);
-        self.push(&digits[..place_count(count)]);
+        if let [unit, rest @ ..] = units {
+            self.push(&[digit(number / unit)]);
+            if number % unit != 0 {
+                self.places(rest, number);
+            }
+        }
     }
 }
+
+/// The units of decimal places, in ten-millionths.
+const UNITS: [u64; 7] = [1_000_000, 100_000, 10_000, 1000, 100, 10, 1];
 
 /// Writes bytes over as many others.
 #[inline(always)]
@@ -135,44 +136,9 @@ fn store<const N: usize>(bytes: [u8; N], place: &mut [u8])
     }
 }
 
-fn seven_digits(count: u32) -> [u8; 7]
-    ensures { result ≡ seven_digits count }
-{
-    [
-        digit(count / 1_000_000),
-        digit(count / 100_000),
-        digit(count / 10_000),
-        digit(count / 1000),
-        digit(count / 100),
-        digit(count / 10),
-        digit(count),
-    ]
-}
-
 /// The last digit of a number.
-fn digit(number: u32) -> u8
+fn digit(number: u64) -> u8
     ensures { result ≡ 48 + number % 10 }
 {
     b'0' + (number % 10) as u8
-}
-
-fn place_count(count: u32) -> usize
-    ensures value { result ≡ place_count count }
-    ensures bound { result ≤ 7 }
-{
-    if count % 1_000_000 == 0 {
-        1
-    } else if count % 100_000 == 0 {
-        2
-    } else if count % 10_000 == 0 {
-        3
-    } else if count % 1000 == 0 {
-        4
-    } else if count % 100 == 0 {
-        5
-    } else if count % 10 == 0 {
-        6
-    } else {
-        7
-    }
 }

@@ -1,12 +1,12 @@
 -- The record of a vector as a reader of JSON sees it: FIRST's JSON schemas of CVSS v2.0, v3.0, v3.1 and v4.0.
-use Rattle.std.specs.Prelude.{◌≤◌, Option, Some, None, IfSome, option_map, option_and_then, if◌then◌else◌, List}
+use Rattle.std.specs.Prelude.{◌≤◌, Option, Some, None, IfSome, option_map, option_and_then, List}
 use Rattle.std.specs.List.{filter_map}
 use Rattle.cvss_any.specs.Answers.{text_of}
 use Rattle.cvss_any.specs.declared.vector.Cvss.{Cvss}
 use Rattle.serde_json.specs.Data.{Data, string}
 use Rattle.cvss_document.specs.Scores.{score_value}
 use Rattle.cvss_json_record.specs.Fields.{fields_of, name_of}
-use Rattle.cvss_json_record.specs.Record.{Expected, text, score, nothing, expected_of, has_member}
+use Rattle.cvss_json_record.specs.Record.{Expected, text, score, nothing, said_at}
 use Rattle.cvss_json_record.specs.declared.field.Field.{Field}
 use Rattle.cvss_json_record.specs.declared.field.Field.TheVariants.{Text}
 use Rattle.cvss_json_record.specs.declared.score.Scores.{Scores}
@@ -21,7 +21,7 @@ value_of nothing = None
 -- the value of a member of the vector's record, if the record has it
 abbrev pub value_at : Cvss → Scores → Field → Option Data
 value_at cvss scores Text = Some (string (text_of cvss))
-value_at cvss scores field = if has_member cvss field then option_and_then value_of (expected_of cvss scores field) else None
+value_at cvss scores field = option_and_then value_of (said_at cvss scores field)
 
 -- the member, if the record has it
 abbrev pub member_at : Cvss → Scores → Field → Option Member

@@ -1,13 +1,9 @@
-use Rattle.std.proofs.Common.{◌≡◌, List, [], ◌∷◌, ◌++◌, Option, Some, None, map, sym, ap, ◌∙◌, append_assoc, append-nil}
-use Rattle.std.specs.List.{cons_option, filter_map}
-use Rattle.std.specs.Option.{option_to_list}
+use Rattle.std.proofs.Common.{◌∷◌, ◌++◌, map, sym, ap, ◌∙◌}
+use Rattle.std.specs.List.{filter_map}
 use Rattle.serde_json.specs.View.{members_view, view}
-use Rattle.cvss_document.specs.Differences.{Difference, difference_at, difference_view, list_of}
+use Rattle.cvss_document.specs.Differences.{difference_at, difference_view, list_of}
+use Rattle.cvss_document.proofs.AddedLemmas.{added}
 use Rattle.cvss_document.proofs.difference.push_members.Goals as goal
-
-added : (found : Option Difference) (before rest : List Difference) → (before ++ option_to_list found) ++ rest ≡ before ++ cons_option found rest
-added None before rest = ap (λ all. all ++ rest) (append-nil before)
-added (Some each) before rest = append_assoc before (each ∷ []) rest
 
 pub loop-name-preserved : goal.loop-name-preserved
 loop-name-preserved c =

@@ -1,5 +1,5 @@
 use Rattle.std.proofs.Common.{◌∙◌}
-use Rattle.cvss_document.proofs.FloatLemmas.{number_is}
+use Rattle.cvss_document.proofs.ScoreLemmas.{number_is}
 use Rattle.cvss_document.proofs.scores.score_value.Goals as goal
 
 pub returns : goal.returns

@@ -1,5 +1,9 @@
-use Rattle.cvss_json_record.proofs.FieldFacts.{members_v2, members_v3, members_v4}
+use Rattle.std.proofs.Common.{refl}
 use Rattle.cvss_json_record.proofs.laws.members_are_in_order.Goals as goal
 
 pub returns : goal.returns
-returns c = record { v2 = members_v2; v3 = members_v3; v4 = members_v4 }
+returns c = record {
+  v2 = record { in_order = refl; each = refl };
+  v3 = record { in_order = refl; each = refl };
+  v4 = record { in_order = refl; each = refl };
+}
