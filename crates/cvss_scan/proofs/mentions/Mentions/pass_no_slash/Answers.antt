@@ -9,4 +9,4 @@ returns-in-Some c =
     let place = c.args.self.now.place in
     passes_no_slash text place c.no_slash.result
     (subst (λ rest. NoSlash rest c.no_slash.result) (c.in-Some.ensures.lookup.0.2 ∙ take_rest text place)
-    (record { within = c.no_slash.ensures.within; none = c.no_slash.ensures.none; unencoded = c.no_slash.ensures.unencoded; cut = c.no_slash.ensures.cut }))
+    (record { within = c.no_slash.ensures.within; unmarked = c.no_slash.ensures.unmarked; cut = c.no_slash.ensures.cut }))
