@@ -6,8 +6,8 @@ mod decoding;
 mod finding;
 mod form;
 pub mod laws;
+mod line;
 mod objects;
 
-pub use annotating::Annotating;
 pub use finding::Finding;
-pub use objects::FindingObjects;
+pub use form::Form;

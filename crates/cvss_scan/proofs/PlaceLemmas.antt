@@ -2,6 +2,7 @@
 use Rattle.std.proofs.Common.{◌≡◌, ℕ, ◌+◌, ◌-◌, ◌≤◌, Bool, true, false, cond, List, [], ◌∷◌, ◌++◌, length, take, drop, sym, ap, ◌∙◌, append-nil, append_assoc, arith, length-append, length-take-le, take-append-drop, take_at, drop_at}
 use Rattle.std.specs.Prelude.{unwrap_or}
 use Rattle.std.specs.List.{All, concat, suffix_len}
+use Rattle.std.proofs.lemmas.Bool.{cond_both}
 use Rattle.std.proofs.lemmas.List.Elements.{All-nil, All-cons}
 use Rattle.cvss_base.specs.Text.{has, slash}
 use Rattle.cvss_scan.specs.Parts.{before_percent, begins_with_prefix, is_divider, label_length, without_dividers, parts_of, unencoded}
@@ -25,12 +26,8 @@ begins part =
 pub shorter_bytes : (part : List ℕ) → length (without_dividers (unencoded part)) ≤ length part
 shorter_bytes part = let first = begins part in omega (arith, ap length first.1, length-append (without_dividers (unencoded part)) first.0)
 
-label_either : (prefixed : Bool) (count size : ℕ) → count ≤ size → cond prefixed 0 count ≤ size
-label_either true count size bound = omega arith
-label_either false count size bound = bound
-
 pub label_within : (text : List ℕ) → label_of text ≤ length text
-label_within text = label_either (begins_with_prefix text) (unwrap_or (label_length text) 0) (length text) (label_bound text)
+label_within text = cond_both (begins_with_prefix text) 0 (unwrap_or (label_length text) 0) (λ count. count ≤ length text) (λ prefixed. omega arith) (λ other. label_bound text)
 
 -- the mention's bytes are in the part that begins at this place, between others
 pub record IsInside (place : ℕ) (part : List ℕ) (mention : Placed) : Type 0 where
