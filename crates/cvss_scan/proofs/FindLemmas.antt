@@ -1,7 +1,7 @@
 -- When the mention of a part is found.
-use Rattle.std.proofs.Common.{◌≡◌, ℕ, ◌+◌, Bool, true, false, ◌||◌, ◌&&◌, eqb, inl, inr, List, ◌∷◌, [], drop, refl, sym, ap, ◌∙◌, subst}
+use Rattle.std.proofs.Common.{◌≡◌, ℕ, ◌+◌, true, ◌||◌, ◌&&◌, eqb, inl, inr, List, ◌∷◌, [], drop, sym, ap, ◌∙◌, subst}
 use Rattle.std.specs.Prelude.{unwrap_or}
-use Rattle.std.proofs.lemmas.Bool.{cond-true, or_cases, or_left, or_right}
+use Rattle.std.proofs.lemmas.Bool.{and_parts, cond-true, or_cases, or_left, or_right}
 use Rattle.cvss_base.specs.Text.{has, slash}
 use Rattle.cvss_scan.specs.Mentions.{IsFound, Placed, label_of, without_label}
 use Rattle.cvss_scan.specs.Parts.{begins_exactly, begins_loosely, begins_with_prefix, label_length, percent}
@@ -10,11 +10,7 @@ use Rattle.cvss_scan.proofs.AcceptedLemmas.{accepted_whole}
 use Rattle.cvss_scan.proofs.PrefixLemmas.{loosely_marked}
 use Rattle.cvss_scan.proofs.WholeLemmas.{without_no_label}
 
--- what is found without a slash begins loosely, and has a slash or a percent
-meant_begins : (exact slashed loosely : Bool) → ((exact && slashed) || loosely) ≡ true → (exact || loosely) ≡ true
-meant_begins true slashed loosely is = refl
-meant_begins false slashed loosely is = is
-
+-- what is found has a slash or a percent
 slash_marked : (text : List ℕ) → has slash text ≡ true → has_mark text ≡ true
 slash_marked [] is = is
 slash_marked (byte ∷ text) is = elim (or_cases (eqb byte slash) (has slash text) is) [
@@ -22,21 +18,22 @@ slash_marked (byte ∷ text) is = elim (or_cases (eqb byte slash) (has slash tex
   | inr more ↦ or_right (eqb byte slash || eqb byte percent) (has_mark text) (slash_marked text more)
 ]
 
-mark_either : (exact slashed loosely marked : Bool) → (slashed ≡ true → marked ≡ true) → (loosely ≡ true → marked ≡ true) → ((exact && slashed) || loosely) ≡ true → marked ≡ true
-mark_either true true loosely marked first then is = first refl
-mark_either true false loosely marked first then is = then is
-mark_either false slashed loosely marked first then is = then is
-
 pub found_with_mark : (text : List ℕ) → IsFound text → has_mark text ≡ true
 found_with_mark text (inl accepted) = slash_marked text (accepted_whole text accepted).with_slash
-found_with_mark text (inr meant) =
-    mark_either (begins_exactly text) (has slash text) (begins_loosely text) (has_mark text) (slash_marked text) (loosely_marked text) meant
+found_with_mark text (inr meant) = elim (or_cases (begins_exactly text && has slash text) (begins_loosely text) meant) [
+  | inl both ↦ slash_marked text (and_parts (begins_exactly text) (has slash text) both).1
+  | inr loosely ↦ loosely_marked text loosely
+]
 
 -- bytes that are found have no label
 found_unlabelled : (text : List ℕ) → IsFound text → label_of text ≡ 0
 found_unlabelled text (inl accepted) = (accepted_whole text accepted).unlabelled
 found_unlabelled text (inr meant) =
-    cond-true (begins_with_prefix text) 0 (unwrap_or (label_length text) 0) (meant_begins (begins_exactly text) (has slash text) (begins_loosely text) meant)
+    cond-true (begins_with_prefix text) 0 (unwrap_or (label_length text) 0)
+    (elim (or_cases (begins_exactly text && has slash text) (begins_loosely text) meant) [
+      | inl both ↦ or_left (begins_exactly text) (begins_loosely text) (and_parts (begins_exactly text) (has slash text) both).0
+      | inr loosely ↦ or_right (begins_exactly text) (begins_loosely text) loosely
+    ])
 
 pub found_by : (given mention : Placed) → given ≡ mention → IsFound given.text → (given ≡ mention) × IsFound mention.text
 found_by given mention same found = (same, subst (λ (each : Placed). IsFound each.text) same found)

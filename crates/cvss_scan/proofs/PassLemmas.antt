@@ -55,23 +55,19 @@ none_found place (part ∷ parts) none =
     (λ found. both_ways _ (unmarked_inside place part (mention_of place part) (mention_inside place part) both.0) (found_with_mark _ found))
     (none_found (place + length part) parts both.1)
 
--- the first bytes of a text have no mark, and the text is cut after them
-pub record NoSlash (text : List ℕ) (count : ℕ) : Type 0 where
-  pub within : count ≤ length text
-  pub unmarked : has_mark (take count text) ≡ false
-  pub cut : parts_of text ≡ parts_of (take count text) ++ parts_of (drop count text)
-
-pub passes_no_slash : (text : List ℕ) (place count : ℕ) → NoSlash (drop place text) count
+-- the first bytes of what is left of a text, which have no mark and after which it is cut
+pub passes_no_slash : (text rest : List ℕ) (place count : ℕ) → rest ≡ drop place text → count ≤ length rest → has_mark (take count rest) ≡ false
+    → parts_of rest ≡ parts_of (take count rest) ++ parts_of (drop count rest)
     → Passes (placed_from place (parts_of (drop place text))) (placed_from (place + count) (parts_of (drop (place + count) text)))
-passes_no_slash text place count passed =
-    let front = take count (drop place text) in
-    let after = drop count (drop place text) in
-    let length_is : length (concat (parts_of front)) ≡ count = ap length (concat-parts front) ∙ length-take-le count (drop place text) passed.within in
+passes_no_slash text rest place count rest_is within unmarked cut =
+    let front = take count rest in
+    let passed = placed_from place (parts_of front) in
+    let length_is : length (concat (parts_of front)) ≡ count = ap length (concat-parts front) ∙ length-take-le count rest within in
     record {
-      passed = placed_from place (parts_of front);
-      is = ap (placed_from place) passed.cut
-          ∙ placed_after place (parts_of front) (parts_of after)
-          ∙ ap (λ at. placed_from place (parts_of front) ++ placed_from (place + at) (parts_of after)) length_is
-          ∙ ap (λ rest. placed_from place (parts_of front) ++ placed_from (place + count) (parts_of rest)) (drop-drop count place text);
-      none = none_found place (parts_of front) (ap has_mark (concat-parts front) ∙ passed.unmarked);
+      passed = passed;
+      is = ap (λ left. placed_from place (parts_of left)) (sym rest_is) ∙ ap (placed_from place) cut
+          ∙ placed_after place (parts_of front) (parts_of (drop count rest))
+          ∙ ap (λ at. passed ++ placed_from (place + at) (parts_of (drop count rest))) length_is
+          ∙ ap (λ left. passed ++ placed_from (place + count) (parts_of left)) (ap (drop count) rest_is ∙ drop-drop count place text);
+      none = none_found place (parts_of front) (ap has_mark (concat-parts front) ∙ unmarked);
     }
