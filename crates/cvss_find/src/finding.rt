@@ -9,15 +9,15 @@ use std::alloc::Global;
 use std::cell::Cell;
 use std::io::Write;
 
-/// Lines of any bytes, each answered by what is found in it. A line counts as accepted if each vector is
-/// that is reported.
+/// Lines of any bytes, each answered by what is found in it. A line counts as accepted if each vector
+/// is that is reported.
 #[derive(Drop)]
 pub struct Finding<'a> {
     pub form: Form,
     /// Vectors of CVSS v3 may lack base metrics, and a line may end after a slash.
     pub allow_incomplete: bool,
-    /// What each answer begins with. In objects it is the name of the file and a colon, where there are
-    /// several files.
+    /// What each answer begins with. In objects it is the name of the file and a colon, where there
+    /// are several files.
     pub prefix: &'a [u8],
     /// Set where a mention is rejected whose prefix is written in another way than `CVSS:3.1/`.
     pub loose_prefix: &'a Cell<bool>,

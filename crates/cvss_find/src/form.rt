@@ -8,11 +8,11 @@ ghost use Rattle.cvss_find.specs.Answers.{shows_all};
 pub enum Form {
     /// Each by a text: where it is, and what `cvss score` answers to it.
     Located,
-    /// Each by a JSON object: the file, if there are several, the line, the column and the text of the
-    /// vector, and the members of `cvss score --json`.
+    /// Each by a JSON object: the file, if there are several, the line, the column and the text of
+    /// the vector, and the members of `cvss score --json`.
     Object,
-    /// The line is repeated, and after it are a tab and what `cvss score` answers, for the first vector
-    /// or for all.
+    /// The line is repeated, and after it are a tab and what `cvss score` answers, for the first
+    /// vector or for all.
     Annotated { all: bool },
 }
 
