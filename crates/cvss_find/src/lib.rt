@@ -8,6 +8,7 @@ mod form;
 pub mod laws;
 mod line;
 mod objects;
+mod place;
 
 pub use finding::Finding;
 pub use form::Form;

@@ -2,7 +2,7 @@
 
 ghost use Rattle.std.specs.Prelude.{◌≡◌, ◌++◌, IfOk, OnOk, bytes_eq, codes, drop, false, true};
 ghost use Rattle.cvss_any.specs.Complete.{IsPublishedOfComplete};
-ghost use Rattle.cvss_find.specs.Answers.{answered_bytes, answers_as, before_answer, place_text};
+ghost use Rattle.cvss_find.specs.Answers.{answered_bytes, answers_as, before_answer};
 ghost use Rattle.cvss_find.specs.Decoding.{decoded};
 ghost use Rattle.cvss_find.specs.declared.form.Form.TheVariants.{Located};
 ghost use Rattle.cvss_find.specs.private.Reporting.{AnswersLine, WritesReported, WritesShown, asked_of};
@@ -11,6 +11,7 @@ ghost use Rattle.cvss_scan.specs.MentionsLeft.{as_placed};
 
 use crate::decoding::decoded;
 use crate::form::Form;
+use crate::place::{write_first_place, write_place};
 use cvss_answer::{answer_score, write_canonical};
 use cvss_any::{Cvss, Published};
 use cvss_lines::OutputBuffer;
@@ -18,7 +19,6 @@ use cvss_rows::{Format, write_cells};
 use cvss_scan::{Mention, Mentions, begins_with_prefix, has_percent};
 use std::alloc::{AllocError, Global};
 use std::cell::Cell;
-use std::fmt::Write;
 
 /// A line, its number, and how it is answered.
 #[derive(Clone, Copy, Drop)]
@@ -238,27 +238,5 @@ fn is_cut(rest: &[u8], length: usize) -> bool
     match rest.get(length..) {
         Some(after) => matches!(after, [b'/']),
         None => false,
-    }
-}
-
-/// Writes the number of a line, a colon, 1 for the place of its first byte, and a space.
-fn write_first_place(number: u64, answers: &mut OutputBuffer) -> Result<(), AllocError>
-    ensures { OnOk result (answers.new.bytes.items
-        ≡ answers.old.bytes.items ++ place_text number 0) }
-{
-    match write!(answers, "{number}:1 ") {
-        Ok(()) => Ok(()),
-        Err(_) => Err(AllocError),
-    }
-}
-
-/// Writes the number of a line, a colon, the place of a mention in it, counted from 1, and a space.
-fn write_place(number: u64, place: usize, answers: &mut OutputBuffer) -> Result<(), AllocError>
-    ensures { OnOk result (answers.new.bytes.items
-        ≡ answers.old.bytes.items ++ place_text number place) }
-{
-    match write!(answers, "{number}:{} ", place as u128 + 1) {
-        Ok(()) => Ok(()),
-        Err(_) => Err(AllocError),
     }
 }

@@ -1,7 +1,7 @@
 use Rattle.std.proofs.lemmas.Fmt.{contents_after_writes}
 use Rattle.cvss_find.specs.Answers.{place_text}
 use Rattle.cvss_lines.specs.declared.buffered.OutputBuffer.{OutputBuffer}
-use Rattle.cvss_find.proofs.line.write_place.Goals as goal
+use Rattle.cvss_find.proofs.place.write_place.Goals as goal
 
 pub returns-in-Ok : goal.returns-in-Ok
 returns-in-Ok c =

@@ -2,7 +2,7 @@ use Rattle.std.proofs.Common.{◌++◌, codes, ap, ◌∙◌, decimal}
 use Rattle.std.proofs.lemmas.Fmt.{contents_after_writes}
 use Rattle.cvss_find.proofs.ReportingLemmas.{first_place}
 use Rattle.cvss_lines.specs.declared.buffered.OutputBuffer.{OutputBuffer}
-use Rattle.cvss_find.proofs.line.write_first_place.Goals as goal
+use Rattle.cvss_find.proofs.place.write_first_place.Goals as goal
 
 pub returns-in-Ok : goal.returns-in-Ok
 returns-in-Ok c =
