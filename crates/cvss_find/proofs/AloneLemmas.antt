@@ -4,27 +4,27 @@ use Rattle.std.proofs.Math.Bool.{and-true}
 use Rattle.cvss_answer.specs.Answers.{score_rule}
 use Rattle.cvss_lines.specs.Answers.{Answer, Accepted, Refused, is_accepted, texts_of}
 use Rattle.cvss_scan.specs.Mentions.{AreFound, IsAccepted, Placed, mentions_of}
-use Rattle.cvss_find.specs.Answers.{AreReported, Asked, IsAnswerTo, Reported, all_accepted, answer_with, reported_texts}
-use Rattle.cvss_find.specs.declared.form.Form.TheVariants.{Located}
+use Rattle.cvss_find.specs.Answers.{AreReported, IsAnswerTo, Reported, all_accepted, answer_with, reported_texts}
 use Rattle.cvss_find.specs.laws.Alone.{ReportsOfAll}
-use Rattle.cvss_find.proofs.ReportingLemmas.{answered_whole, reported_answer}
+use Rattle.cvss_find.proofs.ReportingLemmas.{answered_whole, located, reported_answer}
 
 texts_of_either : (b : Bool) (texts : List (List ℕ)) → texts_of (cond b (Accepted texts) (Refused texts)) ≡ texts
 texts_of_either true texts = refl
 texts_of_either false texts = refl
 
-reported_alone : (asked : Asked) (reported : List Reported) (answer : Answer) → IsAccepted asked.line → AreReported Located asked (record { place = 0; text = asked.line } ∷ []) reported → answer ≡ answer_with reported (reported_texts reported)
-    → ReportsOfAll asked.allow_incomplete asked.prefix asked.number asked.line answer
-reported_alone asked [] answer accepted are is = absurd are
-reported_alone asked (one ∷ []) answer accepted are is = record {
+reported_alone : (prefix : List ℕ) (allow : Bool) (number : ℕ) (line : List ℕ) (reported : List Reported) (answer : Answer) → IsAccepted line
+    → AreReported (located prefix allow number line) (record { place = 0; text = line } ∷ []) reported → answer ≡ answer_with reported (reported_texts reported)
+    → ReportsOfAll allow prefix number line answer
+reported_alone prefix allow number line [] answer accepted are is = absurd are
+reported_alone prefix allow number line (one ∷ []) answer accepted are is = record {
   own = are.0.answer;
-  answers = subst (λ bytes. score_rule asked.allow_incomplete asked.number bytes are.0.answer) (answered_whole asked accepted) are.0.answers;
+  answers = subst (λ bytes. score_rule allow number bytes are.0.answer) (answered_whole (located prefix allow number line) accepted) are.0.answers;
   text = are.0.text;
   one_text = are.0.one_text;
   texts = ap texts_of is ∙ texts_of_either (all_accepted (one ∷ [])) (one.text ∷ []) ∙ ap (λ text. text ∷ []) are.0.is;
   accepted = ap is_accepted is ∙ sym (reported_answer (one ∷ []) (one.text ∷ [])) ∙ and-true one.accepts ∙ are.0.accepted;
 }
-reported_alone asked (one ∷ other ∷ more) answer accepted are is = absurd are.1
+reported_alone prefix allow number line (one ∷ other ∷ more) answer accepted are is = absurd are.1
 
 found_alone : (line : List ℕ) (found : List Placed) → IsAccepted line → AreFound (record { place = 0; text = line } ∷ []) found → found ≡ record { place = 0; text = line } ∷ []
 found_alone line [] accepted are = absurd (are.0 (inl accepted))
@@ -32,8 +32,9 @@ found_alone line (one ∷ []) accepted (inl (is, same, none)) = rw same refl
 found_alone line (one ∷ other ∷ more) accepted (inl (is, same, none)) = absurd none
 found_alone line (one ∷ more) accepted (inr (not_found, are)) = absurd (not_found (inl accepted))
 
-pub answered_alone : (asked : Asked) (answer : Answer) → (mentions_of asked.line ≡ record { place = 0; text = asked.line } ∷ []) → IsAccepted asked.line
-    → IsAnswerTo Located asked answer → ReportsOfAll asked.allow_incomplete asked.prefix asked.number asked.line answer
-answered_alone asked answer one accepted answers =
-    let found = found_alone asked.line answers.found accepted (subst (λ mentions. AreFound mentions answers.found) one answers.are_found) in
-    reported_alone asked answers.reported answer accepted (subst (λ mentions. AreReported Located asked mentions answers.reported) found answers.are_reported) answers.is
+pub answered_alone : (prefix : List ℕ) (allow : Bool) (number : ℕ) (line : List ℕ) (answer : Answer) → (mentions_of line ≡ record { place = 0; text = line } ∷ []) → IsAccepted line
+    → IsAnswerTo (located prefix allow number line) answer → ReportsOfAll allow prefix number line answer
+answered_alone prefix allow number line answer one accepted answers =
+    let found = found_alone line answers.shown accepted (subst (λ mentions. AreFound mentions answers.shown) one answers.are_shown) in
+    reported_alone prefix allow number line answers.reported answer accepted
+    (subst (λ mentions. AreReported (located prefix allow number line) mentions answers.reported) found answers.are_reported) answers.is

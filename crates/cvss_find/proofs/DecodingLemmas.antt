@@ -1,8 +1,11 @@
 -- Texts without a `%` are decoded as they are.
-use Rattle.std.proofs.Common.{◌≡◌, ℕ, Bool, true, false, ◌||◌, ◌&&◌, cond, eqb, List, [], ◌∷◌, refl, ap, ap₂, ◌∙◌, arith}
+use Rattle.std.proofs.Common.{◌≡◌, ℕ, Bool, true, false, ◌&&◌, cond, eqb, List, [], ◌∷◌, refl, ap, ◌∙◌, arith}
 use Rattle.std.specs.List.{list_all}
-use Rattle.std.proofs.lemmas.Bool.{and_parts, or_parts}
+use Rattle.std.proofs.lemmas.Bool.{or_parts}
 use Rattle.std.proofs.lemmas.Bool.Decides.{nat_tests}
+use Rattle.std.proofs.lemmas.List.Elements.{All-weaker}
+use Rattle.std.proofs.lemmas.List.Folds.{list_any_none}
+use Rattle.std.proofs.lemmas.List.Sums.{AllPass-from_list_all}
 use Rattle.cvss_base.specs.Text.{has}
 use Rattle.cvss_find.specs.Decoding.{decoded}
 use Rattle.cvss_scan.specs.Parts.{is_like, is_vector_byte, percent}
@@ -27,10 +30,9 @@ not_percent : (byte : ℕ) → is_vector_byte byte ≡ true → eqb byte percent
 not_percent byte is = grind (arith, nat_tests)
 
 no_percent : (text : List ℕ) → list_all is_vector_byte text ≡ true → has percent text ≡ false
-no_percent [] written = refl
-no_percent (byte ∷ text) written =
-    let both = and_parts (is_vector_byte byte) (list_all is_vector_byte text) written in
-    ap₂ (λ (a b : Bool). a || b) (not_percent byte both.0) (no_percent text both.1)
+no_percent text written =
+    list_any_none (λ byte. eqb byte percent) text
+    (All-weaker (λ byte. is_vector_byte byte ≡ true) (λ byte. eqb byte percent ≡ false) not_percent text (AllPass-from_list_all is_vector_byte text written))
 
 -- what is written as vectors are
 pub written_decoded : (text : List ℕ) → list_all is_vector_byte text ≡ true → decoded text ≡ text

@@ -1,4 +1,3 @@
 mod AloneLemmas
-mod AnnotatedLemmas
 mod DecodingLemmas
 mod ReportingLemmas

@@ -1,20 +1,22 @@
 -- The answers to lines of any text: what is reported of the vectors in them.
-use Rattle.std.specs.Prelude.{◌≡◌, ℕ, ◌+◌, ◌&&◌, Bool, List, [], ◌∷◌, ◌++◌, bytes_eq, codes, drop, length, map, not, if◌then◌else◌, ⊤}
+use Rattle.std.specs.Prelude.{◌≡◌, ℕ, ◌+◌, ◌&&◌, Bool, true, false, List, [], ◌∷◌, ◌++◌, bytes_eq, codes, drop, flat_map, length, map, not, if◌then◌else◌, ⊤}
 use Rattle.std.specs.Fmt.{decimal}
 use Rattle.std.specs.List.{list_all}
 use Rattle.cvss_answer.specs.Answers.{score_rule}
 use Rattle.cvss_find.specs.Decoding.{decoded}
 use Rattle.cvss_find.specs.declared.form.Form.{Form}
-use Rattle.cvss_find.specs.declared.form.Form.TheVariants.{Located, Object, Field}
+use Rattle.cvss_find.specs.declared.form.Form.TheVariants.{Annotated, Located, Object}
 use Rattle.cvss_lines.specs.Answers.{Answer, Accepted, Refused, Rule, is_accepted, texts_of}
 use Rattle.cvss_rows.specs.Cells.{given_text, object_start}
 use Rattle.cvss_rows.specs.Rows.{AreCells}
 use Rattle.cvss_rows.specs.declared.format.Format.TheVariants.{Json}
 use Rattle.cvss_scan.specs.Mentions.{AreFound, Placed, mentions_of}
+use Rattle.cvss_scan.specs.MentionsLeft.{IsFirstFound, NoneFound}
 
--- what is asked: what each text begins with, whether vectors of CVSS v3 may lack base metrics, a line's number, which
+-- what is asked: the form of the answer, what each text begins with, whether vectors of CVSS v3 may lack base metrics, a line's number, which
 -- counts from 1, and the line
 pub record Asked : Type 0 where
+  pub form : Form
   pub prefix : List ℕ
   pub allow_incomplete : Bool
   pub number : ℕ
@@ -50,31 +52,49 @@ first_members asked mention =
 abbrev pub before_answer : Form → Asked → Placed → List ℕ
 before_answer Located asked mention = asked.prefix ++ place_text asked.number mention.place
 before_answer Object asked mention = first_members asked mention
-before_answer Field asked mention = codes "\t"
+before_answer (Annotated all) asked mention = codes "\t"
 
 -- which answers bytes have: what `cvss score` answers to them, or in an object the members of `cvss score --json` after the
 -- given text
 abbrev pub answers_as : Form → Bool → Rule
 answers_as Located = score_rule
 answers_as Object = AreCells Json
-answers_as Field = score_rule
+answers_as (Annotated all) = score_rule
 
 -- reported is an answer to the mention's bytes, decoded, as a line by themselves
-pub record IsReported (form : Form) (asked : Asked) (mention : Placed) (reported : Reported) : Type 0 where
+pub record IsReported (asked : Asked) (mention : Placed) (reported : Reported) : Type 0 where
   pub answer : Answer
   pub text : List ℕ
-  pub answers : answers_as form asked.allow_incomplete asked.number (decoded (answered_bytes asked mention)) answer
+  pub answers : answers_as asked.form asked.allow_incomplete asked.number (decoded (answered_bytes asked mention)) answer
   pub one_text : texts_of answer ≡ text ∷ []
-  pub is : reported.text ≡ before_answer form asked mention ++ text
+  pub is : reported.text ≡ before_answer asked.form asked mention ++ text
   pub accepted : reported.accepts ≡ is_accepted answer
 
 -- these are reported of the mentions, in their order
-abbrev pub AreReported : Form → Asked → List Placed → List Reported → Type 0
-AreReported form asked [] [] = ⊤
-AreReported form asked [] (reported ∷ more) = ⊥
-AreReported form asked (mention ∷ mentions) [] = ⊥
-AreReported form asked (mention ∷ mentions) (reported ∷ more) =
-    IsReported form asked mention reported × AreReported form asked mentions more
+abbrev pub AreReported : Asked → List Placed → List Reported → Type 0
+AreReported asked [] [] = ⊤
+AreReported asked [] (reported ∷ more) = ⊥
+AreReported asked (mention ∷ mentions) [] = ⊥
+AreReported asked (mention ∷ mentions) (reported ∷ more) = IsReported asked mention reported × AreReported asked mentions more
+
+-- these are the mentions whose answers are shown: all that are found, or the first of them
+abbrev pub AreShown : Bool → List Placed → List Placed → Type 0
+AreShown true mentions shown = AreFound mentions shown
+AreShown false mentions [] = NoneFound mentions
+AreShown false mentions (mention ∷ []) = (left : List Placed) × IsFirstFound mentions mention left
+AreShown false mentions (mention ∷ next ∷ more) = ⊥
+
+-- the form shows the answers to all mentions
+abbrev pub shows_all : Form → Bool
+shows_all Located = true
+shows_all Object = true
+shows_all (Annotated all) = all
+
+-- the texts of an answer: those for the mentions, or the line after the prefix and then these
+abbrev pub texts_for : Form → Asked → List (List ℕ) → List (List ℕ)
+texts_for Located asked texts = texts
+texts_for Object asked texts = texts
+texts_for (Annotated all) asked texts = (asked.prefix ++ (asked.line ++ flat_map (λ text. text) texts)) ∷ []
 
 -- each mention is accepted
 abbrev pub all_accepted : List Reported → Bool
@@ -88,15 +108,15 @@ reported_texts reported = map (λ each. each.text) reported
 abbrev pub answer_with : List Reported → List (List ℕ) → Answer
 answer_with reported texts = if all_accepted reported then Accepted texts else Refused texts
 
--- this is an answer to what is asked: a text for each mention in the line that is found
-pub record IsAnswerTo (form : Form) (asked : Asked) (answer : Answer) : Type 0 where
-  pub found : List Placed
-  pub are_found : AreFound (mentions_of asked.line) found
+-- this is an answer to what is asked: what is reported of the mentions in the line that are shown
+pub record IsAnswerTo (asked : Asked) (answer : Answer) : Type 0 where
+  pub shown : List Placed
+  pub are_shown : AreShown (shows_all asked.form) (mentions_of asked.line) shown
   pub reported : List Reported
-  pub are_reported : AreReported form asked found reported
-  pub is : answer ≡ answer_with reported (reported_texts reported)
+  pub are_reported : AreReported asked shown reported
+  pub is : answer ≡ answer_with reported (texts_for asked.form asked (reported_texts reported))
 
 -- which answers a line has, by the form, by whether vectors may be incomplete and by what each text begins with
 abbrev pub find_rule : Form → Bool → List ℕ → Rule
 find_rule form allow_incomplete prefix number line =
-    IsAnswerTo form (record { prefix = prefix; allow_incomplete = allow_incomplete; number = number; line = line })
+    IsAnswerTo (record { form = form; prefix = prefix; allow_incomplete = allow_incomplete; number = number; line = line })

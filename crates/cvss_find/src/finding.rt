@@ -1,41 +1,30 @@
-//! The answer to a line: what is reported of the vectors in it.
+//! What answers lines by the vectors in them.
 
-ghost use Rattle.std.specs.Prelude.{◌≡◌, ◌++◌, IfOk, OnOk, bytes_eq, codes, drop};
-ghost use Rattle.cvss_any.specs.Complete.{IsPublishedOfComplete};
-ghost use Rattle.cvss_find.specs.Answers.{answered_bytes, answers_as, before_answer, find_rule, place_text};
-ghost use Rattle.cvss_find.specs.Decoding.{decoded};
-ghost use Rattle.cvss_find.specs.declared.form.Form.TheVariants.{Located};
-ghost use Rattle.cvss_find.specs.private.Reporting.{WritesReported, asked_of};
-ghost use Rattle.cvss_lines.specs.Answers.{WritesAnswer, written_text};
-ghost use Rattle.cvss_scan.specs.MentionsLeft.{as_placed};
+ghost use Rattle.cvss_find.specs.Answers.{find_rule};
 
-use crate::decoding::decoded;
 use crate::form::Form;
-use cvss_answer::{answer_score, write_canonical};
-use cvss_any::{Cvss, Published};
+use crate::line::Line;
 use cvss_lines::{OutputBuffer, RunFault, Service};
-use cvss_rows::{Format, write_cells};
-use cvss_scan::{Mention, Mentions, begins_with_prefix, has_percent};
-use std::alloc::{AllocError, Global};
+use std::alloc::Global;
 use std::cell::Cell;
-use std::fmt::Write as FmtWrite;
 use std::io::Write;
 
-/// Lines of any bytes, each answered by one text for each vector that is found in it: where the vector
-/// is, and what `cvss score` answers to it. A line counts
-/// as accepted if each of these is.
+/// Lines of any bytes, each answered by what is found in it. A line counts as accepted if each vector
+/// is that is reported.
 #[derive(Drop)]
 pub struct Finding<'a> {
+    pub form: Form,
     /// Vectors of CVSS v3 may lack base metrics, and a line may end after a slash.
     pub allow_incomplete: bool,
-    /// What each answer begins with.
+    /// What each answer begins with. In objects it is the name of the file and a colon, where there
+    /// are several files.
     pub prefix: &'a [u8],
     /// Set where a mention is rejected whose prefix is written in another way than `CVSS:3.1/`.
     pub loose_prefix: &'a Cell<bool>,
 }
 
 impl Service for Finding<'_> {
-    ghost rule = { λ finding. find_rule Located finding.allow_incomplete finding.prefix.now };
+    ghost rule = { λ finding. find_rule finding.form finding.allow_incomplete finding.prefix.now };
 
     ghost beginning = { λ _ _ _ _. ⊥ };
 
@@ -48,6 +37,7 @@ impl Service for Finding<'_> {
         _writer: &mut W,
     ) -> Result<bool, RunFault> {
         let line = Line {
+            form: self.form,
             prefix: self.prefix,
             allow_incomplete: self.allow_incomplete,
             number,
@@ -55,209 +45,5 @@ impl Service for Finding<'_> {
             loose_prefix: self.loose_prefix,
         };
         Ok(line.answer(alloc, answers)?)
-    }
-}
-
-/// A line, its number, and how it is answered.
-#[derive(Clone, Copy, Drop)]
-pub(crate) struct Line<'a> {
-    pub(crate) prefix: &'a [u8],
-    pub(crate) allow_incomplete: bool,
-    pub(crate) number: u64,
-    pub(crate) bytes: &'a [u8],
-    pub(crate) loose_prefix: &'a Cell<bool>,
-}
-
-impl Line<'_> {
-    fn answer(self, alloc: Global, answers: &mut OutputBuffer) -> Result<bool, AllocError>
-        ensures { IfOk result (WritesAnswer
-            (find_rule Located self.entry.allow_incomplete self.entry.prefix.now)
-            self.entry.number self.entry.bytes.now
-            answers.old.bytes.items answers.new.bytes.items) }
-    {
-        match Cvss::complete_on_fast_path(self.bytes) {
-            Some(published) => self.report_canonical(published, answers),
-            None => self.report_mentions(Form::Located, alloc, answers),
-        }
-    }
-
-    /// The answer to a line that is a canonical vector with all base metrics, its only mention.
-    fn report_canonical(
-        self,
-        published: Published,
-        answers: &mut OutputBuffer,
-    ) -> Result<bool, AllocError>
-        requires { IsPublishedOfComplete self.bytes.now published }
-        ensures { IfOk result (WritesAnswer
-            (find_rule Located self.entry.allow_incomplete self.entry.prefix.now)
-            self.entry.number self.entry.bytes.now
-            answers.old.bytes.items answers.new.bytes.items) }
-    {
-        self.write_prefix(answers)?;
-        write_first_place(self.number, answers)?;
-        write_canonical(self.bytes, published, answers)?;
-        Ok(true)
-    }
-
-    /// The answer to a line of any bytes, mention by mention.
-    pub(crate) fn report_mentions(
-        self,
-        form: Form,
-        alloc: Global,
-        answers: &mut OutputBuffer,
-    ) -> Result<bool, AllocError>
-        ensures { IfOk result (WritesAnswer
-            (find_rule form self.entry.allow_incomplete self.entry.prefix.now)
-            self.entry.number self.entry.bytes.now
-            answers.old.bytes.items answers.new.bytes.items) }
-    {
-        let mut mentions = Mentions::of(self.bytes);
-        let mut accepted = true;
-        while let Some(mention) = mentions.next() {
-            accepted &= self.report(form, alloc, mention, answers)?;
-        }
-        Ok(accepted)
-    }
-
-    /// Writes what is reported of a mention, and a byte 10. Says whether the mention is accepted.
-    pub(crate) fn report(
-        self,
-        form: Form,
-        alloc: Global,
-        mention: Mention<'_>,
-        answers: &mut OutputBuffer,
-    ) -> Result<bool, AllocError>
-        ensures { IfOk result (WritesReported written_text form (asked_of self.entry)
-            (as_placed mention.entry) answers.old.bytes.items answers.new.bytes.items) }
-    {
-        self.write_before(form, mention, answers)?;
-        let accepted = self.answer_bytes(form, alloc, self.answered_bytes(mention), answers)?;
-        self.note_prefix(accepted, mention.text);
-        Ok(accepted)
-    }
-
-    /// Sets the cell if a mention is rejected whose prefix is not written as it should be.
-    fn note_prefix(self, accepted: bool, text: &[u8]) {
-        if !accepted && has_loose_prefix(text) {
-            self.loose_prefix.set(true);
-        }
-    }
-
-    /// Writes what is before the answer to a mention.
-    fn write_before(
-        self,
-        form: Form,
-        mention: Mention<'_>,
-        answers: &mut OutputBuffer,
-    ) -> Result<(), AllocError>
-        ensures { OnOk result (answers.new.bytes.items ≡ answers.old.bytes.items
-            ++ before_answer form (asked_of self.entry) (as_placed mention.entry)) }
-    {
-        match form {
-            Form::Located => {
-                self.write_prefix(answers)?;
-                write_place(self.number, mention.place, answers)
-            }
-            Form::Object => self.write_first_members(mention, answers),
-            Form::Field => answers.push(b"\t"),
-        }
-    }
-
-    /// The answer to bytes, decoded, as a line by themselves.
-    fn answer_bytes(
-        self,
-        form: Form,
-        alloc: Global,
-        bytes: &[u8],
-        answers: &mut OutputBuffer,
-    ) -> Result<bool, AllocError>
-        ensures { IfOk result (WritesAnswer (answers_as form self.entry.allow_incomplete)
-            self.entry.number (decoded bytes.now)
-            answers.old.bytes.items answers.new.bytes.items) }
-    {
-        if has_percent(bytes) {
-            let bytes = decoded(alloc, bytes)?;
-            self.answer_text(form, alloc, &bytes, answers)
-        } else {
-            self.answer_text(form, alloc, bytes, answers)
-        }
-    }
-
-    /// The answer to a text as a line by itself.
-    #[inline(always)]
-    fn answer_text(
-        self,
-        form: Form,
-        alloc: Global,
-        text: &[u8],
-        answers: &mut OutputBuffer,
-    ) -> Result<bool, AllocError>
-        ensures { IfOk result (WritesAnswer (answers_as form self.entry.allow_incomplete)
-            self.entry.number text.now answers.old.bytes.items answers.new.bytes.items) }
-    {
-        match form {
-            Form::Object => {
-                write_cells(alloc, Format::Json, text, self.allow_incomplete, answers)
-            }
-            Form::Located | Form::Field => answer_score(text, self.allow_incomplete, answers),
-        }
-    }
-
-    /// The bytes of a mention that are answered.
-    pub(crate) fn answered_bytes<'b>(&'b self, mention: Mention<'b>) -> &'b [u8]
-        ensures { result.now ≡ answered_bytes (asked_of self.now) (as_placed mention.entry) }
-    {
-        match self.bytes.get(mention.place..) {
-            Some(rest) if !self.allow_incomplete && is_cut(rest, mention.text.len()) => rest,
-            _ => mention.text,
-        }
-    }
-
-    /// Writes what the answer begins with. Mostly that is nothing.
-    pub(crate) fn write_prefix(self, answers: &mut OutputBuffer) -> Result<(), AllocError>
-        ensures { OnOk result (answers.new.bytes.items
-            ≡ answers.old.bytes.items ++ self.entry.prefix.now) }
-    {
-        if self.prefix.is_empty() {
-            return Ok(());
-        }
-        answers.push(self.prefix)
-    }
-}
-
-/// Whether a mention begins with a prefix that is not written as it should be.
-fn has_loose_prefix(text: &[u8]) -> bool {
-    begins_with_prefix(text) && !matches!(text, [b'C', b'V', b'S', b'S', b':' | b'%', ..])
-}
-
-/// Whether bytes are so many and then a slash.
-fn is_cut(rest: &[u8], length: usize) -> bool
-    ensures { result ≡ bytes_eq (drop length rest.now) (codes "/") }
-{
-    match rest.get(length..) {
-        Some(after) => matches!(after, [b'/']),
-        None => false,
-    }
-}
-
-/// Writes the number of a line, a colon, 1 for the place of its first byte, and a space.
-fn write_first_place(number: u64, answers: &mut OutputBuffer) -> Result<(), AllocError>
-    ensures { OnOk result (answers.new.bytes.items
-        ≡ answers.old.bytes.items ++ place_text number 0) }
-{
-    match write!(answers, "{number}:1 ") {
-        Ok(()) => Ok(()),
-        Err(_) => Err(AllocError),
-    }
-}
-
-/// Writes the number of a line, a colon, the place of a mention in it, counted from 1, and a space.
-fn write_place(number: u64, place: usize, answers: &mut OutputBuffer) -> Result<(), AllocError>
-    ensures { OnOk result (answers.new.bytes.items
-        ≡ answers.old.bytes.items ++ place_text number place) }
-{
-    match write!(answers, "{number}:{} ", place as u128 + 1) {
-        Ok(()) => Ok(()),
-        Err(_) => Err(AllocError),
     }
 }

@@ -1,11 +1,14 @@
 //! Laws, each the contract of a function that does nothing.
 
-ghost use Rattle.std.specs.Prelude.{ℕ, Bool, List};
+ghost use Rattle.std.specs.Prelude.{◌≡◌, ℕ, Bool, List};
 ghost use Rattle.cvss_find.specs.Answers.{find_rule};
+ghost use Rattle.cvss_find.specs.declared.form.Form.{Form};
 ghost use Rattle.cvss_find.specs.declared.form.Form.TheVariants.{Located};
 ghost use Rattle.cvss_find.specs.laws.Alone.{ReportsOfAll};
 ghost use Rattle.cvss_lines.specs.Answers.{Answer};
 ghost use Rattle.cvss_scan.specs.Mentions.{IsAccepted};
+
+use crate::Form;
 
 /// A line that is one vector and nothing else is answered by what `cvss score` answers to it, after
 /// its number and its place.
@@ -17,3 +20,13 @@ pub fn only_vectors_are_reported_as_they_are()
 {
     cvss_scan::laws::accepted_texts_are_mentions();
 }
+
+/// A clone of a form is that value.
+pub fn clones_are_equal()
+    ensures form { (x clone : Form) → ⟦<Form as Clone>⟧.is_clone x clone → clone ≡ x }
+{}
+
+/// Cloning a form takes no memory, so it never fails.
+pub fn values_are_cloned_without_memory()
+    ensures form { (x : Form) → ⟦<Form as Clone>⟧.is_infallible x }
+{}

@@ -6,8 +6,9 @@ mod decoding;
 mod finding;
 mod form;
 pub mod laws;
+mod line;
 mod objects;
+mod place;
 
-pub use annotating::Annotating;
 pub use finding::Finding;
-pub use objects::FindingObjects;
+pub use form::Form;

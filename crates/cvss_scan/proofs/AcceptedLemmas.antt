@@ -1,6 +1,10 @@
 -- What is accepted as a vector is whole.
-use Rattle.std.proofs.Common.{◌≡◌, ℕ, ◌≤◌, true, rules, List, [], ◌∷◌, ◌++◌, codes, length, refl, sym, ap, ◌∙◌, subst, arith, All}
+use Rattle.std.proofs.Common.{◌≡◌, ◌≢◌, ℕ, ◌≤◌, true, eqb, rules, List, [], ◌∷◌, ◌++◌, codes, length, refl, sym, ap, ◌∙◌, subst, arith, All}
+use Rattle.std.specs.Prelude.{unwrap_or}
+use Rattle.std.proofs.Math.Bool.{or-true}
+use Rattle.std.proofs.lemmas.Bool.{and_parts, cond-true, false≢true}
 use Rattle.std.proofs.lemmas.List.Elements.{All-from_get_or}
+use Rattle.std.proofs.lemmas.List.Folds.{list_any-append}
 use Rattle.cvss_any.specs.Dispatch.{DenotesCvss, DenotesV2, DenotesV3, DenotesV4}
 use Rattle.cvss_base.specs.Text.{component, has, joined, read_as, slash}
 use Rattle.cvss_base.specs.Version.{AreComponentsOf, Version, numeral, read, version_piece}
@@ -26,10 +30,10 @@ use Rattle.cvss_v4.specs.private.VectorLaws.{v4_laws}
 use Rattle.cvss_v4.specs.declared.vector.Vector as vector_v4
 use Rattle.cvss_any.proofs.RouteLemmas.{only_one, v2_parts, v3_parts, v4_parts}
 use Rattle.cvss_scan.specs.Mentions.{IsAccepted, mentions_of}
+use Rattle.cvss_scan.specs.Parts.{begins_with_prefix, is_vector_byte, label_length}
 use Rattle.cvss_scan.specs.laws.Whole.{IsMentionedBetween, IsWhole}
-use Rattle.cvss_scan.proofs.PlainLemmas.{IsPlain, IsPlain-from, IsPlain-joined, IsPlain-read, IsWhole-after, IsWhole-plain, is_plain}
-use Rattle.cvss_scan.proofs.LabelLemmas.{IsFree, IsFree-from, IsFree-joined, is_free, unlabelled}
-use Rattle.cvss_scan.proofs.SlashLemmas.{denoted_with_slash, some_parts}
+use Rattle.cvss_scan.proofs.LabelLemmas.{free_at, free_joined, unlabelled}
+use Rattle.cvss_scan.proofs.PlainLemmas.{IsPlain-joined, IsWhole-plain, at_each, ends_after, ends_whole, is_plain, plain_at, plain_read, plain_with_slash}
 use Rattle.cvss_scan.proofs.WholeLemmas.{mentioned_alone, mentioned_between}
 
 -- the component of a value, as it is read
@@ -48,17 +52,9 @@ plain_v4 : (kind : KindV4) (value : v4.Value kind) → is_plain (component_read 
 plain_v4 kind_v4.AC = search rules
 plain_v4 _ = search rules
 
-free_v2 : (kind : KindV2) (value : v2.Value kind) → is_free (component_read v2 kind value) ≡ true
+free_v2 : (kind : KindV2) (value : v2.Value kind) → at_each free_at (component_read v2 kind value) ≡ true
 free_v2 kind_v2.A = search rules
 free_v2 _ = search rules
-
-plain_joined : (parts : List (List ℕ)) → 1 ≤ length parts → All IsPlain parts → IsPlain (joined parts)
-plain_joined [] some all = absurd (omega (arith, some))
-plain_joined (part ∷ parts) some all = IsPlain-joined part parts all
-
-free_joined : (parts : List (List ℕ)) → 1 ≤ length parts → All IsFree parts → IsFree (joined parts)
-free_joined [] some all = absurd (omega (arith, some))
-free_joined (part ∷ parts) some all = IsFree-joined part parts all
 
 -- what holds of the components of a vector, as they are read, and so of the pieces
 all_parts : {V K : Type 0} (version : Version V K) (P : List ℕ → Type 0) → VersionLaws version → ((kind : K) (value : version.Value kind) → P (component_read version kind value))
@@ -70,54 +66,62 @@ all_parts version P version_laws holds back v parts components =
 
 -- the components of a vector, joined
 plain_parts : {V K : Type 0} (version : Version V K) → VersionLaws version → ((kind : K) (value : version.Value kind) → is_plain (component_read version kind value) ≡ true)
-    → (v : V) (parts : List (List ℕ)) → AreComponentsOf version parts v → 1 ≤ length parts → IsPlain (joined parts)
+    → (v : V) (parts : List (List ℕ)) → AreComponentsOf version parts v → 1 ≤ length parts → is_plain (joined parts) ≡ true
 plain_parts version version_laws plain v parts components some =
-    plain_joined parts some (all_parts version IsPlain version_laws (λ kind value. IsPlain-from (component_read version kind value) (plain kind value))
-    (IsPlain-read version.any_case) v parts components)
+    IsPlain-joined parts some (all_parts version (λ piece. is_plain piece ≡ true) version_laws plain (plain_read version.any_case) v parts components)
+
+-- two pieces or more
+joined_with_slash : (parts : List (List ℕ)) → 2 ≤ length parts → has slash (joined parts) ≡ true
+joined_with_slash [] two = absurd (omega (arith, two))
+joined_with_slash (piece ∷ []) two = absurd (omega (arith, two))
+joined_with_slash (piece ∷ next ∷ more) two = list_any-append (λ each. eqb each slash) piece (slash ∷ joined (next ∷ more)) ∙ or-true (has slash piece)
+
+whole_free : (text : List ℕ) → is_plain text ≡ true → has slash text ≡ true → at_each free_at text ≡ true → IsWhole text
+whole_free [] plain slashed free = absurd (false≢true slashed)
+whole_free (byte ∷ rest) plain slashed free =
+    let both = and_parts (at_each plain_at (byte ∷ rest)) (ends_whole (byte ∷ rest)) plain in
+    let each = and_parts (plain_at byte rest) (at_each plain_at rest) both.0 in
+    IsWhole-plain byte rest (and_parts (is_vector_byte byte) _ each.0).0 each.1 both.1 slashed (unlabelled (byte ∷ rest) free)
 
 whole_v2 : (text : List ℕ) (vector : vector_v2.Vector) → DenotesV2 text vector → IsWhole text
 whole_v2 text vector denotes =
     let parts = denotes.denoted.parts in
     let components = denotes.denoted.components in
     let some : 1 ≤ length parts = omega (arith, v2_parts text vector denotes) in
-    let free = free_joined parts some (all_parts v2 IsFree v2_laws (λ kind value. IsFree-from (component_read v2 kind value) (free_v2 kind value)) (λ piece is. is) vector parts components) in
     subst IsWhole (sym denotes.denoted.text_is)
-    (IsWhole-plain (joined parts) (plain_parts v2 v2_laws plain_v2 vector parts components some)
-    (sym (ap (has slash) denotes.denoted.text_is) ∙ denoted_with_slash text (CvssV20 vector) denotes) (unlabelled (joined parts) free))
+    (whole_free (joined parts) (plain_parts v2 v2_laws plain_v2 vector parts components some)
+    (joined_with_slash parts (omega (arith, v2_parts text vector denotes)))
+    (free_joined parts some (all_parts v2 (λ piece. at_each free_at piece ≡ true) v2_laws free_v2 (λ piece is. is) vector parts components)))
 
--- a piece before others
-joined_first : (piece : List ℕ) (parts : List (List ℕ)) → 1 ≤ length parts → joined (piece ∷ parts) ≡ piece ++ slash ∷ joined parts
-joined_first piece [] some = absurd (omega (arith, some))
-joined_first piece (next ∷ parts) some = refl
-
--- after a piece that says a version
-whole_after : (text piece : List ℕ) (front parts : List (List ℕ)) → ((rest : List ℕ) → IsPlain rest → IsWhole (piece ++ slash ∷ rest))
-    → text ≡ joined (front ++ parts) → front ≡ piece ∷ [] → 1 ≤ length parts → IsPlain (joined parts) → IsWhole text
-whole_after text piece front parts whole is front_is some plain =
-    subst IsWhole (sym (is ∙ ap (λ first. joined (first ++ parts)) front_is ∙ joined_first piece parts some)) (whole (joined parts) plain)
+-- pieces after one that says a version
+whole_after : (byte : ℕ) (piece : List ℕ) (parts : List (List ℕ)) → is_vector_byte byte ≡ true → at_each plain_at piece ≡ true
+    → ((rest : List ℕ) → begins_with_prefix (byte ∷ (piece ++ slash ∷ rest)) ≡ true) → parts ≢ [] → ((some : 1 ≤ length parts) → is_plain (joined parts) ≡ true) → IsWhole (joined ((byte ∷ piece) ∷ parts))
+whole_after byte piece [] vector each begins some plain = absurd (some refl)
+whole_after byte piece (next ∷ parts) vector each begins some plain =
+    let rest = joined (next ∷ parts) in
+    let both = and_parts (at_each plain_at rest) (ends_whole rest) (plain (omega arith)) in
+    IsWhole-plain byte (piece ++ slash ∷ rest) vector (plain_with_slash piece rest each both.0) (ends_after (byte ∷ piece) rest both.1)
+    (list_any-append (λ each. eqb each slash) (byte ∷ piece) (slash ∷ rest) ∙ or-true (has slash (byte ∷ piece)))
+    (cond-true (begins_with_prefix (byte ∷ (piece ++ slash ∷ rest))) 0 (unwrap_or (label_length (byte ∷ (piece ++ slash ∷ rest))) 0) (begins rest))
 
 whole_v3 : (text : List ℕ) (minor : ℕ) (vector : vector_v3.Vector) → DenotesV3 text (version_piece (codes "3." ++ numeral minor)) minor vector
-    → ((rest : List ℕ) → IsPlain rest → IsWhole (version_piece (codes "3." ++ numeral minor) ++ slash ∷ rest)) → IsWhole text
+    → ((parts : List (List ℕ)) → parts ≢ [] → ((some : 1 ≤ length parts) → is_plain (joined parts) ≡ true) → IsWhole (joined (version_piece (codes "3." ++ numeral minor) ∷ parts))) → IsWhole text
 whole_v3 text minor vector denotes whole =
     let parts = denotes.denoted.parts in
-    let front : v3.front vector ≡ version_piece (codes "3." ++ numeral minor) ∷ [] = ap (λ n. version_piece (codes "3." ++ numeral n) ∷ []) denotes.version in
-    let some = some_parts parts (v3_parts text minor vector denotes) in
-    whole_after text (version_piece (codes "3." ++ numeral minor)) (v3.front vector) parts whole denotes.denoted.text_is front some
-    (plain_parts v3 v3_laws plain_v3 vector parts denotes.denoted.components some)
+    subst IsWhole (sym (denotes.denoted.text_is ∙ ap (λ n. joined (version_piece (codes "3." ++ numeral n) ∷ parts)) denotes.version))
+    (whole parts (v3_parts text minor vector denotes) (plain_parts v3 v3_laws plain_v3 vector parts denotes.denoted.components))
 
 whole_v4 : (text : List ℕ) (vector : vector_v4.Vector) → DenotesV4 text vector → IsWhole text
 whole_v4 text vector denotes =
     let parts = denotes.denoted.parts in
     let supported = denotes.well_formed.supported in
-    let some = some_parts parts (v4_parts text vector denotes) in
-    whole_after text (codes "CVSS:4.0") (v4.front vector) parts (λ rest plain. IsWhole-after 67 (codes "VSS:4.0") rest refl refl refl plain)
-    denotes.denoted.text_is (supported.front_is ∙ ap (λ reported. version_piece reported ∷ []) (only_one supported.reported (codes "4.0") supported.supported)) some
-    (plain_parts v4 v4_laws plain_v4 vector parts denotes.denoted.components some)
+    subst IsWhole (sym (denotes.denoted.text_is ∙ ap (λ front. joined (front ++ parts)) (supported.front_is ∙ ap (λ reported. version_piece reported ∷ []) (only_one supported.reported (codes "4.0") supported.supported))))
+    (whole_after 67 (codes "VSS:4.0") parts refl refl (λ rest. refl) (v4_parts text vector denotes) (plain_parts v4 v4_laws plain_v4 vector parts denotes.denoted.components))
 
 denoted_whole : (text : List ℕ) (cvss : Cvss) → DenotesCvss text cvss → IsWhole text
 denoted_whole text (CvssV20 vector) denotes = whole_v2 text vector denotes
-denoted_whole text (CvssV30 vector) denotes = whole_v3 text 0 vector denotes (λ rest plain. IsWhole-after 67 (codes "VSS:3.0") rest refl refl refl plain)
-denoted_whole text (CvssV31 vector) denotes = whole_v3 text 1 vector denotes (λ rest plain. IsWhole-after 67 (codes "VSS:3.1") rest refl refl refl plain)
+denoted_whole text (CvssV30 vector) denotes = whole_v3 text 0 vector denotes (λ parts. whole_after 67 (codes "VSS:3.0") parts refl refl (λ rest. refl))
+denoted_whole text (CvssV31 vector) denotes = whole_v3 text 1 vector denotes (λ parts. whole_after 67 (codes "VSS:3.1") parts refl refl (λ rest. refl))
 denoted_whole text (CvssV40 vector) denotes = whole_v4 text vector denotes
 
 pub accepted_whole : (text : List ℕ) → IsAccepted text → IsWhole text

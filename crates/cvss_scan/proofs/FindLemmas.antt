@@ -1,71 +1,49 @@
 -- When the mention of a part is found.
-use Rattle.std.proofs.Common.{◌≡◌, ℕ, ◌+◌, ◌≤◌, Bool, true, false, ◌||◌, ◌&&◌, cond, inl, inr, List, drop, length, refl, sym, ap, ◌∙◌, subst, arith, length-append}
+use Rattle.std.proofs.Common.{◌≡◌, ℕ, ◌+◌, true, ◌||◌, ◌&&◌, eqb, inl, inr, List, ◌∷◌, [], drop, sym, ap, ◌∙◌, subst}
 use Rattle.std.specs.Prelude.{unwrap_or}
-use Rattle.std.proofs.Math.Bool.{or-true}
+use Rattle.std.proofs.lemmas.Bool.{and_parts, cond-true, or_cases, or_left, or_right}
 use Rattle.cvss_base.specs.Text.{has, slash}
-use Rattle.cvss_scan.specs.Mentions.{IsFound, label_of, mention_of, without_label}
-use Rattle.cvss_scan.specs.Parts.{begins_exactly, begins_loosely, label_length, unencoded, without_dividers}
+use Rattle.cvss_scan.specs.Mentions.{IsFound, Placed, label_of, without_label}
+use Rattle.cvss_scan.specs.Parts.{begins_exactly, begins_loosely, begins_with_prefix, label_length, percent}
+use Rattle.cvss_scan.specs.private.Passing.{has_mark}
 use Rattle.cvss_scan.proofs.AcceptedLemmas.{accepted_whole}
-use Rattle.cvss_scan.proofs.PlaceLemmas.{begins}
-use Rattle.cvss_scan.proofs.SlashLemmas.{denoted_with_slash}
+use Rattle.cvss_scan.proofs.PrefixLemmas.{loosely_marked}
+use Rattle.cvss_scan.proofs.WholeLemmas.{without_no_label}
 
-meant_begins : (exact slashed loosely : Bool) → ((exact && slashed) || loosely) ≡ true → (exact || loosely) ≡ true
-meant_begins true slashed loosely is = refl
-meant_begins false slashed loosely is = is
+-- what is found has a slash or a percent
+slash_marked : (text : List ℕ) → has slash text ≡ true → has_mark text ≡ true
+slash_marked [] is = is
+slash_marked (byte ∷ text) is = elim (or_cases (eqb byte slash) (has slash text) is) [
+  | inl one ↦ or_left (eqb byte slash || eqb byte percent) (has_mark text) (or_left (eqb byte slash) (eqb byte percent) one)
+  | inr more ↦ or_right (eqb byte slash || eqb byte percent) (has_mark text) (slash_marked text more)
+]
 
+pub found_with_mark : (text : List ℕ) → IsFound text → has_mark text ≡ true
+found_with_mark text (inl accepted) = slash_marked text (accepted_whole text accepted).with_slash
+found_with_mark text (inr meant) = elim (or_cases (begins_exactly text && has slash text) (begins_loosely text) meant) [
+  | inl both ↦ slash_marked text (and_parts (begins_exactly text) (has slash text) both).1
+  | inr loosely ↦ loosely_marked text loosely
+]
+
+-- bytes that are found have no label
 found_unlabelled : (text : List ℕ) → IsFound text → label_of text ≡ 0
 found_unlabelled text (inl accepted) = (accepted_whole text accepted).unlabelled
 found_unlabelled text (inr meant) =
-    ap (λ prefixed. cond prefixed 0 (unwrap_or (label_length text) 0))
-    (meant_begins (begins_exactly text) (has slash text) (begins_loosely text) meant)
+    cond-true (begins_with_prefix text) 0 (unwrap_or (label_length text) 0)
+    (elim (or_cases (begins_exactly text && has slash text) (begins_loosely text) meant) [
+      | inl both ↦ or_left (begins_exactly text) (begins_loosely text) (and_parts (begins_exactly text) (has slash text) both).0
+      | inr loosely ↦ or_right (begins_exactly text) (begins_loosely text) loosely
+    ])
 
-at_start : (place : ℕ) (text : List ℕ) → label_of text ≡ 0 → without_label place text ≡ record { place = place; text = text }
-at_start place text none =
-    ap (λ count. record { place = place + count; text = drop count text }) none ∙ ap (λ at. record { place = at; text = text }) (omega arith)
+pub found_by : (given mention : Placed) → given ≡ mention → IsFound given.text → (given ≡ mention) × IsFound mention.text
+found_by given mention same found = (same, subst (λ (each : Placed). IsFound each.text) same found)
 
--- bytes that are found have no label
-pub found_whole : (place : ℕ) (part text : List ℕ) → text ≡ without_dividers (unencoded part) → IsFound text
-    → (record { place = place; text = text } ≡ mention_of place part) × IsFound (mention_of place part).text
-found_whole place part text is found =
-    let same : record { place = place; text = text } ≡ mention_of place part = sym (at_start place text (found_unlabelled text found)) ∙ ap (without_label place) is in
-    (same, subst (λ mention. IsFound mention.text) same found)
+pub not_found_by : (given mention : Placed) → given ≡ mention → ¬ (IsFound given.text) → ¬ (IsFound mention.text)
+not_found_by given mention same not_found found = not_found (subst (λ (each : Placed). IsFound each.text) (sym same) found)
 
-pub not_found_whole : (place : ℕ) (part text : List ℕ) → text ≡ without_dividers (unencoded part) → label_of text ≡ 0 → ¬ (IsFound text)
-    → ¬ (IsFound (mention_of place part).text)
-not_found_whole place part text is none not_found found =
-    not_found (subst (λ mention. IsFound mention.text) (sym (ap (without_label place) is) ∙ at_start place text none) found)
+pub found_whole : (place : ℕ) (text : List ℕ) → IsFound text → (record { place = place; text = text } ≡ without_label place text) × IsFound (without_label place text).text
+found_whole place text found = found_by (record { place = place; text = text }) (without_label place text) (sym (without_no_label place text (found_unlabelled text found))) found
 
-after_label : (place : ℕ) (part text cut : List ℕ) (label : ℕ) → text ≡ without_dividers (unencoded part) → label ≡ label_of text → cut ≡ drop label text
-    → record { place = place + label; text = cut } ≡ mention_of place part
-after_label place part text cut label is label_is cut_is =
-    ap (λ bytes. record { place = place + label; text = bytes }) cut_is
-    ∙ ap (λ count. record { place = place + count; text = drop count text }) label_is ∙ ap (without_label place) is
-
--- and others are found after their label
-pub found_after_label : (place : ℕ) (part text cut : List ℕ) (label : ℕ) → text ≡ without_dividers (unencoded part) → label ≡ label_of text → cut ≡ drop label text → IsFound cut
-    → (record { place = place + label; text = cut } ≡ mention_of place part) × IsFound (mention_of place part).text
-found_after_label place part text cut label is label_is cut_is found =
-    let same = after_label place part text cut label is label_is cut_is in
-    (same, subst (λ mention. IsFound mention.text) same found)
-
-pub not_found_after_label : (place : ℕ) (part text cut : List ℕ) (label : ℕ) → text ≡ without_dividers (unencoded part) → label ≡ label_of text → cut ≡ drop label text → ¬ (IsFound cut)
-    → ¬ (IsFound (mention_of place part).text)
-not_found_after_label place part text cut label is label_is cut_is not_found found =
-    not_found (subst (λ mention. IsFound mention.text) (sym (after_label place part text cut label is label_is cut_is)) found)
-
-pub shorter_bytes : (part : List ℕ) → length (without_dividers (unencoded part)) ≤ length part
-shorter_bytes part =
-    let first = begins part in
-    omega (arith, ap length first.is, length-append (without_dividers (unencoded part)) first.taken_off)
-
-loosely_if : (exact slashed loosely : Bool) → slashed ≡ false → ((exact && slashed) || loosely) ≡ true → loosely ≡ true
-loosely_if exact true loosely none is = cc
-loosely_if true false loosely none is = is
-loosely_if false false loosely none is = is
-
-pub found_if_loosely : (text : List ℕ) → begins_loosely text ≡ true → IsFound text
-found_if_loosely text loosely = inr (ap (λ b. (begins_exactly text && has slash text) || b) loosely ∙ or-true (begins_exactly text && has slash text))
-
-pub loosely_if_found : (text : List ℕ) → has slash text ≡ false → IsFound text → begins_loosely text ≡ true
-loosely_if_found text none (inl accepted) = let slashed = denoted_with_slash text accepted.cvss accepted.denoted in cc
-loosely_if_found text none (inr meant) = loosely_if (begins_exactly text) (has slash text) (begins_loosely text) none meant
+pub after_label : (place : ℕ) (text cut : List ℕ) (label : ℕ) → label ≡ label_of text → cut ≡ drop label text → record { place = place + label; text = cut } ≡ without_label place text
+after_label place text cut label label_is cut_is =
+    ap (λ bytes. record { place = place + label; text = bytes }) cut_is ∙ ap (λ count. record { place = place + count; text = drop count text }) label_is

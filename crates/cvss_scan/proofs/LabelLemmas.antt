@@ -1,14 +1,14 @@
 -- Labels before vectors of CVSS v2.
-use Rattle.std.proofs.Common.{◌≡◌, ℕ, suc, ◌+◌, ◌-◌, ◌≤◌, Bool, true, false, cond, ◌||◌, ◌&&◌, not, eqb, List, [], ◌∷◌, ◌++◌, codes, length, None, Option, Some, ◌<◌, refl, sym, ap, ap₂, ◌∙◌, arith}
+use Rattle.std.proofs.Common.{◌≡◌, ℕ, suc, ◌+◌, ◌-◌, ◌<◌, ◌≤◌, Bool, true, false, cond, ◌||◌, ◌&&◌, not, eqb, List, [], ◌∷◌, codes, length, None, Option, Some, refl, sym, ap, ◌∙◌, arith}
 use Rattle.std.specs.Prelude.{unwrap_or}
 use Rattle.std.specs.Char.{is_ascii_digit}
-use Rattle.std.specs.List.{All, list_all, starts_with}
+use Rattle.std.specs.List.{All, starts_with}
 use Rattle.std.specs.Option.{option_map}
-use Rattle.std.proofs.lemmas.Bool.{and_parts, or_parts, not-true}
-use Rattle.std.proofs.lemmas.List.Elements.{All-head, All-tail}
-use Rattle.std.proofs.lemmas.List.Folds.{list_all-append}
+use Rattle.std.proofs.lemmas.Bool.{and_parts, cond-false}
 use Rattle.cvss_base.specs.Text.{colon, joined, slash}
-use Rattle.cvss_scan.specs.Parts.{ends_label, label_length}
+use Rattle.cvss_scan.specs.Mentions.{label_of}
+use Rattle.cvss_scan.specs.Parts.{begins_with_prefix, ends_label, label_length}
+use Rattle.cvss_scan.proofs.PlainLemmas.{IsLocal, at_each, each_with_slash, joined_holds}
 use Rattle.cvss_scan.proofs.PrefixLemmas.{starts_before}
 
 -- so many bytes more
@@ -36,60 +36,40 @@ no_label_left text [] after few = sym after.is
 no_label_left text (byte ∷ []) after few = sym after.is
 no_label_left text (byte ∷ next ∷ left) after few = absurd (omega (arith, few))
 
--- a colon and `AV:` are in the text
-abbrev pub has_colon_av : List ℕ → Bool
-has_colon_av [] = false
-has_colon_av (byte ∷ rest) = (eqb byte colon && starts_with eqb rest (codes "AV:")) || has_colon_av rest
+-- the byte is no digit, and no colon before `AV:`
+abbrev pub free_at : ℕ → List ℕ → Bool
+free_at byte rest = not (is_ascii_digit byte) && not (eqb byte colon && starts_with eqb rest (codes "AV:"))
 
-abbrev pub has_no_digit : List ℕ → Bool
-has_no_digit text = list_all (λ byte. not (is_ascii_digit byte)) text
+free_local : IsLocal free_at
+free_local = record {
+  before = λ byte front rest. ap (λ starts. not (is_ascii_digit byte) && not (eqb byte colon && starts)) (starts_before eqb (codes "AV:") front slash rest refl);
+  at_slash = λ rest. refl;
+}
 
--- nothing in the text can end a label
-pub record IsFree (text : List ℕ) : Type 0 where
-  pub no_digit : has_no_digit text ≡ true
-  pub no_colon : has_colon_av text ≡ false
+pub free_joined : (parts : List (List ℕ)) → 1 ≤ length parts → All (λ part. at_each free_at part ≡ true) parts → at_each free_at (joined parts) ≡ true
+free_joined = joined_holds (λ text. at_each free_at text ≡ true) (each_with_slash free_at free_local)
 
-abbrev pub is_free : List ℕ → Bool
-is_free text = has_no_digit text && not (has_colon_av text)
+free_ends : (is_colon digit is_slash starts : Bool) → not digit ≡ true → not (is_colon && starts) ≡ true → ((is_colon || (digit && is_slash)) && starts) ≡ false
+free_ends true false is_slash true no_digit free = cc
+free_ends true false is_slash false no_digit free = refl
+free_ends false false is_slash starts no_digit free = refl
+free_ends is_colon true is_slash starts no_digit free = cc
 
-pub IsFree-from : (text : List ℕ) → is_free text ≡ true → IsFree text
-IsFree-from text is =
-    let both = and_parts (has_no_digit text) (not (has_colon_av text)) is in
-    record { no_digit = both.0; no_colon = not-true (has_colon_av text) both.1 }
+-- where each byte is so, no label ends
+no_label : (text : List ℕ) → at_each free_at text ≡ true → label_length text ≡ None
+no_label [] free = refl
+no_label (byte ∷ []) free = refl
+no_label (byte ∷ next ∷ rest) free =
+    let here = and_parts (free_at byte (next ∷ rest)) (at_each free_at (next ∷ rest)) free in
+    let then = and_parts (free_at next rest) (at_each free_at rest) here.1 in
+    cond-false _ (Some 2) (option_map suc (label_length (next ∷ rest)))
+    (free_ends (eqb next colon) (is_ascii_digit byte) (eqb next slash) (starts_with eqb rest (codes "AV:"))
+    (and_parts (not (is_ascii_digit byte)) _ here.0).0 (and_parts (not (is_ascii_digit next)) _ then.0).1)
+    ∙ ap (option_map suc) (no_label (next ∷ rest) here.1)
 
-free_ends : (is_colon digit is_slash starts : Bool) → not digit ≡ true → (is_colon && starts) ≡ false → ((is_colon || (digit && is_slash)) && starts) ≡ false
-free_ends true false is_slash starts no_digit none = none
-free_ends false false is_slash starts no_digit none = refl
-free_ends is_colon true is_slash starts no_digit none = cc
+unlabelled_either : (prefixed : Bool) (length : Option ℕ) → length ≡ None → cond prefixed 0 (unwrap_or length 0) ≡ 0
+unlabelled_either true length none = refl
+unlabelled_either false length none = ap (λ it. unwrap_or it 0) none
 
-unlabelled_either : (ends : Bool) (more : Option ℕ) → ends ≡ false → more ≡ None → cond ends (Some 2) (option_map suc more) ≡ None
-unlabelled_either ends more none less = rw none (rw less refl)
-
--- such a text has no label
-pub unlabelled : (text : List ℕ) → IsFree text → label_length text ≡ None
-unlabelled [] free = refl
-unlabelled (byte ∷ []) free = refl
-unlabelled (byte ∷ next ∷ rest) free =
-    let digits = and_parts (not (is_ascii_digit byte)) (has_no_digit (next ∷ rest)) free.no_digit in
-    let colons = or_parts (eqb byte colon && starts_with eqb (next ∷ rest) (codes "AV:")) (has_colon_av (next ∷ rest)) free.no_colon in
-    let later = or_parts (eqb next colon && starts_with eqb rest (codes "AV:")) (has_colon_av rest) colons.1 in
-    unlabelled_either _ (label_length (next ∷ rest))
-    (free_ends (eqb next colon) (is_ascii_digit byte) (eqb next slash) (starts_with eqb rest (codes "AV:")) digits.0 later.0)
-    (unlabelled (next ∷ rest) (record { no_digit = digits.1; no_colon = colons.1 }))
-
--- with a slash between them
-no_colon_with_slash : (front rest : List ℕ) → has_colon_av front ≡ false → has_colon_av rest ≡ false → has_colon_av (front ++ slash ∷ rest) ≡ false
-no_colon_with_slash [] rest first then = then
-no_colon_with_slash (byte ∷ front) rest first then =
-    let parts = or_parts (eqb byte colon && starts_with eqb front (codes "AV:")) (has_colon_av front) first in
-    ap₂ (λ (a b : Bool). a || b) (ap (λ starts. eqb byte colon && starts) (starts_before (codes "AV:") front slash rest refl) ∙ parts.0) (no_colon_with_slash front rest parts.1 then)
-
-pub IsFree-joined : (part : List ℕ) (parts : List (List ℕ)) → All IsFree (part ∷ parts) → IsFree (joined (part ∷ parts))
-IsFree-joined part [] all = All-head IsFree part [] all
-IsFree-joined part (next ∷ parts) all =
-    let first = All-head IsFree part (next ∷ parts) all in
-    let then = IsFree-joined next parts (All-tail IsFree part (next ∷ parts) all) in
-    record {
-      no_digit = list_all-append (λ byte. not (is_ascii_digit byte)) part (slash ∷ joined (next ∷ parts)) ∙ ap₂ (λ (a b : Bool). a && b) first.no_digit then.no_digit;
-      no_colon = no_colon_with_slash part (joined (next ∷ parts)) first.no_colon then.no_colon;
-    }
+pub unlabelled : (text : List ℕ) → at_each free_at text ≡ true → label_of text ≡ 0
+unlabelled text free = unlabelled_either (begins_with_prefix text) (label_length text) (no_label text free)

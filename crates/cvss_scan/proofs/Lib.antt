@@ -1,6 +1,5 @@
 pub mod AcceptedLemmas
-mod CutLemmas
-mod EndLemmas
+mod AfterLemmas
 mod FindLemmas
 pub mod FoundLemmas
 mod LabelLemmas
@@ -10,5 +9,4 @@ mod PassLemmas
 mod PlaceLemmas
 mod PlainLemmas
 mod PrefixLemmas
-mod SlashLemmas
 mod WholeLemmas

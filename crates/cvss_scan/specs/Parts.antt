@@ -1,7 +1,7 @@
 -- The parts into which a text of any bytes is cut to find the vectors in it.
-use Rattle.std.specs.Prelude.{ℕ, suc, ◌||◌, ◌&&◌, ◌==◌, Bool, true, false, List, [], ◌∷◌, codes, not, if◌then◌else◌, nat_eq, Option, None, Some}
+use Rattle.std.specs.Prelude.{ℕ, suc, ◌-◌, ◌||◌, ◌&&◌, ◌==◌, Bool, false, List, [], ◌∷◌, codes, length, not, if◌then◌else◌, nat_eq, Option, None, Some, take}
 use Rattle.std.specs.Char.{is_ascii_alphanumeric, is_ascii_digit, to_ascii_uppercase}
-use Rattle.std.specs.List.{before_first, list_all, list_any, starts_with}
+use Rattle.std.specs.List.{before_first, list_any, onto_first, starts_with, suffix_len}
 use Rattle.std.specs.Option.{option_map}
 use Rattle.cvss_base.specs.Text.{colon, dot, has, slash}
 
@@ -27,9 +27,7 @@ is_like pattern byte = if pattern == 48 then is_ascii_digit byte else to_ascii_u
 
 -- the text begins with bytes as those of the pattern
 abbrev pub begins_like : List ℕ → List ℕ → Bool
-begins_like [] text = true
-begins_like (first ∷ pattern) [] = false
-begins_like (first ∷ pattern) (byte ∷ text) = is_like first byte && begins_like pattern text
+begins_like pattern text = starts_with is_like text pattern
 
 -- how vectors begin whose prefix is written in another case, without its colon or with a `v`, or that are
 -- percent-encoded: `%3A` for a colon, `%2F` for a slash, or both
@@ -38,9 +36,9 @@ loose_prefixes =
     codes "CVSS:0.0/AV:" ∷ codes "CVSS0.0/AV:" ∷ codes "CVSSV0.0/AV:"
     ∷ codes "CVSS:0.0%2FAV:" ∷ codes "CVSS:0.0%2FAV%3A" ∷ codes "CVSS%3A0.0/AV%3A" ∷ codes "CVSS%3A0.0%2FAV%3A" ∷ []
 
--- the text begins as a vector whose prefix is not written as it should be, or perhaps is
+-- the text begins as a vector whose prefix is not written as it should be, or perhaps is: with the letters, and so on
 abbrev pub begins_loosely : List ℕ → Bool
-begins_loosely text = list_any (λ pattern. begins_like pattern text) loose_prefixes
+begins_loosely text = begins_like (codes "CVSS") text && list_any (λ pattern. begins_like pattern text) loose_prefixes
 
 -- the text begins with `CVSS:`
 abbrev pub begins_exactly : List ℕ → Bool
@@ -55,11 +53,6 @@ abbrev pub begins_part : List ℕ → Bool
 begins_part [] = false
 begins_part (byte ∷ rest) = not (is_run_byte byte) || begins_with_prefix (byte ∷ rest)
 
--- a byte more at the front of the first part
-abbrev pub onto_first : ℕ → List (List ℕ) → List (List ℕ)
-onto_first byte [] = (byte ∷ []) ∷ []
-onto_first byte (part ∷ parts) = (byte ∷ part) ∷ parts
-
 -- the parts of a text, which joined are the text: it is cut before each prefix, and on both sides of each byte of
 -- no run
 abbrev pub parts_of : List ℕ → List (List ℕ)
@@ -70,9 +63,7 @@ parts_of (byte ∷ rest) =
 
 -- a part without the dots, slashes and colons at its end
 abbrev pub without_dividers : List ℕ → List ℕ
-without_dividers [] = []
-without_dividers (byte ∷ rest) =
-    if list_all is_divider (byte ∷ rest) then [] else byte ∷ without_dividers rest
+without_dividers part = take (length part - suffix_len is_divider part) part
 
 -- the text before its first `%`
 abbrev pub before_percent : List ℕ → List ℕ

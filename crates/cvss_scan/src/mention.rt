@@ -4,11 +4,11 @@ ghost use Rattle.std.specs.Prelude.{◌≡◌, ◌↔◌, ◌+◌, ◌<◌, ◌�
 ghost use Rattle.cvss_any.specs.Answers.{HasScore};
 ghost use Rattle.cvss_any.specs.Dispatch.{DenotesCvss};
 ghost use Rattle.cvss_any.specs.declared.vector.Cvss.{Cvss};
-ghost use Rattle.cvss_scan.specs.Mentions.{IsFound, label_of, mention_of};
+ghost use Rattle.cvss_scan.specs.Mentions.{IsFound, is_meant, label_of, mention_of, without_label};
 ghost use Rattle.cvss_scan.specs.MentionsLeft.{as_placed};
 
 use crate::part::{unencoded, without_dividers};
-use crate::prefix::{begins_loosely, begins_with_prefix, label_length};
+use crate::prefix::{begins_exactly, begins_loosely, begins_with_prefix, label_length};
 use cvss_any::Cvss;
 
 /// A match of a vector in a text: bytes that are accepted as a vector, or that were meant as one.
@@ -39,7 +39,17 @@ pub(crate) fn find_in(place: usize, part: &[u8]) -> Option<Mention<'_>>
         (λ mention. (as_placed mention ≡ mention_of place part.now)
         × IsFound (mention_of place part.now).text) }
 {
-    let text = without_dividers(unencoded(part));
+    find_after_label(place, without_dividers(unencoded(part)))
+}
+
+/// The bytes that begin at a place, if they are found without their label.
+#[inline(always)]
+fn find_after_label(place: usize, text: &[u8]) -> Option<Mention<'_>>
+    requires { place + length text.now < 2 ^ 64 }
+    ensures { MatchOption result (¬ (IsFound (without_label place text.now).text))
+        (λ mention. (as_placed mention ≡ without_label place text.now)
+        × IsFound (without_label place text.now).text) }
+{
     if is_found(text) {
         return Some(Mention { place, text });
     }
@@ -73,9 +83,13 @@ fn label_of(text: &[u8]) -> usize
 fn is_found(text: &[u8]) -> bool
     ensures { IsTrue result ↔ IsFound text.now }
 {
-    if text.contains(&b'/') {
-        begins_with_prefix(text) || Cvss::read_bytes(text).is_some()
-    } else {
-        begins_loosely(text)
-    }
+    is_meant(text) || Cvss::read_bytes(text).is_some()
+}
+
+/// Whether a text was meant as a vector.
+#[inline(always)]
+fn is_meant(text: &[u8]) -> bool
+    ensures { result ≡ is_meant text.now }
+{
+    begins_exactly(text) && text.contains(&b'/') || begins_loosely(text)
 }

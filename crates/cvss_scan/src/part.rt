@@ -1,8 +1,9 @@
 //! How a text is cut into parts.
 
-ghost use Rattle.std.specs.Prelude.{◌≡◌, ◌<◌, ◌≤◌, ◌∷◌, false, true, length, take, drop};
+ghost use Rattle.std.specs.Prelude.{◌≡◌, ◌<◌, ◌≤◌, ◌&&◌, ◌∷◌, length, not, take, drop};
 ghost use Rattle.cvss_base.specs.Text.{has};
 ghost use Rattle.cvss_scan.specs.Parts.{before_percent, begins_part, is_divider, is_like, is_run_byte, is_vector_byte, without_dividers, parts_of, percent, unencoded};
+ghost use Rattle.cvss_scan.specs.private.Passing.{uncut_length};
 
 use crate::prefix::begins_with_prefix;
 use cvss_lines::either_or_len;
@@ -14,14 +15,20 @@ pub fn first_part(text: &[u8]) -> usize
     ensures some { 0 < result }
     ensures cut { parts_of text.now ≡ take result text.now ∷ parts_of (drop result text.now) }
 {
-    let [first, rest @ ..] = text else {
-        return text.len();
-    };
-    if !is_run_byte(*first) {
-        return 1;
+    match text.split_first() {
+        Some((first, rest)) if is_run_byte(*first) => uncut_length(rest) + 1,
+        _ => 1,
     }
-    let mut left = rest;
-    while let [_, after @ ..] = left {
+}
+
+/// How many bytes are before the first place at which a text is cut.
+#[inline(always)]
+fn uncut_length(text: &[u8]) -> usize
+    ensures value { result ≡ uncut_length text.now }
+    ensures within { result ≤ length text.now }
+{
+    let mut left = text;
+    while let Some((_, after)) = left.split_first() {
         if begins_part(left) {
             break;
         }
@@ -47,19 +54,18 @@ const MARKS: [u8; 256] = [
 fn begins_part(bytes: &[u8]) -> bool
     ensures { result ≡ begins_part bytes.now }
 {
-    match bytes {
-        [byte, ..] => mark_of(*byte) != 0 && begins_part_in_full(bytes),
-        [] => false,
+    match bytes.split_first() {
+        Some((byte, _)) => !is_passed(*byte) && begins_part_in_full(bytes),
+        None => false,
     }
 }
 
-/// 0 only for bytes of runs that are no first letter of a prefix.
+/// Whether a byte is of runs and no first letter of a prefix.
 #[inline(always)]
-fn mark_of(byte: u8) -> u8
-    ensures run { result ≡ 0 → is_run_byte byte ≡ true }
-    ensures letter { result ≡ 0 → is_like 67 byte ≡ false }
+fn is_passed(byte: u8) -> bool
+    ensures { result ≡ (is_run_byte byte && not (is_like 67 byte)) }
 {
-    MARKS[byte as usize]
+    MARKS[byte as usize] == 0
 }
 
 /// Whether a text is cut before these bytes, without the table.
@@ -100,14 +106,11 @@ fn is_divider(byte: u8) -> bool
 pub(crate) fn without_dividers(part: &[u8]) -> &[u8]
     ensures { result.now ≡ without_dividers part.now }
 {
-    let mut text = part;
-    while let [front @ .., last] = text {
-        if !is_divider(*last) {
-            break;
-        }
-        text = front;
+    let mut end = part.len();
+    while end > 0 && is_divider(part[end - 1]) {
+        end -= 1;
     }
-    text
+    &part[..end]
 }
 
 /// A part, which ends before its first `%` if a slash is before that: the vector is not

@@ -38,8 +38,8 @@ fn begins_like(pattern: &[u8], text: &[u8]) -> bool
     ensures { result ≡ begins_like pattern.now text.now }
 {
     let (mut wanted, mut left) = (pattern, text);
-    while let [first, more @ ..] = wanted {
-        let [byte, after @ ..] = left else {
+    while let Some((first, more)) = wanted.split_first() {
+        let Some((byte, after)) = left.split_first() else {
             return false;
         };
         if !is_like(*first, *byte) {

@@ -17,8 +17,9 @@ use Rattle.cvss_subcommands.specs.declared.subcommand.Subcommand.{Subcommand}
 use Rattle.cvss_subcommands.specs.declared.subcommand.Subcommand.TheVariants.{Score, Find, Explain, Set, Triage, Audit}
 use Rattle.cvss_explain_json.specs.Answers as json
 use Rattle.cvss_explain_text.specs.Answers as text
-use Rattle.cvss_find.specs.Annotations.{annotate_rule}
-use Rattle.cvss_find.specs.Forms.{located_rule, objects_rule}
+use Rattle.cvss_find.specs.Answers.{find_rule}
+use Rattle.cvss_find.specs.declared.form.Form.{Form}
+use Rattle.cvss_find.specs.declared.form.Form.TheVariants.{Annotated, Located, Object}
 use Rattle.cvss_lines.specs.Runs.{Ends}
 use Rattle.cvss_lines.specs.declared.fault.RunFault.TheVariants.{Memory}
 use Rattle.cvss_program.specs.Exit.{after, nothing_served}
@@ -36,23 +37,19 @@ help_of all score find explain set triage audit (Some Set) = set
 help_of all score find explain set triage audit (Some Triage) = triage
 help_of all score find explain set triage audit (Some Audit) = audit
 
+-- the form of the answers of `cvss find`, by whether --json, --annotate and --all are given
+abbrev pub form_of : Bool → Bool → Bool → Form
+form_of true annotate all = Object
+form_of false true all = Annotated all
+form_of false false all = Located
+
 -- each line is answered by what is found in it
-abbrev pub FindsVectors : Bool → Endings
-FindsVectors allow_incomplete prefix = Ends (located_rule allow_incomplete prefix)
-
--- each line is answered by an object for what is found in it
-abbrev pub FindsObjects : Bool → Endings
-FindsObjects allow_incomplete prefix = Ends (objects_rule allow_incomplete prefix)
-
--- each line is repeated with the answers to what is found in it, or to the first of that
-abbrev pub AnnotatesLines : Bool → Bool → Endings
-AnnotatesLines all allow_incomplete prefix = Ends (annotate_rule all allow_incomplete prefix)
+abbrev pub FindsVectors : Form → Bool → Endings
+FindsVectors form allow_incomplete prefix = Ends (find_rule form allow_incomplete prefix)
 
 -- how an input is answered by `cvss find`, by whether --json, --annotate, --all and --allow-incomplete are given
 abbrev pub find_ends : Bool → Bool → Bool → Bool → Endings
-find_ends true annotate all = FindsObjects
-find_ends false true all = AnnotatesLines all
-find_ends false false all = FindsVectors
+find_ends json annotate all = FindsVectors (form_of json annotate all)
 
 -- each of the metrics after a slash
 abbrev pub with_slash : List (Vec ℕ) → List ℕ

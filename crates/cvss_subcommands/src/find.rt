@@ -1,10 +1,11 @@
 //! `cvss find`.
 
-ghost use Rattle.cvss_subcommands.specs.Done.{AnnotatesLines, FindsObjects, FindsVectors, find_ends};
+ghost use Rattle.std.specs.Prelude.{◌≡◌};
+ghost use Rattle.cvss_subcommands.specs.Done.{FindsVectors, find_ends, form_of};
 ghost use Rattle.cvss_program.specs.Operands.{ServesAll};
 
 use crate::flags::Flags;
-use cvss_find::{Annotating, Finding, FindingObjects};
+use cvss_find::{Finding, Form};
 use cvss_lines::{RunFault, Summary, serve, write_whole};
 use cvss_program::{Files, Served, Task, WatchedReader, serve_operands};
 use std::alloc::Global;
@@ -28,16 +29,12 @@ pub(crate) fn find_vectors<F: Files, R: Read, W: Write, E: Write>(
         (W.contents writer.old) (W.contents writer.new) result }
 {
     let loose_prefix = Cell::new(false);
-    let served = find_as_asked(
-        alloc,
-        flags,
-        &loose_prefix,
-        operands,
-        files,
-        reader,
-        writer,
-        report,
-    );
+    let task = Find {
+        form: form_of(flags),
+        allow_incomplete: flags.allow_incomplete,
+        loose_prefix: &loose_prefix,
+    };
+    let served = serve_operands(alloc, &task, operands, files, reader, writer, report);
     if loose_prefix.get() {
         let _ = write_whole(report, HINT.as_bytes());
     }
@@ -47,48 +44,23 @@ pub(crate) fn find_vectors<F: Files, R: Read, W: Write, E: Write>(
 /// Written on standard error, once a run.
 const HINT: &str = "cvss: hint: write the prefix of a vector as `CVSS:3.1/`\n";
 
-/// Finds the vectors in the operands, in the form that is asked for.
-fn find_as_asked<F: Files, R: Read, W: Write, E: Write>(
-    alloc: Global,
-    flags: Flags,
-    loose_prefix: &Cell<bool>,
-    operands: &[Vec<u8>],
-    files: &F,
-    reader: &mut WatchedReader<R>,
-    writer: &mut W,
-    report: &mut E,
-) -> Served
-    ensures { ServesAll (find_ends flags.json flags.annotate flags.all flags.allow_incomplete)
-        (F.contents files.now) operands.now
-        (R.remaining reader.old.reader) (R.remaining reader.new.reader)
-        (W.contents writer.old) (W.contents writer.new) result }
+/// The form that is asked for.
+fn form_of(flags: Flags) -> Form
+    ensures { result ≡ form_of flags.json flags.annotate flags.all }
 {
-    let allow_incomplete = flags.allow_incomplete;
     if flags.json {
-        let task = FindObjects {
-            allow_incomplete,
-            loose_prefix,
-        };
-        serve_operands(alloc, &task, operands, files, reader, writer, report)
+        Form::Object
     } else if flags.annotate {
-        let task = Annotate {
-            all: flags.all,
-            allow_incomplete,
-            loose_prefix,
-        };
-        serve_operands(alloc, &task, operands, files, reader, writer, report)
+        Form::Annotated { all: flags.all }
     } else {
-        let task = Find {
-            allow_incomplete,
-            loose_prefix,
-        };
-        serve_operands(alloc, &task, operands, files, reader, writer, report)
+        Form::Located
     }
 }
 
-/// Finds the vectors in any text, and scores them.
+/// Finds the vectors in any text, in the form that is asked for.
 #[derive(Drop)]
 struct Find<'a> {
+    form: Form,
     /// A vector of CVSS v3 may lack base metrics, and a line may end after a slash.
     allow_incomplete: bool,
     /// Set where a vector is rejected whose prefix is written in another way than `CVSS:3.1/`.
@@ -96,7 +68,7 @@ struct Find<'a> {
 }
 
 impl Task for Find<'_> {
-    ghost ends = { λ find. FindsVectors find.allow_incomplete };
+    ghost ends = { λ find. FindsVectors find.form find.allow_incomplete };
 
     fn serve_input<R: Read, W: Write>(
         &self,
@@ -106,69 +78,11 @@ impl Task for Find<'_> {
         writer: &mut W,
     ) -> Result<Summary, RunFault> {
         let finding = Finding {
+            form: self.form,
             allow_incomplete: self.allow_incomplete,
             prefix,
             loose_prefix: self.loose_prefix,
         };
         serve(&finding, alloc, reader, writer)
-    }
-}
-
-/// Finds the vectors in any text, and writes an object for each.
-#[derive(Drop)]
-struct FindObjects<'a> {
-    /// As in [`Find`].
-    allow_incomplete: bool,
-    /// As in [`Find`].
-    loose_prefix: &'a Cell<bool>,
-}
-
-impl Task for FindObjects<'_> {
-    ghost ends = { λ find. FindsObjects find.allow_incomplete };
-
-    fn serve_input<R: Read, W: Write>(
-        &self,
-        alloc: Global,
-        prefix: &[u8],
-        reader: &mut R,
-        writer: &mut W,
-    ) -> Result<Summary, RunFault> {
-        let finding = FindingObjects {
-            allow_incomplete: self.allow_incomplete,
-            prefix,
-            loose_prefix: self.loose_prefix,
-        };
-        serve(&finding, alloc, reader, writer)
-    }
-}
-
-/// Repeats each line with the scores of the vectors in it.
-#[derive(Drop)]
-struct Annotate<'a> {
-    /// All vectors of a line are scored, and not only the first.
-    all: bool,
-    /// As in [`Find`].
-    allow_incomplete: bool,
-    /// As in [`Find`].
-    loose_prefix: &'a Cell<bool>,
-}
-
-impl Task for Annotate<'_> {
-    ghost ends = { λ annotate. AnnotatesLines annotate.all annotate.allow_incomplete };
-
-    fn serve_input<R: Read, W: Write>(
-        &self,
-        alloc: Global,
-        prefix: &[u8],
-        reader: &mut R,
-        writer: &mut W,
-    ) -> Result<Summary, RunFault> {
-        let annotating = Annotating {
-            all: self.all,
-            allow_incomplete: self.allow_incomplete,
-            prefix,
-            loose_prefix: self.loose_prefix,
-        };
-        serve(&annotating, alloc, reader, writer)
     }
 }

@@ -1,6 +1,6 @@
 -- Texts that are mentions as a whole, wherever they are.
 use Rattle.std.specs.Prelude.{◌≡◌, ◌≢◌, ℕ, ◌||◌, Bool, true, false, List, [], ◌∷◌, ◌++◌, codes, length, not, Contains}
-use Rattle.std.specs.List.{list_all}
+use Rattle.std.specs.List.{list_all, suffix_len}
 use Rattle.cvss_base.specs.Text.{has, slash}
 use Rattle.cvss_scan.specs.Mentions.{label_of, mentions_of}
 use Rattle.cvss_scan.specs.Parts.{begins_like, is_run_byte, is_vector_byte, without_dividers}
@@ -25,18 +25,11 @@ abbrev pub is_other : List ℕ → Bool
 is_other [] = true
 is_other (byte ∷ rest) = not (is_vector_byte byte)
 
--- a byte with which no vector is written, nor a percent-encoded one, or nothing
-abbrev pub is_outside : List ℕ → Bool
-is_outside [] = true
-is_outside (byte ∷ rest) = not (is_run_byte byte)
-
--- the last byte and nothing more
-abbrev pub last_byte : List ℕ → List ℕ
-last_byte [] = []
-last_byte (byte ∷ []) = byte ∷ []
-last_byte (byte ∷ next ∷ rest) = last_byte (next ∷ rest)
+-- the text is empty or ends with a byte of no run
+abbrev pub EndsOutside : List ℕ → Type 0
+EndsOutside text = suffix_len is_run_byte text ≡ 0
 
 -- after a byte of no run and before one with which no vector is written, or the ends, the text is a mention by itself
 abbrev pub IsMentionedBetween : List ℕ → List ℕ → List ℕ → Type 0
-IsMentionedBetween before text after = is_outside (last_byte before) ≡ true → is_other after ≡ true
+IsMentionedBetween before text after = EndsOutside before → is_other after ≡ true
     → Contains (mentions_of (before ++ (text ++ after))) (record { place = length before; text = text })

@@ -1,9 +1,13 @@
-use Rattle.std.proofs.Common.{◌≡◌, length}
-use Rattle.cvss_scan.specs.Parts.{without_dividers}
+use Rattle.std.proofs.Common.{◌≡◌, ◌+◌, ◌≤◌, length, take}
+use Rattle.std.specs.List.{suffix_len}
+use Rattle.cvss_scan.specs.Parts.{is_divider}
 use Rattle.cvss_scan.proofs.part.without_dividers.Given as goal
 
-abbrev pub invariant-loop-text : goal.invariant-loop-text
-invariant-loop-text l = without_dividers l.fn.part ≡ without_dividers l.text
+abbrev pub invariant-loop-end : goal.invariant-loop-end
+invariant-loop-end l = record {
+  within : l.end ≤ length l.part;
+  trims : l.end + suffix_len is_divider l.part ≡ length l.part + suffix_len is_divider (take l.end l.part);
+}
 
-abbrev pub decreases-loop-text : goal.decreases-loop-text
-decreases-loop-text l = length l.text
+abbrev pub decreases-loop-end : goal.decreases-loop-end
+decreases-loop-end l = l.end

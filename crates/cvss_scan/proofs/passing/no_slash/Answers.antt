@@ -1,30 +1,16 @@
-use Rattle.std.proofs.Common.{arith, length-take-le}
-use Rattle.cvss_base.specs.Text.{slash}
-use Rattle.cvss_scan.specs.Parts.{percent}
-use Rattle.cvss_scan.proofs.PassLemmas.{none_before, parts_at_start}
+use Rattle.std.proofs.Common.{arith, sym, ap, take, drop, take-append-drop, ◌∙◌}
+use Rattle.cvss_scan.specs.Parts.{parts_of}
+use Rattle.cvss_scan.proofs.AfterLemmas.{parts_after}
+use Rattle.cvss_scan.proofs.PassLemmas.{unmarked_before}
 use Rattle.cvss_scan.proofs.passing.no_slash.Goals as goal
 
-pub returns-then-end-text-clause-none : goal.returns-then-end-text-clause-none
-returns-then-end-text-clause-none c =
-    let end = c.either_or_len-end in
-    none_before slash c.args.text.now end.result end.result (omega arith) end.ensures.within end.ensures.without_one
+pub returns-then-end-text-clause-unmarked : goal.returns-then-end-text-clause-unmarked
+returns-then-end-text-clause-unmarked c = unmarked_before c.args.text.now c.either_or_len-end.result c.either_or_len-end.result c.either_or_len-end.ensures (omega arith)
 
-pub returns-then-end-text-clause-unencoded : goal.returns-then-end-text-clause-unencoded
-returns-then-end-text-clause-unencoded c =
-    let end = c.either_or_len-end in
-    none_before percent c.args.text.now end.result end.result (omega arith) end.ensures.within end.ensures.without_other
-
-pub returns-else-end-text-clause-none : goal.returns-else-end-text-clause-none
-returns-else-end-text-clause-none c =
-    let end = c.either_or_len-end in
-    none_before slash c.args.text.now end.result c.run_start.result (omega (arith, c.run_start.ensures.within, length-take-le end.result c.args.text.now end.ensures.within)) end.ensures.within end.ensures.without_one
-
-pub returns-else-end-text-clause-unencoded : goal.returns-else-end-text-clause-unencoded
-returns-else-end-text-clause-unencoded c =
-    let end = c.either_or_len-end in
-    none_before percent c.args.text.now end.result c.run_start.result (omega (arith, c.run_start.ensures.within, length-take-le end.result c.args.text.now end.ensures.within)) end.ensures.within end.ensures.without_other
+pub returns-else-end-text-clause-unmarked : goal.returns-else-end-text-clause-unmarked
+returns-else-end-text-clause-unmarked c = unmarked_before c.args.text.now c.either_or_len-end.result c.run_start.result c.either_or_len-end.ensures c.run_start.ensures.within
 
 pub returns-else-end-text-clause-cut : goal.returns-else-end-text-clause-cut
 returns-else-end-text-clause-cut c =
-    let end = c.either_or_len-end in
-    parts_at_start c.args.text.now end.result c.run_start.result (omega (arith, c.run_start.ensures.within, length-take-le end.result c.args.text.now end.ensures.within)) c.run_start.ensures.start
+    let text = c.args.text.now in
+    ap parts_of (sym (take-append-drop c.run_start.result text)) ∙ parts_after (take c.run_start.result text) (drop c.run_start.result text) c.run_start.ensures.start

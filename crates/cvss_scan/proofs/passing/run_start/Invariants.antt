@@ -1,11 +1,8 @@
-use Rattle.std.proofs.Common.{◌≡◌, ◌≤◌, length, take}
+use Rattle.std.proofs.Common.{◌≤◌}
 use Rattle.cvss_scan.proofs.passing.run_start.Given as goal
 
-abbrev pub invariant-loop-left : goal.invariant-loop-left
-invariant-loop-left l = record {
-  within : length l.left ≤ length l.fn.text;
-  is : l.left ≡ take (length l.left) l.fn.text;
-}
+abbrev pub invariant-loop-start : goal.invariant-loop-start
+invariant-loop-start l = l.start ≤ l.fn.end
 
-abbrev pub decreases-loop-left : goal.decreases-loop-left
-decreases-loop-left l = length l.left
+abbrev pub decreases-loop-start : goal.decreases-loop-start
+decreases-loop-start l = l.start

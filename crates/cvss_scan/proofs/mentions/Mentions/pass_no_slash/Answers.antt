@@ -1,12 +1,11 @@
-use Rattle.std.proofs.Common.{subst, ◌∙◌}
+use Rattle.std.proofs.Common.{◌∙◌}
 use Rattle.std.proofs.lemmas.List.{take_rest}
-use Rattle.cvss_scan.proofs.PassLemmas.{NoSlash, passes_no_slash}
+use Rattle.cvss_scan.proofs.PassLemmas.{passes_no_slash}
 use Rattle.cvss_scan.proofs.mentions.Mentions.pass_no_slash.Goals as goal
 
 pub returns-in-Some : goal.returns-in-Some
 returns-in-Some c =
     let text = c.args.self.now.text.now in
     let place = c.args.self.now.place in
-    passes_no_slash text place c.no_slash.result
-    (subst (λ rest. NoSlash rest c.no_slash.result) (c.in-Some.ensures.lookup.0.2 ∙ take_rest text place)
-    (record { within = c.no_slash.ensures.within; none = c.no_slash.ensures.none; unencoded = c.no_slash.ensures.unencoded; cut = c.no_slash.ensures.cut }))
+    let count = c.no_slash.ensures in
+    passes_no_slash text _ place c.no_slash.result (c.in-Some.ensures.lookup.0.2 ∙ take_rest text place) count.within count.unmarked count.cut
