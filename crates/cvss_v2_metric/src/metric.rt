@@ -74,7 +74,10 @@ pub trait MetricValue: Copy + 'static {
         ensures read { (metric : Self) → spelling_of KIND (value metric) ≡ text.now
             → result ≡ Some metric }
     {
-        first_spelled(Self::values(), text)
+        Self::values()
+            .iter()
+            .copied()
+            .find(|value| are_alike(spelling(*value), text))
     }
 }
 
@@ -143,25 +146,6 @@ pub trait Metric: MetricValue + Eq + Ord + fmt::Debug + fmt::Display {
     {
         i128::from(self.thousandths()) * THOUSANDTH
     }
-}
-
-/// The first of some values with this spelling.
-// Inlined, it becomes one jump by the text's letter, which `Iterator::find` does only where it has no
-// other use.
-#[inline(always)]
-fn first_spelled<M: MetricValue>(values: &[M], text: &[u8]) -> Option<M>
-    ensures spelled { IfSome result (λ metric. spelling_of M.KIND (M.value metric) ≡ text.now) }
-    ensures first { result ≡ find (λ metric. bytes_eq (spelling_of M.KIND (M.value metric)) text.now)
-        values.now }
-{
-    let mut left = values;
-    while let [value, rest @ ..] = left {
-        if are_alike(spelling(*value), text) {
-            return Some(*value);
-        }
-        left = rest;
-    }
-    None
 }
 
 /// How a value is spelled in a vector.

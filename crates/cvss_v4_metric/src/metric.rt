@@ -1,6 +1,6 @@
 //! What all metrics of CVSS v4.0 have in common.
 
-ghost use Rattle.std.specs.Prelude.{◌≡◌, ◌↔◌, [], ◌∷◌, ℕ, IsTrue, IfSome, IfOk, IfErr, Some, bytes_eq, find, map, slice_get};
+ghost use Rattle.std.specs.Prelude.{◌≡◌, ◌↔◌, [], ◌∷◌, ℕ, IsTrue, IfSome, IfOk, IfErr, Some, bytes_eq, map, slice_get};
 ghost use Rattle.std.specs.Fmt.{WritesOnOk, WritesStyledOnOk};
 ghost use Rattle.std.specs.Str.{str_eq_ignore_ascii_case};
 ghost use Rattle.cvss_base.specs.Refusal.{BadValue};
@@ -67,7 +67,10 @@ pub trait MetricValue: Copy + 'static {
         ensures read { (metric : Self) → uppercased (spelling_at KIND (rank metric)) ≡ uppercased text.now
             → result ≡ Some metric }
     {
-        first_alike(Self::values(), text)
+        Self::values()
+            .iter()
+            .copied()
+            .find(|value| is_alike(spelling(*value), text))
     }
 }
 
@@ -146,24 +149,6 @@ pub trait Metric: MetricValue + Eq + Ord + Default + fmt::Debug + fmt::Display {
             }
         }
     }
-}
-
-/// The first of some values that is spelled like a text, except for the case of ASCII letters.
-// Inlined, it becomes one jump by the text's letter, which `Iterator::find` does only where it has no
-// other use.
-#[inline(always)]
-fn first_alike<M: MetricValue>(values: &[M], text: &[u8]) -> Option<M>
-    ensures { result ≡ find (λ metric. str_eq_ignore_ascii_case (spelling_at M.KIND (M.rank metric))
-        text.now) values.now }
-{
-    let mut left = values;
-    while let [value, rest @ ..] = left {
-        if is_alike(spelling(*value), text) {
-            return Some(*value);
-        }
-        left = rest;
-    }
-    None
 }
 
 /// How a value is spelled in a vector.

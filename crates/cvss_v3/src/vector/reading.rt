@@ -143,6 +143,6 @@ fn read_value<M: MetricValue>(text: &[u8]) -> Option<M>
 {
     match text {
         [letter] => M::read_letter(upper(*letter)),
-        _ => None,
+        _ => M::read_bytes(text),
     }
 }
