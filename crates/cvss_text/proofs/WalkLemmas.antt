@@ -1,5 +1,5 @@
 -- The steps of the walk over the components.
-use Rattle.std.proofs.Common.{◌≡◌, ℕ, ◌+◌, ◌-◌, ◌<◌, ◌≤◌, List, [], ◌∷◌, length, ◌++◌, take, drop, false, Option, Some, None, IsSome, Ok, Err, below_more, inl, inr, refl, sym, ap, ◌∙◌, subst, arith, IsUtf8}
+use Rattle.std.proofs.Common.{◌≡◌, ℕ, ◌+◌, ◌-◌, ◌<◌, ◌≤◌, List, [], ◌∷◌, length, ◌++◌, take, drop, false, Option, Some, None, IsSome, below_more, inl, inr, refl, sym, ap, ◌∙◌, subst, arith, IsUtf8}
 use Rattle.std.specs.List.{All, filter_map, onto_first}
 use Rattle.std.proofs.lemmas.Bool.{cases_lt}
 use Rattle.std.proofs.lemmas.List.{get_or-take, take_more, take_all, length-take-le, length-drop, drop_more, get_or-drop}
@@ -11,13 +11,9 @@ use Rattle.cvss_base.specs.Text.{colon, pieces, IsComponent, name_part, value_pa
 use Rattle.cvss_base.specs.Version.{Version, read, component_of, AreComponentsOf, reading}
 use Rattle.cvss_base.specs.Refusal.{Refusal, AreComponentsBefore, BadComponent, UnknownName, BadValue, Repeated, Missing, Spells, piece_at, FaultAt, IsNamedBefore, IsFirstBadPiece, IsFirstMissing}
 use Rattle.cvss_base.specs.private.Component.{delimiter_bytes}
-use Rattle.cvss_text.specs.declared.pieces.Pieces.{Pieces}
-use Rattle.cvss_text.specs.declared.walk.Fault.{Fault}
-use Rattle.cvss_text.specs.private.Pieces.{pieces_left}
-use Rattle.cvss_text.specs.private.Walk.{VersionLaws, IsCut, IsCutFirst, IsReadFirst, IsReadAnswer, IsPrintable, reason_of, IsFirstOfPieces, HasNoValue, Puts, Adds, HasRead, IsFaultOf, LacksFirst}
+use Rattle.cvss_text.specs.private.Walk.{VersionLaws, IsCut, IsCutFirst, IsReadFirst, IsFirstOfPieces, HasNoValue, Puts, Adds, HasRead, IsFaultOf, LacksFirst}
 use Rattle.cvss_text.proofs.TextLemmas.{is_slash, All-from_count, name_part-read, value_part-read, name_part-component, value_part-component, delimiter_bytes-read, delimiter_sorts, IsPart-component}
 use Rattle.cvss_text.proofs.LawLemmas.{name_plain, names_differ, IsCut_named}
-use Rattle.cvss_text.proofs.PieceLemmas.{IsUtf8-value}
 use Rattle.cvss_text.proofs.ComponentLemmas.{adds_component, held_stands, piece_held}
 
 -- the value that is there
@@ -111,36 +107,6 @@ module _ {V K : Type 0} (version : Version V K) (version_laws : VersionLaws vers
       (sym (delimiter_bytes-read version.any_case name) ∙ (ap delimiter_bytes (sym is.named) ∙ name_plain version version_laws kind))
       (sym (delimiter_bytes-read version.any_case value) ∙ (ap delimiter_bytes (sym puts.fills.spelled) ∙ (delimiter_bytes-read version.any_case spelling ∙ version_laws.spelling_plain kind puts.fills.value))) in
       subst IsComponent (sym is.cut) (record { one_colon = part.one_colon })
-
-  -- what reading the first component of a text answers, which is cut, where it goes into the vector
-  pub IsReadAnswer-ok : {text value : List ℕ} {old new : V} {kind : K} (left : Pieces) → IsCutFirst version text kind value (pieces_left left) → Puts version old kind (read version value) new
-      → IsReadAnswer version text old (Ok left) new
-  IsReadAnswer-ok {old = old} {new = new} {kind = kind} left cut puts =
-      record {
-        read = record {
-          piece = cut.piece;
-          first = cut.first;
-          component = IsComponent-read cut.is puts;
-          adds = record {
-            kind = kind;
-            named = cut.is.named;
-            puts = subst (λ value. Puts version old kind (read version value) new) cut.is.value_is puts;
-          };
-        };
-        refused = tt;
-        printable = λ _. tt;
-      }
-
-  -- and where it does not
-  pub IsReadAnswer-err : {text value : List ℕ} {old new : V} {kind : K} {after : List (List ℕ)} (fault : Fault K) → IsCutFirst version text kind value after
-      → ((piece : List ℕ) → IsCut version piece kind value → IsFaultOf version old piece (reason_of version fault)) → (IsUtf8 value → IsPrintable version fault)
-      → IsReadAnswer version text old (Err fault) new
-  IsReadAnswer-err fault cut refused printable =
-      record {
-        read = tt;
-        refused = λ _. rw (ap (λ parts. piece_at parts 0) cut.first) (refused cut.piece cut.is);
-        printable = λ is. printable (IsUtf8-value _ _ _ cut.is.cut (All-head IsUtf8 _ _ (subst (All IsUtf8) cut.first is)));
-      }
 
   -- the start, a step and the end of the walk
   components_none : (v : V) → HasNoValue version v → (kinds : List K) → filter_map (component_of version v) kinds ≡ []

@@ -1,12 +1,14 @@
 //! How a component is cut into the metric that it names and the value after its colon, once for all
 //! versions.
 
-ghost use Rattle.std.specs.Prelude.{◌≡◌, bytes_eq, find};
-ghost use Rattle.cvss_base.specs.Text.{read_as};
+ghost use Rattle.std.specs.Prelude.{◌≡◌, bytes_eq, find, IfOk, IfErr, All, IsUtf8};
+ghost use Rattle.cvss_text.specs.private.Pieces.{pieces_left};
+ghost use Rattle.cvss_base.specs.Text.{IsComponent, pieces, read_as};
 ghost use Rattle.cvss_base.specs.Version.{read};
-ghost use Rattle.cvss_text.specs.private.Walk.{IsCutAnswer};
+ghost use Rattle.cvss_base.specs.Refusal.{piece_at};
+ghost use Rattle.cvss_text.specs.private.Walk.{IsCutAnswer, IsCutFirst, IsFaultOf, IsPrintable, reason_of};
 
-use crate::pieces::parts_of;
+use crate::pieces::{Pieces, front_of, parts_of};
 use crate::walk::{Components, Fault};
 use cvss_base::component::is_uppercased_as;
 
@@ -28,6 +30,18 @@ pub fn cut_component<'a, V: Components>(
 ) -> Result<(V::Kind, &'a [u8]), Fault<'a, V::Kind>>
     ensures { IsCutAnswer V.version piece.now result }
 {
+    match V::cut(piece) {
+        Some(cut) => Ok(cut),
+        None => cut_at_colon::<V>(piece),
+    }
+}
+
+/// The metric that a piece names, and the value after its colon, by a search for the colon.
+fn cut_at_colon<'a, V: Components>(
+    piece: &'a [u8],
+) -> Result<(V::Kind, &'a [u8]), Fault<'a, V::Kind>>
+    ensures { IsCutAnswer V.version piece.now result }
+{
     let Some((name, value)) = parts_of(piece) else {
         return Err(Fault::InvalidComponent(piece));
     };
@@ -35,6 +49,27 @@ pub fn cut_component<'a, V: Components>(
         Some(kind) => Ok((kind, value)),
         None => Err(Fault::UnknownMetric(name)),
     }
+}
+
+/// The metric that the first piece of a text names, the value after its colon, and the pieces after
+/// that. The end of the piece is sought after the colon, since no name has a slash.
+#[inline(always)]
+pub(crate) fn cut_first<'a, V: Components>(
+    text: &'a [u8],
+) -> Result<(V::Kind, &'a [u8], Pieces<'a>), Fault<'a, V::Kind>>
+    ensures cut { IfOk result (λ cut.
+        IsCutFirst V.version text.now cut.0 cut.1.now (pieces_left cut.2)) }
+    ensures refused { IfErr result (λ fault. (v : V) → IsComponent (piece_at (pieces text.now) 0)
+        → IsFaultOf V.version v (piece_at (pieces text.now) 0) (reason_of V.version fault)) }
+    ensures printable { All IsUtf8 (pieces text.now) → IfErr result (IsPrintable V.version) }
+{
+    if let Some(cut) = V::cut(text) {
+        let (value, left) = front_of(cut.1);
+        return Ok((cut.0, value, left));
+    }
+    let (piece, left) = front_of(text);
+    let (kind, value) = cut_at_colon::<V>(piece)?;
+    Ok((kind, value, left))
 }
 
 /// Whether a text is read as this name.

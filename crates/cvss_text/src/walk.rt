@@ -1,15 +1,15 @@
 //! The walk over a vector's components, once for all versions. It takes no memory: a fault borrows
 //! the part of the text that it names.
 
-ghost use Rattle.std.specs.Prelude.{◌≡◌, ◌∷◌, [], ℕ, List, IfSome, IfOk, IfErr, OnOk, Some, length, All, IsUtf8};
+ghost use Rattle.std.specs.Prelude.{◌≡◌, ℕ, List, IfSome, IfOk, IfErr, OnOk, Some, length, All, IsUtf8};
 ghost use Rattle.cvss_text.specs.private.Pieces.{pieces_left};
 ghost use Rattle.cvss_base.specs.Text.{IsComponent, pieces};
 ghost use Rattle.cvss_base.specs.Version.{Version, read, IsComplete};
-ghost use Rattle.cvss_base.specs.Refusal.{AreComponentsBefore};
-ghost use Rattle.cvss_text.specs.private.Walk.{HasNoValue, IsAnswerBare, IsEmpty, IsFilled, IsPut, IsCut, IsReadAnswer, VersionLaws, Puts, Adds, HasRead, IsFaultOf, IsFirstOfPieces, filled, first_missing, IsPrintable, reason_of};
+ghost use Rattle.cvss_base.specs.Refusal.{AreComponentsBefore, piece_at};
+ghost use Rattle.cvss_text.specs.private.Walk.{HasNoValue, IsAnswerBare, IsEmpty, IsFilled, IsPut, IsCut, IsReadFirst, VersionLaws, Puts, Adds, HasRead, IsFaultOf, IsFirstOfPieces, filled, first_missing, IsPrintable, reason_of};
 
-use crate::cutting::cut_component;
-use crate::pieces::{Pieces, first_bad_piece, front_of, pieces_of};
+use crate::cutting::{cut_component, cut_first};
+use crate::pieces::{Pieces, first_bad_piece, pieces_of};
 
 /// Why a value does not go into a vector.
 #[derive(Drop)]
@@ -57,19 +57,10 @@ pub trait Components: Copy {
     fn name(kind: Self::Kind) -> &'static str
         ensures { result.now ≡ version.name kind };
 
-    /// The metric with a name of one letter. It may be `None` for any letter, as below for any
-    /// letters: the metric is then sought by its whole name.
-    fn named_by_one(first: u8) -> Option<Self::Kind>
-        ensures { IfSome result (λ kind. version.name kind ≡ read version (first ∷ [])) };
-
-    /// The metric with a name of two letters.
-    fn named_by_two(first: u8, second: u8) -> Option<Self::Kind>
-        ensures { IfSome result (λ kind. version.name kind ≡ read version (first ∷ second ∷ [])) };
-
-    /// The metric with a name of three letters.
-    fn named_by_three(first: u8, second: u8, third: u8) -> Option<Self::Kind>
-        ensures { IfSome result
-            (λ kind. version.name kind ≡ read version (first ∷ second ∷ third ∷ [])) };
+    /// The metric that a piece begins with, and what follows the colon after its name. It may
+    /// be `None` for any piece, which is then cut the longer way.
+    fn cut(piece: &[u8]) -> Option<(Self::Kind, &[u8])>
+        ensures { IfSome result (λ cut. IsCut version piece.now cut.0 cut.1.now) };
 
     /// The metric that a refused value is reported under.
     fn reported_kind(kind: Self::Kind) -> Self::Kind
@@ -140,54 +131,20 @@ fn put_component<'a, V: Components>(
     }
 }
 
-/// Reads the first component of a text into the vector, and gives the pieces after it. The end of
-/// the component is sought after the colon, since no name has a slash.
-// The value is cut off before the name is looked up, since the compiler then makes one jump of the
-// metric with this name and its place in the vector. Most names have two letters.
+/// Reads the first component of a text into the vector, and gives the pieces after it.
 #[inline(always)]
 fn read_first<'a, V: Components>(
     text: &'a [u8],
     vector: &mut V,
 ) -> Result<Pieces<'a>, Fault<'a, V::Kind>>
-    ensures { IsReadAnswer V.version text.now vector.old result vector.new }
+    ensures read { IfOk result (λ left.
+        IsReadFirst V.version text.now vector.old vector.new (pieces_left left)) }
+    ensures refused { IfErr result (λ fault. IsComponent (piece_at (pieces text.now) 0)
+        → IsFaultOf V.version vector.old (piece_at (pieces text.now) 0)
+        (reason_of V.version fault)) }
+    ensures printable { All IsUtf8 (pieces text.now) → IfErr result (IsPrintable V.version) }
 {
-    match text {
-        [first, second, b':', rest @ ..] => {
-            let (value, left) = front_of(rest);
-            if let Some(kind) = V::named_by_two(*first, *second) {
-                put_component(kind, value, vector)?;
-                return Ok(left);
-            }
-        }
-        [first, b':', rest @ ..] => {
-            let (value, left) = front_of(rest);
-            if let Some(kind) = V::named_by_one(*first) {
-                put_component(kind, value, vector)?;
-                return Ok(left);
-            }
-        }
-        [first, second, third, b':', rest @ ..] => {
-            let (value, left) = front_of(rest);
-            if let Some(kind) = V::named_by_three(*first, *second, *third) {
-                put_component(kind, value, vector)?;
-                return Ok(left);
-            }
-        }
-        _ => {}
-    }
-    read_first_by_search(text, vector)
-}
-
-/// The same, by a search for the slash and for the colon.
-#[inline(never)]
-fn read_first_by_search<'a, V: Components>(
-    text: &'a [u8],
-    vector: &mut V,
-) -> Result<Pieces<'a>, Fault<'a, V::Kind>>
-    ensures { IsReadAnswer V.version text.now vector.old result vector.new }
-{
-    let (piece, left) = front_of(text);
-    let (kind, value) = cut_component::<V>(piece)?;
+    let (kind, value, left) = cut_first::<V>(text)?;
     put_component(kind, value, vector)?;
     Ok(left)
 }

@@ -2,35 +2,28 @@
 use Rattle.std.specs.Char.{to_ascii_uppercase, is_ascii_uppercase}
 use Rattle.std.specs.Bool.{⊤}
 use Rattle.std.specs.List.{list_all}
-use Rattle.std.proofs.Common.{◌≡◌, ℕ, ◌<◌, List, [], ◌∷◌, Bool, true, IsTrue, not, eqb, ◌||◌, bit_and, refl, rules, subst, ◌∙◌, sym, inl, inr}
-use Rattle.std.proofs.lemmas.Bool.{and_parts, or_cases, or_left, or_right, eqb-true}
+use Rattle.std.proofs.Common.{◌≡◌, ℕ, ◌<◌, List, [], ◌∷◌, Bool, true, IsTrue, not, eqb, ◌||◌, bit_and, refl, subst, ◌∙◌, sym, inl, inr}
+use Rattle.std.proofs.lemmas.Bool.{and_parts, or_cases, eqb-true}
 use Rattle.cvss_base.proofs.TestLemmas.{all_below, below_passes}
 use Rattle.cvss_base.specs.Text.{uppercased}
 use Rattle.cvss_base.specs.V3Types.{name_of}
 use Rattle.cvss_base.specs.declared.v3.MetricType.{MetricType}
 use Rattle.cvss_base.specs.declared.v3.MetricType.TheVariants.{A}
-use Rattle.cvss_v3_metric.specs.Table.{Value, spelling_of}
 
--- whether a byte without its fifth bit is that byte in upper case, where one of them is a letter in upper case
+-- whether a byte without its fifth bit is no letter in upper case, or that of the byte
 abbrev is_uppercased : ℕ → Bool
-is_uppercased byte = not (is_ascii_uppercase (bit_and byte 223) || is_ascii_uppercase (to_ascii_uppercase byte)) || eqb (to_ascii_uppercase byte) (bit_and byte 223)
+is_uppercased byte = not (is_ascii_uppercase (bit_and byte 223)) || eqb (to_ascii_uppercase byte) (bit_and byte 223)
 
 all_uppercased : all_below is_uppercased 256 ≡ true
 unfolding all_below
 all_uppercased = refl
 
-upper_or_none : (byte : ℕ) → byte < 256 → IsTrue (is_ascii_uppercase (bit_and byte 223) || is_ascii_uppercase (to_ascii_uppercase byte)) → to_ascii_uppercase byte ≡ bit_and byte 223
-upper_or_none byte small is_upper =
-    elim (or_cases (not (is_ascii_uppercase (bit_and byte 223) || is_ascii_uppercase (to_ascii_uppercase byte))) (eqb (to_ascii_uppercase byte) (bit_and byte 223)) (below_passes is_uppercased 256 byte all_uppercased small)) [
+pub upper_is : (byte : ℕ) → byte < 256 → IsTrue (is_ascii_uppercase (bit_and byte 223)) → to_ascii_uppercase byte ≡ bit_and byte 223
+upper_is byte small is_upper =
+    elim (or_cases (not (is_ascii_uppercase (bit_and byte 223))) (eqb (to_ascii_uppercase byte) (bit_and byte 223)) (below_passes is_uppercased 256 byte all_uppercased small)) [
       | inl is_not ↦ absurd (cc)
       | inr same ↦ eqb-true (to_ascii_uppercase byte) (bit_and byte 223) same
     ]
-
-pub upper_is : (byte : ℕ) → byte < 256 → IsTrue (is_ascii_uppercase (bit_and byte 223)) → to_ascii_uppercase byte ≡ bit_and byte 223
-upper_is byte small is_upper = upper_or_none byte small (or_left (is_ascii_uppercase (bit_and byte 223)) (is_ascii_uppercase (to_ascii_uppercase byte)) is_upper)
-
-pub letter_is : (byte : ℕ) → byte < 256 → IsTrue (is_ascii_uppercase (to_ascii_uppercase byte)) → to_ascii_uppercase byte ≡ bit_and byte 223
-letter_is byte small is_upper = upper_or_none byte small (or_right (is_ascii_uppercase (bit_and byte 223)) (is_ascii_uppercase (to_ascii_uppercase byte)) is_upper)
 
 -- bytes are these letters in upper case, where those are letters
 abbrev pub RaiseTo : List ℕ → List ℕ → Type 0
@@ -53,19 +46,3 @@ name_letters = elim [ A ↦ refl | _ ↦ refl ]
 pub name_uppercased : (bytes us : List ℕ) (kind : MetricType) → RaiseTo bytes us → name_of kind ≡ us → name_of kind ≡ uppercased bytes
 name_uppercased bytes us kind raise named =
     named ∙ uppercased_to bytes us raise (subst (λ name. list_all is_ascii_uppercase name ≡ true) named (name_letters kind))
-
--- a spelling is a letter in upper case
-spelling_letters : (kind : MetricType) (value : Value kind) → list_all is_ascii_uppercase (spelling_of kind value) ≡ true
-spelling_letters A = search rules
-spelling_letters _ = search rules
-
--- a letter that spells a value is the byte in upper case, and the other way
-pub spelled_by : (kind : MetricType) (value : Value kind) (byte upper : ℕ) → (IsTrue (is_ascii_uppercase upper) → to_ascii_uppercase byte ≡ upper)
-    → spelling_of kind value ≡ upper ∷ [] → spelling_of kind value ≡ uppercased (byte ∷ [])
-spelled_by kind value byte upper raised spelled =
-    spelled ∙ uppercased_to (byte ∷ []) (upper ∷ []) (raised, tt) (subst (λ text. list_all is_ascii_uppercase text ≡ true) spelled (spelling_letters kind value))
-
-pub spelled_as : (kind : MetricType) (value : Value kind) (byte upper : ℕ) → (IsTrue (is_ascii_uppercase (to_ascii_uppercase byte)) → to_ascii_uppercase byte ≡ upper)
-    → spelling_of kind value ≡ uppercased (byte ∷ []) → spelling_of kind value ≡ upper ∷ []
-spelled_as kind value byte upper letter spelled =
-    spelled ∙ (λ at. letter (and_parts (is_ascii_uppercase (to_ascii_uppercase byte)) true (subst (λ text. list_all is_ascii_uppercase text ≡ true) spelled (spelling_letters kind value))).0 at ∷ [])

@@ -1,7 +1,7 @@
 -- What the private walk over the components does at each step. What callers rely on is in
 -- Version and Refusal.
 use Rattle.std.specs.Prelude.{◌≡◌, ◌≢◌, ℕ, ◌⊎◌, List, [], ◌∷◌, length, map, take, Option, Some, None, IsSome, Result, Ok, Err, IfOk, OnOk, IfErr, OnErr, IsErrAnd, Contains, slice_get, find, is_none, ◌<◌, ⊤}
-use Rattle.std.specs.List.{All, range_with_len}
+use Rattle.std.specs.List.{range_with_len}
 use Rattle.std.specs.Borrow.{Bor}
 use Rattle.std.specs.Str.{IsUtf8}
 use Rattle.cvss_text.specs.declared.walk.ComponentError.{ComponentError}
@@ -12,9 +12,7 @@ use Rattle.cvss_base.specs.laws.Order.{place_in}
 use Rattle.cvss_base.specs.private.Component.{delimiter_bytes}
 use Rattle.cvss_base.specs.Text.{pieces, IsComponent, name_part, value_part, component}
 use Rattle.cvss_base.specs.Version.{Version, read, reading, version_piece, AreComponentsOf, Denotes, IsComplete, IsWellFormed}
-use Rattle.cvss_base.specs.Refusal.{Refusal, BadComponent, WrongPrefix, WrongVersion, UnknownName, BadValue, Repeated, Missing, Spells, HasNoFaultBefore, IsFirstReason, BadPiecesFirst, IsReasonAfter, IsWrongPrefix, IsWrongVersion, piece_at}
-use Rattle.cvss_text.specs.declared.pieces.Pieces.{Pieces}
-use Rattle.cvss_text.specs.private.Pieces.{pieces_left}
+use Rattle.cvss_base.specs.Refusal.{Refusal, BadComponent, WrongPrefix, WrongVersion, UnknownName, BadValue, Repeated, Missing, Spells, HasNoFaultBefore, IsFirstReason, BadPiecesFirst, IsReasonAfter, IsWrongPrefix, IsWrongVersion}
 
 -- the place of a metric in the printing order, which its name says
 abbrev pub place_of : {V K : Type 0} → Version V K → K → ℕ
@@ -194,12 +192,6 @@ pub record IsCutAnswer {V K : Type 0} (version : Version V K) (piece : List ℕ)
   pub refused : IfErr answer (λ fault. (v : V) → IsComponent piece → IsFaultOf version v piece (reason_of version fault))
   pub unnamed : OnErr answer (IsComponent piece → (kind : K) → version.name kind ≢ read version (name_part piece))
   pub printable : IsUtf8 piece → IfErr answer (IsPrintable version)
-
--- what reading the first piece of a text into a vector answers: the pieces after it, or what is wrong with it
-pub record IsReadAnswer {V K : Type 0} (version : Version V K) (text : List ℕ) (old : V) (answer : Result Pieces (Fault K)) (new : V) : Type 0 where
-  pub read : IfOk answer (λ left. IsReadFirst version text old new (pieces_left left))
-  pub refused : IfErr answer (λ fault. IsComponent (piece_at (pieces text) 0) → IsFaultOf version old (piece_at (pieces text) 0) (reason_of version fault))
-  pub printable : All IsUtf8 (pieces text) → IfErr answer (IsPrintable version)
 
 -- what filling a vector gives: the vector, where nothing is wrong
 abbrev pub filled : {V K : Type 0} → Result (Unit {0}) (Fault K) → V → Result V (Fault K)

@@ -1,13 +1,27 @@
-//! The metrics by their names, which are read exactly.
+//! How a piece is cut after the name of a metric, where it is as long as a name.
 
-ghost use Rattle.std.specs.Prelude.{◌≡◌, ◌∷◌, [], IfSome};
+ghost use Rattle.std.specs.Prelude.{◌≡◌, ◌∷◌, [], ◌++◌, IfSome};
+ghost use Rattle.cvss_base.specs.Text.{colon};
 ghost use Rattle.cvss_base.specs.V2Types.{name_of};
 
 use cvss_v2_metric::MetricType;
 
+/// The metric with whose name and a colon a piece begins, and what follows these.
+#[inline(always)]
+pub(super) fn cut_named(piece: &[u8]) -> Option<(MetricType, &[u8])>
+    ensures { IfSome result (λ cut. piece.now ≡ name_of cut.0 ++ (colon ∷ cut.1.now)) }
+{
+    match piece {
+        [first, b':', value @ ..] => Some((one_letter(*first)?, value)),
+        [first, second, b':', value @ ..] => Some((two_letters(*first, *second)?, value)),
+        [b'C', b'D', b'P', b':', value @ ..] => Some((MetricType::CDP, value)),
+        _ => None,
+    }
+}
+
 /// The metric with a name of two letters.
 #[inline(always)]
-pub(super) fn two_letters(first: u8, second: u8) -> Option<MetricType>
+fn two_letters(first: u8, second: u8) -> Option<MetricType>
     ensures { IfSome result (λ kind. name_of kind ≡ first ∷ second ∷ []) }
 {
     match (first, second) {
@@ -26,7 +40,7 @@ pub(super) fn two_letters(first: u8, second: u8) -> Option<MetricType>
 
 /// The metric with a name of one letter.
 #[inline(always)]
-pub(super) fn one_letter(first: u8) -> Option<MetricType>
+fn one_letter(first: u8) -> Option<MetricType>
     ensures { IfSome result (λ kind. name_of kind ≡ first ∷ []) }
 {
     match first {
@@ -34,17 +48,6 @@ pub(super) fn one_letter(first: u8) -> Option<MetricType>
         b'I' => Some(MetricType::I),
         b'A' => Some(MetricType::A),
         b'E' => Some(MetricType::E),
-        _ => None,
-    }
-}
-
-/// The metric with a name of three letters.
-#[inline(always)]
-pub(super) fn three_letters(first: u8, second: u8, third: u8) -> Option<MetricType>
-    ensures { IfSome result (λ kind. name_of kind ≡ first ∷ second ∷ third ∷ []) }
-{
-    match (first, second, third) {
-        (b'C', b'D', b'P') => Some(MetricType::CDP),
         _ => None,
     }
 }

@@ -5,7 +5,7 @@ ghost use Rattle.cvss_v2_metric.specs.Table.{spelling_of};
 ghost use Rattle.cvss_v2.specs.Vector.{v2};
 ghost use Rattle.cvss_v2.specs.private.VectorLaws.{v2_laws};
 
-use super::cutting::{one_letter, three_letters, two_letters};
+use super::cutting::cut_named;
 use crate::vector::Vector;
 use MetricType::*;
 use cvss_text::walk::{ComponentError, Components, fill_place};
@@ -38,18 +38,10 @@ impl Components for Vector {
     }
 
     #[inline(always)]
-    fn named_by_one(first: u8) -> Option<MetricType> {
-        one_letter(first)
-    }
-
-    #[inline(always)]
-    fn named_by_two(first: u8, second: u8) -> Option<MetricType> {
-        two_letters(first, second)
-    }
-
-    #[inline(always)]
-    fn named_by_three(first: u8, second: u8, third: u8) -> Option<MetricType> {
-        three_letters(first, second, third)
+    #[tactic(auto, using(cvss_text::proofs::LawLemmas::IsCut_named))]
+    fn cut(piece: &[u8]) -> Option<(MetricType, &[u8])> {
+        let (kind, value) = cut_named(piece)?;
+        Some((kind, value))
     }
 
     #[inline(always)]

@@ -1,6 +1,6 @@
 //! How a vector is filled from its components.
 
-ghost use Rattle.std.specs.Prelude.{◌≡◌, IfSome, Some};
+ghost use Rattle.std.specs.Prelude.{◌≡◌};
 ghost use Rattle.cvss_base.specs.Text.{uppercased};
 ghost use Rattle.cvss_text.specs.private.Walk.{HasNoValue, IsFilled};
 ghost use Rattle.cvss_v3_metric.specs.Table.{spelling_of};
@@ -8,7 +8,7 @@ ghost use Rattle.cvss_v3.specs.Vector.{v3};
 ghost use Rattle.cvss_v3.specs.private.MinorVersion.{minor_version_of};
 ghost use Rattle.cvss_v3.specs.private.VectorLaws.{v3_laws, v3_front_laws};
 
-use super::cutting::{one_letter, three_letters, two_letters, upper};
+use super::cutting::cut_named;
 use crate::vector::Vector;
 use MetricType::*;
 use cvss_score::v3::Rules;
@@ -41,18 +41,8 @@ impl Components for Vector {
     }
 
     #[inline(always)]
-    fn named_by_one(first: u8) -> Option<MetricType> {
-        one_letter(upper(first))
-    }
-
-    #[inline(always)]
-    fn named_by_two(first: u8, second: u8) -> Option<MetricType> {
-        two_letters(upper(first), upper(second))
-    }
-
-    #[inline(always)]
-    fn named_by_three(first: u8, second: u8, third: u8) -> Option<MetricType> {
-        three_letters(upper(first), upper(second), upper(third))
+    fn cut(piece: &[u8]) -> Option<(MetricType, &[u8])> {
+        cut_named(piece)
     }
 
     fn reported_kind(kind: MetricType) -> MetricType {
@@ -129,20 +119,5 @@ fn fill<M: MetricValue>(place: &mut Option<M>, text: &[u8]) -> Result<(), Compon
     ensures { IsFilled (λ x. uppercased (spelling_of M.KIND (M.value x))) place.old (uppercased text.now)
         result place.new }
 {
-    fill_place(place, read_value(text))
-}
-
-/// The value with this spelling, in any ASCII case: what `read_bytes` gives. Each value is one
-/// letter, which takes one instruction to raise.
-#[inline(always)]
-fn read_value<M: MetricValue>(text: &[u8]) -> Option<M>
-    ensures spelled { IfSome result
-        (λ metric. spelling_of M.KIND (M.value metric) ≡ uppercased text.now) }
-    ensures read { (metric : M) → spelling_of M.KIND (M.value metric) ≡ uppercased text.now
-        → result ≡ Some metric }
-{
-    match text {
-        [letter] => M::read_letter(upper(*letter)),
-        _ => M::read_bytes(text),
-    }
+    fill_place(place, M::read_bytes(text))
 }

@@ -3,7 +3,7 @@
 ghost use Rattle.std.specs.Prelude.{◌≡◌, IfSome, [], ◌∷◌, ◌++◌, codes};
 ghost use Rattle.cvss_base.specs.Text.{uppercased};
 ghost use Rattle.cvss_base.specs.V4Types.{name_of};
-ghost use Rattle.cvss_text.specs.private.Walk.{HasNoValue, IsFilled};
+ghost use Rattle.cvss_text.specs.private.Walk.{HasNoValue, IsCut, IsFilled};
 ghost use Rattle.cvss_v4_metric.specs.Table.{spelling_at};
 ghost use Rattle.cvss_v4.specs.Vector.{v4};
 ghost use Rattle.cvss_v4.specs.private.VectorLaws.{v4_laws, v4_front_laws};
@@ -41,18 +41,11 @@ impl Components for Vector {
     }
 
     #[inline(always)]
-    fn named_by_one(first: u8) -> Option<MetricType> {
-        one_letter(first)
-    }
-
-    #[inline(always)]
-    fn named_by_two(first: u8, second: u8) -> Option<MetricType> {
-        two_letters(first, second)
-    }
-
-    #[inline(always)]
-    fn named_by_three(first: u8, second: u8, third: u8) -> Option<MetricType> {
-        three_letters(first, second, third)
+    fn cut(piece: &[u8]) -> Option<(MetricType, &[u8])> {
+        match piece {
+            [first, second, b':', value @ ..] => Some((named_by_two(*first, *second)?, value)),
+            _ => cut_one_or_three(piece),
+        }
     }
 
     fn reported_kind(kind: MetricType) -> MetricType {
@@ -138,9 +131,24 @@ impl Vector {
     }
 }
 
+/// The metric with whose name of one or of three letters and a colon a piece begins, and what is
+/// after these. Most names have two, which are looked for first.
+#[inline(always)]
+fn cut_one_or_three(piece: &[u8]) -> Option<(MetricType, &[u8])>
+    ensures { IfSome result (λ cut. IsCut v4 piece.now cut.0 cut.1.now) }
+{
+    match piece {
+        [letter, b':', value @ ..] => Some((named_by_one(*letter)?, value)),
+        [first, second, third, b':', value @ ..] => {
+            Some((named_by_three(*first, *second, *third)?, value))
+        }
+        _ => None,
+    }
+}
+
 /// The metric whose name is this letter, in any ASCII case, as in the functions below.
 #[inline(always)]
-fn one_letter(letter: u8) -> Option<MetricType>
+fn named_by_one(letter: u8) -> Option<MetricType>
     ensures { IfSome result (λ kind. name_of kind ≡ uppercased (letter ∷ [])) }
 {
     match letter {
@@ -155,7 +163,7 @@ fn one_letter(letter: u8) -> Option<MetricType>
 
 /// The metric whose name is these two letters.
 #[inline(always)]
-fn two_letters(first: u8, second: u8) -> Option<MetricType>
+fn named_by_two(first: u8, second: u8) -> Option<MetricType>
     ensures { IfSome result (λ kind. name_of kind ≡ uppercased (first ∷ second ∷ [])) }
 {
     match first {
@@ -190,7 +198,7 @@ fn two_letters(first: u8, second: u8) -> Option<MetricType>
 
 /// The metric whose name is these three letters, which is a modified one.
 #[inline(always)]
-fn three_letters(first: u8, second: u8, third: u8) -> Option<MetricType>
+fn named_by_three(first: u8, second: u8, third: u8) -> Option<MetricType>
     ensures { IfSome result (λ kind. name_of kind ≡ uppercased (first ∷ second ∷ third ∷ [])) }
 {
     match first {

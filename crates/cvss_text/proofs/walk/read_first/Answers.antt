@@ -1,56 +1,36 @@
-use Rattle.std.proofs.Common.{arith}
+use Rattle.std.proofs.Common.{subst, All, IsUtf8}
+use Rattle.std.proofs.lemmas.List.Elements.{All-head}
 use Rattle.std.proofs.lemmas.Result.{err_from_is_err_and}
-use Rattle.cvss_text.proofs.LawLemmas.{IsCut_at}
-use Rattle.cvss_text.proofs.WalkLemmas.{IsCutFirst-after, IsReadAnswer-ok, IsReadAnswer-err}
+use Rattle.cvss_base.specs.Version.{read}
+use Rattle.cvss_text.specs.private.Walk.{Puts}
+use Rattle.cvss_text.proofs.PieceLemmas.{IsUtf8-value}
+use Rattle.cvss_text.proofs.WalkLemmas.{IsComponent-read}
 use Rattle.cvss_text.proofs.walk.read_first.Goals as goal
 
-pub returns-in-Some-named_by_two : goal.returns-in-Some-named_by_two
-returns-in-Some-named_by_two g c =
-    let version = g.V.Components.version in
-    let laws = g.met.V.Components.version_laws in
-    let text = c.args.text.now in
-    let cut = IsCutFirst-after version laws text _ _ _ _ (IsCut_at version laws text 2 _ (grind arith) c.in-Some-named_by_two.ensures) c.front_of-in-58.ensures in
-    IsReadAnswer-ok version laws _ cut c.in_ok-put_component-in-58.ensures.put
-
-pub returns-in_err-put_component-in-58 : goal.returns-in_err-put_component-in-58
-returns-in_err-put_component-in-58 g c =
-    let version = g.V.Components.version in
-    let laws = g.met.V.Components.version_laws in
-    let text = c.args.text.now in
-    let cut = IsCutFirst-after version laws text _ _ _ _ (IsCut_at version laws text 2 _ (grind arith) c.in-Some-named_by_two.ensures) c.front_of-in-58.ensures in
-    let exit = err_from_is_err_and c.from_residual-in_err-put_component-in-58.result c.from_residual-in_err-put_component-in-58.ensures.1 in
-    rw (exit.1, exit.2) (IsReadAnswer-err version laws _ cut c.in_err-put_component-in-58.ensures.refused c.in_err-put_component-in-58.ensures.printable)
-
-pub returns-in-Some-named_by_one : goal.returns-in-Some-named_by_one
-returns-in-Some-named_by_one g c =
-    let version = g.V.Components.version in
-    let laws = g.met.V.Components.version_laws in
-    let text = c.args.text.now in
-    let cut = IsCutFirst-after version laws text _ _ _ _ (IsCut_at version laws text 1 _ (grind arith) c.in-Some-named_by_one.ensures) c.front_of-in-58-2.ensures in
-    IsReadAnswer-ok version laws _ cut c.in_ok-put_component-in-58-2.ensures.put
-
-pub returns-in_err-put_component-in-58-2 : goal.returns-in_err-put_component-in-58-2
-returns-in_err-put_component-in-58-2 g c =
-    let version = g.V.Components.version in
-    let laws = g.met.V.Components.version_laws in
-    let text = c.args.text.now in
-    let cut = IsCutFirst-after version laws text _ _ _ _ (IsCut_at version laws text 1 _ (grind arith) c.in-Some-named_by_one.ensures) c.front_of-in-58-2.ensures in
-    let exit = err_from_is_err_and c.from_residual-in_err-put_component-in-58-2.result c.from_residual-in_err-put_component-in-58-2.ensures.1 in
-    rw (exit.1, exit.2) (IsReadAnswer-err version laws _ cut c.in_err-put_component-in-58-2.ensures.refused c.in_err-put_component-in-58-2.ensures.printable)
-
-pub returns-in-Some : goal.returns-in-Some
-returns-in-Some g c =
-    let version = g.V.Components.version in
-    let laws = g.met.V.Components.version_laws in
-    let text = c.args.text.now in
-    let cut = IsCutFirst-after version laws text _ _ _ _ (IsCut_at version laws text 3 _ (omega arith) c.in-Some.ensures) c.front_of.ensures in
-    IsReadAnswer-ok version laws _ cut c.in_ok-put_component-in-58-3.ensures.put
-
-pub returns-in_err-put_component-in-58-3 : goal.returns-in_err-put_component-in-58-3
-returns-in_err-put_component-in-58-3 g c =
-    let version = g.V.Components.version in
-    let laws = g.met.V.Components.version_laws in
-    let text = c.args.text.now in
-    let cut = IsCutFirst-after version laws text _ _ _ _ (IsCut_at version laws text 3 _ (omega arith) c.in-Some.ensures) c.front_of.ensures in
+pub returns-in_err-kind-clause-refused : goal.returns-in_err-kind-clause-refused
+returns-in_err-kind-clause-refused g c =
     let exit = err_from_is_err_and c.from_residual.result c.from_residual.ensures.1 in
-    rw (exit.1, exit.2) (IsReadAnswer-err version laws _ cut c.in_err-put_component-in-58-3.ensures.refused c.in_err-put_component-in-58-3.ensures.printable)
+    rw (exit.1, exit.2) (c.in_err-kind.ensures.refused c.args.vector.now)
+
+pub returns-in_err-put_component-clause-printable : goal.returns-in_err-put_component-clause-printable
+returns-in_err-put_component-clause-printable g c = λ is.
+    let exit = err_from_is_err_and c.from_residual-in_err-put_component.result c.from_residual-in_err-put_component.ensures.1 in
+    let cut = c.in_ok-kind.ensures.cut in
+    let piece = All-head IsUtf8 _ _ (subst (All IsUtf8) cut.first is) in
+    rw (exit.1, exit.2) (c.in_err-put_component.ensures.printable (IsUtf8-value _ _ _ cut.is.cut piece))
+
+pub returns-clause-read : goal.returns-clause-read
+returns-clause-read g c =
+    let version = g.V.Components.version in
+    let cut = c.in_ok-kind.ensures.cut in
+    let puts = c.in_ok-put_component.ensures.put in
+    record {
+      piece = cut.piece;
+      first = cut.first;
+      component = IsComponent-read version g.met.V.Components.version_laws cut.is puts;
+      adds = record {
+        kind = c.in_ok-kind.kind;
+        named = cut.is.named;
+        puts = subst (λ value. Puts version c.args.vector.now c.in_ok-kind.kind (read version value) c.put_component.new.vector) cut.is.value_is puts;
+      };
+    }

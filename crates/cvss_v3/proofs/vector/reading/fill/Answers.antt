@@ -9,7 +9,7 @@ pub returns : goal.returns
 returns g c =
     let kind = g.M.MetricValue.KIND in
     let value = g.M.MetricValue.value in
-    let read = c.read_value.ensures in
+    let read = c.read_bytes.ensures in
     c.fill_place.ensures (λ x. uppercased (spelling_of kind (value x))) (uppercased c.args.text.now)
-    (IfSome_then c.read_value.result read.spelled (λ x is. uppercased_spelling kind (value x) ∙ is))
+    (IfSome_then c.read_bytes.result read.spelled (λ x is. uppercased_spelling kind (value x) ∙ is))
     (λ x is. read.read x (sym (uppercased_spelling kind (value x)) ∙ is))

@@ -3,7 +3,7 @@ use Rattle.cvss_base.specs.Text.{component}
 use Rattle.cvss_base.specs.Version.{read}
 use Rattle.cvss_text.proofs.LawLemmas.{named_known, named_unknown}
 use Rattle.cvss_text.proofs.PieceLemmas.{IsUtf8-name}
-use Rattle.cvss_text.proofs.cutting.cut_component.Goals as goal
+use Rattle.cvss_text.proofs.cutting.cut_at_colon.Goals as goal
 
 pub returns-in-Some-kind_named : goal.returns-in-Some-kind_named
 returns-in-Some-kind_named g c =
