@@ -17,14 +17,15 @@ use Rattle.cvss_ffi.specs.declared.values.CvssValues.{CvssValues}
 abbrev pub field_of : Option (List ℕ) → List ℕ
 field_of value = padded (unwrap_or value [])
 
--- 32 fields, the first of which are those of the vector's metrics, in the order of its canonical text
+-- the fields of a vector's metrics, in the order of its canonical text
 abbrev pub fields_in : {V K : Type 0} → Version V K → V → List (List ℕ)
-fields_in version v = begun (map (λ kind. field_of (held version v kind)) version.printed) (repeat 32 (padded [] ∷ []))
+fields_in version v = map (λ kind. field_of (held version v kind)) version.printed
 
+-- 32 fields, the first of which are those of the vector's metrics
 abbrev pub fields_of : Cvss → List (List ℕ)
-fields_of (CvssV20 vector) = fields_in v2 vector
-fields_of (CvssV30 vector) = fields_in v3 vector
-fields_of (CvssV31 vector) = fields_in v3 vector
+fields_of (CvssV20 vector) = begun (fields_in v2 vector) (repeat 32 (padded [] ∷ []))
+fields_of (CvssV30 vector) = begun (fields_in v3 vector) (repeat 32 (padded [] ∷ []))
+fields_of (CvssV31 vector) = begun (fields_in v3 vector) (repeat 32 (padded [] ∷ []))
 fields_of (CvssV40 vector) = fields_in v4 vector
 
 -- the version, the published score in tenths, the nomenclature, and the values of a vector
