@@ -41,15 +41,41 @@ impl Cvss {
 pub(crate) fn missing_of_v3(vector: &v3::Vector) -> Option<MetricType>
     ensures { result ≡ option_map V3 (first_missing_v3 vector.now) }
 {
-    match vector {
-        v3::Vector { av: None, .. } => Some(MetricType::V3(base_v3::MetricType::AV)),
-        v3::Vector { ac: None, .. } => Some(MetricType::V3(base_v3::MetricType::AC)),
-        v3::Vector { pr: None, .. } => Some(MetricType::V3(base_v3::MetricType::PR)),
-        v3::Vector { ui: None, .. } => Some(MetricType::V3(base_v3::MetricType::UI)),
-        v3::Vector { s: None, .. } => Some(MetricType::V3(base_v3::MetricType::S)),
-        v3::Vector { c: None, .. } => Some(MetricType::V3(base_v3::MetricType::C)),
-        v3::Vector { i: None, .. } => Some(MetricType::V3(base_v3::MetricType::I)),
-        v3::Vector { a: None, .. } => Some(MetricType::V3(base_v3::MetricType::A)),
-        _ => None,
+    match first_missing_v3(vector) {
+        Some(kind) => Some(MetricType::V3(kind)),
+        None => None,
     }
+}
+
+// One test after another: after the fast path, which has seen all eight, the compiler drops each of
+// them, but not one match over all.
+#[inline(always)]
+fn first_missing_v3(vector: &v3::Vector) -> Option<base_v3::MetricType>
+    ensures { result ≡ first_missing_v3 vector.now }
+{
+    if vector.av.is_none() {
+        return Some(base_v3::MetricType::AV);
+    }
+    if vector.ac.is_none() {
+        return Some(base_v3::MetricType::AC);
+    }
+    if vector.pr.is_none() {
+        return Some(base_v3::MetricType::PR);
+    }
+    if vector.ui.is_none() {
+        return Some(base_v3::MetricType::UI);
+    }
+    if vector.s.is_none() {
+        return Some(base_v3::MetricType::S);
+    }
+    if vector.c.is_none() {
+        return Some(base_v3::MetricType::C);
+    }
+    if vector.i.is_none() {
+        return Some(base_v3::MetricType::I);
+    }
+    if vector.a.is_none() {
+        return Some(base_v3::MetricType::A);
+    }
+    None
 }
