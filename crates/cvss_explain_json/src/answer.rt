@@ -183,6 +183,7 @@ fn write_own_refusal(
 }
 
 /// Puts the line as it is given, where it is UTF-8.
+#[tactic(auto, using(crate::proofs::GivenLemmas::text_given, crate::proofs::GivenLemmas::nothing_given))]
 fn put_given(members: &mut Map<String, Value>, alloc: Global, line: &[u8]) -> Result<(), AllocError>
     ensures { OnOk result (members_view members.new.entries
         ≡ with_members (given_members line.now) (members_view members.old.entries)) }

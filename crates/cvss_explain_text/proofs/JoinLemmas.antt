@@ -1,7 +1,7 @@
 -- Texts that are joined one after another.
 use Rattle.std.proofs.Common.{◌+◌, ◌<◌, ℕ, List, [], ◌∷◌, ◌++◌, ◌∙◌, ap, append_assoc, append-nil, get_or, length, map, refl, subst, sym, take}
 use Rattle.std.proofs.lemmas.List.{take_more}
-use Rattle.cvss_explain_text.specs.WhatIf.{Joins}
+use Rattle.cvss_explain_text.specs.Lines.{Joins}
 use Rattle.cvss_explain_text.specs.private.Writing.{Writes}
 
 joins_last : {X : Type 0} (Holds : X → List ℕ → Type 0) (items : List X) (last : X) (text next : List ℕ)

@@ -1,5 +1,5 @@
 -- The lines of explanations for people.
-use Rattle.std.specs.Prelude.{ℕ, Bool, is_some, ◌-◌, ◌==◌, if◌then◌else◌, List, [], ◌++◌, codes, length, map, flat_map, take}
+use Rattle.std.specs.Prelude.{◌≡◌, ℕ, Bool, is_some, ◌-◌, ◌==◌, if◌then◌else◌, List, [], ◌∷◌, ◌++◌, codes, length, map, flat_map, take}
 use Rattle.std.specs.Char.{to_ascii_lowercase}
 use Rattle.std.specs.List.{list_any}
 use Rattle.std.specs.Option.{option_map_or}
@@ -55,3 +55,9 @@ rows_text rows = flat_map row_line rows
 -- a score of so many tenths, and its rating
 abbrev pub rated_text : ℕ → Severity → List ℕ
 rated_text tenths severity = tenths_text tenths ++ codes " " ++ severity_text severity
+
+-- the text joins texts, one of which this holds for each item
+abbrev pub Joins : {X : Type 0} → (X → List ℕ → Type 0) → List X → List ℕ → Type 0
+Joins Holds [] text = text ≡ []
+Joins Holds (item ∷ items) text =
+    (first : List ℕ) × (rest : List ℕ) × Holds item first × Joins Holds items rest × (text ≡ first ++ rest)

@@ -1,16 +1,16 @@
 -- The explanation of a score of CVSS v4.0 for people: specification, section 8.2.
-use Rattle.std.specs.Prelude.{◌≡◌, ◌-◌, ◌==◌, ◌&&◌, ◌||◌, ℕ, Bool, true, false, not, if◌then◌else◌, List, [], ◌∷◌, ◌++◌, codes, flat_map, is_some, map, pos, Option, Some, None, bytes_eq, unwrap_or}
+use Rattle.std.specs.Prelude.{◌≡◌, ◌-◌, ◌==◌, ◌&&◌, ◌||◌, ℕ, Bool, true, false, not, if◌then◌else◌, List, [], ◌∷◌, ◌++◌, codes, find, flat_map, is_some, map, pos, Option, Some, None, bytes_eq, unwrap_or}
 use Rattle.std.specs.Fmt.{decimal}
 use Rattle.std.specs.Option.{option_map_or}
 use Rattle.cvss_any.specs.Answers.{score_of_tenths}
 use Rattle.cvss_base.specs.Rating.{rating_of_score}
-use Rattle.cvss_base.specs.V4Types.{description_of}
+use Rattle.cvss_base.specs.V4Types.{description_of, name_of}
 use Rattle.cvss_base.specs.Version.{held}
 use Rattle.cvss_base.specs.declared.v4.MetricType.{MetricType}
-use Rattle.cvss_base.specs.declared.v4.MetricType.TheVariants.{AC, AT, AV, PR, UI, VC, VI, VA, SC, SI, SA, E, CR, IR, AR, MAC, MAT, MAV, MPR, MUI, MVC, MVI, MVA, MSC, MSI, MSA}
+use Rattle.cvss_base.specs.declared.v4.MetricType.TheVariants.{AC, AT, AV, PR, UI, VC, VI, VA, SC, SI, SA, E, CR, IR, AR}
 use Rattle.cvss_explain.specs.Decimal.{nearest_to}
 use Rattle.cvss_explain.specs.V4.{Group, class_text, digits, named}
-use Rattle.cvss_explain_text.specs.Lines.{Row, metric_text, rated_text, row_line, rows_text}
+use Rattle.cvss_explain_text.specs.Lines.{Joins, Row, metric_text, rated_text, row_line, rows_text}
 use Rattle.cvss_json_names.specs.WordsV4.{words_of}
 use Rattle.cvss_json_write.specs.Json.{decimal_text, tenths_text}
 use Rattle.cvss_score.specs.v4.Explanation.{IsExplanation}
@@ -46,39 +46,21 @@ own_levels m IR = codes "EQ6:" ++ decimal m.eq6
 own_levels m AR = codes "EQ6:" ++ decimal m.eq6
 own_levels m _ = codes "-"
 
--- the base metric that a modified metric replaces where it is defined
+-- the name of a modified metric is an M and that of the base metric that it replaces where it is defined
+abbrev pub is_modified_of : MetricType → MetricType → Bool
+is_modified_of modified base = bytes_eq (name_of modified) (codes "M" ++ name_of base)
+
+-- the base metric that a modified metric replaces
 abbrev pub replaced_by : MetricType → Option MetricType
-replaced_by MAV = Some AV
-replaced_by MAC = Some AC
-replaced_by MAT = Some AT
-replaced_by MPR = Some PR
-replaced_by MUI = Some UI
-replaced_by MVC = Some VC
-replaced_by MVI = Some VI
-replaced_by MVA = Some VA
-replaced_by MSC = Some SC
-replaced_by MSI = Some SI
-replaced_by MSA = Some SA
-replaced_by _ = None
+replaced_by kind = find (is_modified_of kind) printed
+
+-- the modified metric that may replace a base metric
+abbrev pub modified_of : MetricType → Option MetricType
+modified_of kind = find (λ modified. is_modified_of modified kind) printed
 
 -- the levels that a metric counts in: those of the metric that it replaces, or its own
 abbrev pub levels_text : MacroVector → MetricType → List ℕ
 levels_text m kind = own_levels m (unwrap_or (replaced_by kind) kind)
-
--- the modified metric that may replace a base metric
-abbrev pub modified_of : MetricType → Option MetricType
-modified_of AV = Some MAV
-modified_of AC = Some MAC
-modified_of AT = Some MAT
-modified_of PR = Some MPR
-modified_of UI = Some MUI
-modified_of VC = Some MVC
-modified_of VI = Some MVI
-modified_of VA = Some MVA
-modified_of SC = Some MSC
-modified_of SI = Some MSI
-modified_of SA = Some MSA
-modified_of _ = None
 
 -- the vector has a value for the metric other than Not Defined
 abbrev pub is_defined : Vector → MetricType → Bool
@@ -139,23 +121,16 @@ counts_fewer CvssBT CvssBTE = true
 counts_fewer CvssBE CvssBTE = true
 counts_fewer _ _ = false
 
--- the line of a score of fewer groups, if it differs from the vector's own
-abbrev pub part_text : Nomenclature → ℕ → Nomenclature → ℕ → List ℕ
-part_text own tenths nomenclature by =
-    if counts_fewer nomenclature own && not (by == tenths) then row_line (score_row nomenclature by) else []
+-- the text is the line of a score of fewer groups, if it differs from the vector's own of so many tenths
+pub record IsPart (vector : Vector) (tenths : ℕ) (nomenclature : Nomenclature) (text : List ℕ) : Type 0 where
+  pub by : ℕ
+  pub scored : IsScoreBy nomenclature vector (score_of_tenths by)
+  pub is : text
+      ≡ (if counts_fewer nomenclature (nomenclature_of vector) && not (by == tenths) then row_line (score_row nomenclature by) else [])
 
 -- the lines say the scores of fewer groups of metrics, as far as they differ from the vector's own of so many tenths
-pub record ArePartLines (vector : Vector) (tenths : ℕ) (text : List ℕ) : Type 0 where
-  pub by_b : ℕ
-  pub by_bt : ℕ
-  pub by_be : ℕ
-  pub scored_b : IsScoreBy CvssB vector (score_of_tenths by_b)
-  pub scored_bt : IsScoreBy CvssBT vector (score_of_tenths by_bt)
-  pub scored_be : IsScoreBy CvssBE vector (score_of_tenths by_be)
-  pub is : text
-      ≡ part_text (nomenclature_of vector) tenths CvssB by_b
-      ++ part_text (nomenclature_of vector) tenths CvssBT by_bt
-      ++ part_text (nomenclature_of vector) tenths CvssBE by_be
+abbrev pub ArePartLines : Vector → ℕ → List ℕ → Type 0
+ArePartLines vector tenths = Joins (IsPart vector tenths) (CvssB ∷ CvssBT ∷ CvssBE ∷ [])
 
 -- the lines explain the vector's score of so many tenths
 pub record AreLines (vector : Vector) (tenths : ℕ) (text : List ℕ) : Type 0 where

@@ -1,19 +1,18 @@
 -- What the score of a vector would be with other values of its metrics.
-use Rattle.std.specs.Prelude.{◌≡◌, ◌⊎◌, ℕ, Bool, if◌then◌else◌, List, [], ◌∷◌, ◌++◌, codes, Option, bytes_eq}
+use Rattle.std.specs.Prelude.{◌≡◌, ◌⊎◌, ℕ, Bool, if◌then◌else◌, List, [], ◌++◌, codes, Option, bytes_eq}
 use Rattle.std.specs.Option.{option_map_or}
-use Rattle.cvss_any.specs.Answers.{IsScoreOf, score_of_tenths, vector_answer}
+use Rattle.cvss_any.specs.Answers.{score_of_tenths}
 use Rattle.cvss_any.specs.Setting.{IsWith}
 use Rattle.cvss_any.specs.declared.vector.Cvss.{Cvss}
 use Rattle.cvss_any.specs.declared.vector.Cvss.TheVariants.{CvssV20, CvssV30, CvssV31, CvssV40}
 use Rattle.cvss_base.specs.Tenths.{tenths_text}
 use Rattle.cvss_base.specs.Text.{component}
 use Rattle.cvss_base.specs.Version.{Version, held}
-use Rattle.cvss_explain_text.specs.Lines.{padded}
+use Rattle.cvss_explain_text.specs.Lines.{Joins, padded}
 use Rattle.cvss_json_names.specs.Words.{Row}
 use Rattle.cvss_json_names.specs.WordsV2 as words_v2
 use Rattle.cvss_json_names.specs.WordsV3 as words_v3
 use Rattle.cvss_json_names.specs.WordsV4 as words_v4
-use Rattle.cvss_lines.specs.Answers.{written_text}
 use Rattle.cvss_rank.specs.Overall.{IsOverallScore, is_undefined}
 use Rattle.cvss_v2.specs.Vector.{v2}
 use Rattle.cvss_v3.specs.Vector.{v3}
@@ -40,12 +39,6 @@ IsCell cvss name own row text =
     ((tenths : ℕ) × IsScored cvss (component name row.0) tenths × (text ≡ cell_text (is_present own row.0) row.0 tenths))
     ⊎ (((new : Cvss) → ¬ (IsWith cvss (component name row.0) new)) × (text ≡ []))
 
--- the text joins texts, one of which this holds for each item
-abbrev pub Joins : {X : Type 0} → (X → List ℕ → Type 0) → List X → List ℕ → Type 0
-Joins Holds [] text = text ≡ []
-Joins Holds (item ∷ items) text =
-    (first : List ℕ) × (rest : List ℕ) × Holds item first × Joins Holds items rest × (text ≡ first ++ rest)
-
 -- the line of a metric: its abbreviation, and its values
 pub record IsLine {V K : Type 0} (version : Version V K) (words : K → List Row) (cvss : Cvss) (v : V) (kind : K) (text : List ℕ) : Type 0 where
   pub cells : List ℕ
@@ -61,11 +54,3 @@ IsTable (CvssV20 v) = AreLines v2 words_v2.words_of (CvssV20 v) v
 IsTable (CvssV30 v) = AreLines v3 words_v3.words_of (CvssV30 v) v
 IsTable (CvssV31 v) = AreLines v3 words_v3.words_of (CvssV31 v) v
 IsTable (CvssV40 v) = AreLines v4 words_v4.words_of (CvssV40 v) v
-
--- the text is a heading, which is the vector's answer, and the overall scores that other values would give
-pub record IsWhatIf (cvss : Cvss) (text : List ℕ) : Type 0 where
-  pub tenths : ℕ
-  pub scored : IsScoreOf cvss (score_of_tenths tenths)
-  pub table : List ℕ
-  pub is_table : IsTable cvss table
-  pub is : text ≡ written_text (vector_answer cvss tenths) ++ table

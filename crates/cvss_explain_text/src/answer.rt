@@ -5,8 +5,7 @@ ghost use Rattle.cvss_any.specs.Answers.{HasScore, text_of, vector_answer};
 ghost use Rattle.cvss_any.specs.Complete.{IsReadErrorBy, missing_by};
 ghost use Rattle.cvss_any.specs.Dispatch.{DenotesCvss};
 ghost use Rattle.cvss_explain_text.specs.Answers.{IsAnswer, Shows};
-ghost use Rattle.cvss_explain_text.specs.Explanation.{AreLines, IsExplanation};
-ghost use Rattle.cvss_explain_text.specs.WhatIf.{IsWhatIf};
+ghost use Rattle.cvss_explain_text.specs.Explanation.{AreLines};
 ghost use Rattle.cvss_explain_text.specs.private.Writing.{Writes};
 ghost use Rattle.cvss_lines.specs.Answers.{WritesAnswer, written_text};
 
@@ -66,7 +65,8 @@ fn read(line: &[u8], allow_incomplete: bool) -> Result<Cvss, ReadError<'_>>
     }
 }
 
-/// Writes the explanation of a vector's score, or the scores that other values would give.
+/// Writes the heading of a vector, and after it why it has its score, or the scores that other values
+/// would give.
 fn write_shown(
     alloc: Global,
     cvss: &Cvss,
@@ -77,32 +77,13 @@ fn write_shown(
     ensures { OnOk result (Writes (Shows what_if cvss.now)
         answers.old.bytes.items answers.new.bytes.items) }
 {
-    if what_if {
-        write_what_if(alloc, cvss, answers)
-    } else {
-        write_explanation(cvss, answers)
-    }
-}
-
-/// Writes the scores that other values would give.
-fn write_what_if(alloc: Global, cvss: &Cvss, answers: &mut OutputBuffer) -> Result<(), AllocError>
-    requires { HasScore cvss.now }
-    ensures { OnOk result (Writes (IsWhatIf cvss.now)
-        answers.old.bytes.items answers.new.bytes.items) }
-{
-    write_heading(cvss, cvss.tenths(), answers)?;
-    write_table(alloc, cvss, answers)
-}
-
-/// Writes the explanation of a vector's score.
-fn write_explanation(cvss: &Cvss, answers: &mut OutputBuffer) -> Result<(), AllocError>
-    requires { HasScore cvss.now }
-    ensures { OnOk result (Writes (IsExplanation cvss.now)
-        answers.old.bytes.items answers.new.bytes.items) }
-{
     let tenths = cvss.tenths();
     write_heading(cvss, tenths, answers)?;
-    write_lines(cvss, tenths, answers)
+    if what_if {
+        write_table(alloc, cvss, answers)
+    } else {
+        write_lines(cvss, tenths, answers)
+    }
 }
 
 /// Writes the heading: the vector's text, its score of so many tenths, and the score's rating.

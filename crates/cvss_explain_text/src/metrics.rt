@@ -1,7 +1,6 @@
 //! The lines of metrics, once for all versions.
 
-ghost use Rattle.std.specs.Prelude.{◌≡◌, ◌++◌, OnOk, [], flat_map, is_some, map};
-ghost use Rattle.cvss_base.specs.Version.{held};
+ghost use Rattle.std.specs.Prelude.{◌≡◌, ◌++◌, OnOk, [], flat_map, map};
 ghost use Rattle.cvss_explain_text.specs.Lines.{has_any, metric_line, metric_text};
 
 use crate::lines::{FIGURE_WIDTH, write_component, write_padded, write_spoken};
@@ -100,14 +99,5 @@ fn write_line(
 pub(crate) fn has_any<V: Printed>(vector: &V, kinds: &[V::Kind]) -> bool
     ensures { result ≡ has_any V.version vector.now kinds.now }
 {
-    kinds.iter().any(|kind| has(vector, *kind))
-}
-
-fn has<V: Printed>(vector: &V, kind: V::Kind) -> bool
-    ensures { result ≡ is_some (held V.version vector.now kind) }
-{
-    match spelled(vector, kind) {
-        Some(_) => true,
-        None => false,
-    }
+    kinds.iter().any(|kind| spelled(vector, *kind).is_some())
 }

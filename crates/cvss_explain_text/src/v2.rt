@@ -9,6 +9,7 @@ ghost use Rattle.cvss_json_names.specs.WordsV2.{words_of};
 
 use crate::lines::{Amount, Row, write_rows, write_rows_if};
 use crate::metrics::{Explained, has_any, write_metrics};
+use Amount::*;
 use MetricType::*;
 use cvss_base::v2::MetricType;
 use cvss_explain::decimal::ten_millionths;
@@ -72,11 +73,11 @@ fn base_rows(numbers: BaseNumbers) -> [Row; 5]
     ensures { map row_view result ≡ base_rows numbers }
 {
     [
-        ("Impact", Amount::Decimal(numbers.impact)),
-        ("Exploitability", Amount::Decimal(numbers.exploitability)),
-        ("f(Impact)", Amount::Decimal(numbers.f)),
-        ("Before rounding", Amount::Decimal(numbers.number)),
-        ("Base score", Amount::Tenths(numbers.score)),
+        ("Impact", Decimal(numbers.impact)),
+        ("Exploitability", Decimal(numbers.exploitability)),
+        ("f(Impact)", Decimal(numbers.f)),
+        ("Before rounding", Decimal(numbers.number)),
+        ("Base score", Tenths(numbers.score)),
     ]
 }
 
@@ -84,8 +85,8 @@ fn temporal_rows(numbers: TemporalNumbers) -> [Row; 2]
     ensures { map row_view result ≡ temporal_rows numbers }
 {
     [
-        ("Before rounding", Amount::Decimal(numbers.number)),
-        ("Temporal score", Amount::Tenths(numbers.score)),
+        ("Before rounding", Decimal(numbers.number)),
+        ("Temporal score", Tenths(numbers.score)),
     ]
 }
 
@@ -93,16 +94,13 @@ fn environmental_rows(numbers: EnvironmentalNumbers) -> [Row; 5]
     ensures { map row_view result ≡ environmental_rows numbers }
 {
     [
-        ("Adjusted impact", Amount::Decimal(numbers.adjusted_impact)),
-        (
-            "Adjusted base score",
-            Amount::Decimal(numbers.adjusted_base),
-        ),
+        ("Adjusted impact", Decimal(numbers.adjusted_impact)),
+        ("Adjusted base score", Decimal(numbers.adjusted_base)),
         (
             "Adjusted temporal score",
-            Amount::Decimal(numbers.adjusted_temporal),
+            Decimal(numbers.adjusted_temporal),
         ),
-        ("Before rounding", Amount::Decimal(numbers.number)),
-        ("Environmental score", Amount::Tenths(numbers.score)),
+        ("Before rounding", Decimal(numbers.number)),
+        ("Environmental score", Tenths(numbers.score)),
     ]
 }

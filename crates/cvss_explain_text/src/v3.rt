@@ -9,6 +9,7 @@ ghost use Rattle.cvss_json_names.specs.WordsV3.{words_of};
 
 use crate::lines::{Amount, Row, rated, write_rows, write_rows_if};
 use crate::metrics::{Explained, has_any, write_metrics};
+use Amount::*;
 use MetricType::*;
 use cvss_base::v3::MetricType;
 use cvss_explain::decimal::ten_millionths;
@@ -76,10 +77,10 @@ fn base_rows(numbers: BaseNumbers) -> [Row; 5]
 {
     let scored = numbers.scored;
     [
-        ("Impact sub-score (ISS)", Amount::Decimal(numbers.iss)),
-        ("Impact", Amount::Decimal(numbers.impact)),
-        ("Exploitability", Amount::Decimal(numbers.exploitability)),
-        ("Before rounding", Amount::Decimal(scored.number)),
+        ("Impact sub-score (ISS)", Decimal(numbers.iss)),
+        ("Impact", Decimal(numbers.impact)),
+        ("Exploitability", Decimal(numbers.exploitability)),
+        ("Before rounding", Decimal(scored.number)),
         ("Base score", rated(scored.score)),
     ]
 }
@@ -88,7 +89,7 @@ fn temporal_rows(scored: Scored) -> [Row; 2]
     ensures { map row_view result ≡ temporal_rows scored }
 {
     [
-        ("Before rounding", Amount::Decimal(scored.number)),
+        ("Before rounding", Decimal(scored.number)),
         ("Temporal score", rated(scored.score)),
     ]
 }
@@ -98,24 +99,12 @@ fn environmental_rows(numbers: EnvironmentalNumbers) -> [Row; 7]
 {
     let scored = numbers.scored;
     [
-        (
-            "Modified impact sub-score (MISS)",
-            Amount::Decimal(numbers.miss),
-        ),
-        ("Modified impact", Amount::Decimal(numbers.impact)),
-        (
-            "Modified exploitability",
-            Amount::Decimal(numbers.exploitability),
-        ),
-        (
-            "Before the first rounding",
-            Amount::Decimal(numbers.first.number),
-        ),
-        (
-            "After the first rounding",
-            Amount::Tenths(numbers.first.score),
-        ),
-        ("Before rounding", Amount::Decimal(scored.number)),
+        ("Modified impact sub-score (MISS)", Decimal(numbers.miss)),
+        ("Modified impact", Decimal(numbers.impact)),
+        ("Modified exploitability", Decimal(numbers.exploitability)),
+        ("Before the first rounding", Decimal(numbers.first.number)),
+        ("After the first rounding", Tenths(numbers.first.score)),
+        ("Before rounding", Decimal(scored.number)),
         ("Environmental score", rated(scored.score)),
     ]
 }

@@ -6,7 +6,7 @@ ghost use Rattle.cvss_base.specs.Version.{IsComplete};
 ghost use Rattle.cvss_explain.specs.Decimal.{nearest_to};
 ghost use Rattle.cvss_explain.specs.V4.{class_text};
 ghost use Rattle.cvss_explain_text.specs.Lines.{row_line, rows_text};
-ghost use Rattle.cvss_explain_text.specs.V4.{AreLines, ArePartLines, counts_fewer, effect_text, group_row, group_rows, next_text, numbers_text, part_text, score_row};
+ghost use Rattle.cvss_explain_text.specs.V4.{AreLines, ArePartLines, IsPart, counts_fewer, effect_text, group_row, group_rows, next_text, numbers_text, score_row};
 ghost use Rattle.cvss_explain_text.specs.private.Amounts.{amount_text};
 ghost use Rattle.cvss_explain_text.specs.private.Writing.{Writes};
 ghost use Rattle.cvss_json_names.specs.WordsV4.{words_of};
@@ -211,42 +211,24 @@ fn write_parts(vector: &Vector, tenths: u8, answers: &mut OutputBuffer) -> Resul
     ensures { OnOk result (Writes (ArePartLines vector.now tenths)
         answers.old.bytes.items answers.new.bytes.items) }
 {
-    let own = vector.nomenclature();
-    write_part(
-        own,
-        tenths,
-        Nomenclature::CvssB,
-        vector.tenths_by(Nomenclature::CvssB),
-        answers,
-    )?;
-    write_part(
-        own,
-        tenths,
-        Nomenclature::CvssBT,
-        vector.tenths_by(Nomenclature::CvssBT),
-        answers,
-    )?;
-    write_part(
-        own,
-        tenths,
-        Nomenclature::CvssBE,
-        vector.tenths_by(Nomenclature::CvssBE),
-        answers,
-    )
+    write_part(vector, tenths, Nomenclature::CvssB, answers)?;
+    write_part(vector, tenths, Nomenclature::CvssBT, answers)?;
+    write_part(vector, tenths, Nomenclature::CvssBE, answers)
 }
 
 /// Writes a score of fewer groups of metrics, if it differs from the vector's own.
 fn write_part(
-    own: Nomenclature,
+    vector: &Vector,
     tenths: u8,
     nomenclature: Nomenclature,
-    by: u8,
     answers: &mut OutputBuffer,
 ) -> Result<(), AllocError>
-    ensures { OnOk result (answers.new.bytes.items
-        ≡ answers.old.bytes.items ++ part_text own tenths nomenclature by) }
+    requires { IsComplete v4 vector.now }
+    ensures { OnOk result (Writes (IsPart vector.now tenths nomenclature)
+        answers.old.bytes.items answers.new.bytes.items) }
 {
-    if counts_fewer(nomenclature, own) && by != tenths {
+    let by = vector.tenths_by(nomenclature);
+    if counts_fewer(nomenclature, vector.nomenclature()) && by != tenths {
         write_score(nomenclature, by, answers)?;
     }
     Ok(())

@@ -4,8 +4,8 @@ ghost use Rattle.std.specs.Prelude.{◌≡◌, ◌++◌, ◌≤◌, IfOk, IfSome
 ghost use Rattle.cvss_any.specs.Answers.{HasScore};
 ghost use Rattle.cvss_any.specs.Setting.{IsWith};
 ghost use Rattle.cvss_base.specs.Text.{component};
-ghost use Rattle.cvss_explain_text.specs.Lines.{padded};
-ghost use Rattle.cvss_explain_text.specs.WhatIf.{AreLines, IsCell, IsLine, IsScored, IsTable, Joins, cell_text, is_present};
+ghost use Rattle.cvss_explain_text.specs.Lines.{Joins, padded};
+ghost use Rattle.cvss_explain_text.specs.WhatIf.{AreLines, IsCell, IsLine, IsScored, IsTable, cell_text, is_present};
 ghost use Rattle.cvss_explain_text.specs.private.Writing.{Writes};
 
 use crate::lines::write_padded;

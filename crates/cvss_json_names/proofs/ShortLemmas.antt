@@ -1,16 +1,19 @@
 -- No component is longer than nine bytes, so that 32 of them with their slashes take at most 320.
-use Rattle.std.proofs.Common.{◌≡◌, ◌≤◌, ◌*◌, List, [], ◌∷◌, length, Option, Some, None, unwrap_or, true, arith, rules, length-append}
+use Rattle.std.proofs.Common.{◌≡◌, ◌≤◌, ◌*◌, List, [], ◌∷◌, length, Option, Some, None, unwrap_or, true, arith, rules, length-append, ap}
 use Rattle.std.specs.Option.{option_map}
 use Rattle.std.specs.Prelude.{leb}
 use Rattle.std.proofs.lemmas.Bool.Decides.{nat_tests}
+use Rattle.std.proofs.lemmas.List.{length-drop}
+use Rattle.cvss_text.proofs.PrintLemmas.{joined_after_first}
 use Rattle.cvss_base.specs.declared.v2.MetricType.TheVariants as metric_v2
 use Rattle.cvss_base.specs.declared.v3.MetricType.TheVariants as metric_v3
 use Rattle.cvss_base.specs.declared.v4.MetricType.TheVariants as metric_v4
 use Rattle.cvss_v2.specs.Vector.{v2}
+use Rattle.cvss_v2.specs.declared.vector.Vector.{Vector}
 use Rattle.cvss_v3.specs.Vector.{v3}
 use Rattle.cvss_v4.specs.Vector.{v4}
 use Rattle.cvss_base.specs.Text.{component}
-use Rattle.cvss_base.specs.Version.{Version}
+use Rattle.cvss_base.specs.Version.{Version, canonical_text}
 use Rattle.cvss_text.specs.private.Printing.{with_slash, text_with_slash, texts_with_slash}
 
 -- no component is longer than nine bytes
@@ -41,3 +44,8 @@ module _ {V K : Type 0} (version : Version V K) (short : AreShort version) where
 
   pub fits : (v : V) → length version.printed ≤ 32 → length (texts_with_slash version v version.printed) ≤ 320
   fits v few = omega (arith, few, texts-short v version.printed)
+
+pub text_short : (v : Vector) → length (canonical_text v2 v) ≤ 320
+text_short v =
+    let kinds = v2.printed in
+    omega (arith, ap length (joined_after_first v2 v kinds), length-drop 1 (texts_with_slash v2 v kinds), fits v2 short_v2 v (omega arith))

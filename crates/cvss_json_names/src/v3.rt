@@ -3,66 +3,53 @@
 ghost use Rattle.std.specs.Prelude.{◌≡◌, map};
 ghost use Rattle.cvss_json_names.specs.WordsV3.{entry_of};
 
-use crate::rows::{
-    ADJACENT_NETWORK, CONFIRMED, FUNCTIONAL, HIGH, LOCAL, LOW, MEDIUM, NETWORK, NONE, PHYSICAL,
-    PROOF_OF_CONCEPT, Row, UNAVAILABLE, UNPROVEN, WORKAROUND, X,
-};
+use crate::rows::{Row, X};
+use MetricType::*;
 use cvss_base::v3::MetricType;
 
-// Rows that this version alone has.
-const REQUIRED: Row = ("R", "REQUIRED");
+/// The values of an impact.
+const IMPACTS: &[Row] = &[("N", "NONE"), ("L", "LOW"), ("H", "HIGH")];
 
-const UNCHANGED: Row = ("U", "UNCHANGED");
+/// The values of a security requirement.
+const REQUIREMENTS: &[Row] = &[X, ("H", "HIGH"), ("M", "MEDIUM"), ("L", "LOW")];
 
-const CHANGED: Row = ("C", "CHANGED");
-
-const TEMPORARY_FIX: Row = ("T", "TEMPORARY_FIX");
-
-const OFFICIAL_FIX: Row = ("O", "OFFICIAL_FIX");
-
-const REASONABLE: Row = ("R", "REASONABLE");
-
-const UNKNOWN: Row = ("U", "UNKNOWN");
+/// The values of a modified impact.
+const MODIFIED_IMPACTS: &[Row] = &[X, ("N", "NONE"), ("L", "LOW"), ("H", "HIGH")];
 
 /// The name of the member that holds the metric's value, and how its values are spelled, each
 /// with its word.
+// A line for each metric, as the schema has them.
+#[rattlefmt::skip]
 pub fn entry(kind: MetricType) -> (&'static str, &'static [Row])
     ensures { (result.0.now, map (λ row. (row.0.now, row.1.now)) result.1.now) ≡ entry_of kind }
 {
     match kind {
-        MetricType::AV => (
-            "attackVector",
-            &[PHYSICAL, LOCAL, ADJACENT_NETWORK, NETWORK],
-        ),
-        MetricType::AC => ("attackComplexity", &[HIGH, LOW]),
-        MetricType::PR => ("privilegesRequired", &[HIGH, LOW, NONE]),
-        MetricType::UI => ("userInteraction", &[REQUIRED, NONE]),
-        MetricType::S => ("scope", &[UNCHANGED, CHANGED]),
-        MetricType::C => ("confidentialityImpact", &[NONE, LOW, HIGH]),
-        MetricType::I => ("integrityImpact", &[NONE, LOW, HIGH]),
-        MetricType::A => ("availabilityImpact", &[NONE, LOW, HIGH]),
-        MetricType::E => (
-            "exploitCodeMaturity",
-            &[X, HIGH, FUNCTIONAL, PROOF_OF_CONCEPT, UNPROVEN],
-        ),
-        MetricType::RL => (
-            "remediationLevel",
-            &[X, UNAVAILABLE, WORKAROUND, TEMPORARY_FIX, OFFICIAL_FIX],
-        ),
-        MetricType::RC => ("reportConfidence", &[X, CONFIRMED, REASONABLE, UNKNOWN]),
-        MetricType::CR => ("confidentialityRequirement", &[X, HIGH, MEDIUM, LOW]),
-        MetricType::IR => ("integrityRequirement", &[X, HIGH, MEDIUM, LOW]),
-        MetricType::AR => ("availabilityRequirement", &[X, HIGH, MEDIUM, LOW]),
-        MetricType::MAV => (
-            "modifiedAttackVector",
-            &[X, PHYSICAL, LOCAL, ADJACENT_NETWORK, NETWORK],
-        ),
-        MetricType::MAC => ("modifiedAttackComplexity", &[X, HIGH, LOW]),
-        MetricType::MPR => ("modifiedPrivilegesRequired", &[X, HIGH, LOW, NONE]),
-        MetricType::MUI => ("modifiedUserInteraction", &[X, REQUIRED, NONE]),
-        MetricType::MS => ("modifiedScope", &[X, UNCHANGED, CHANGED]),
-        MetricType::MC => ("modifiedConfidentialityImpact", &[X, NONE, LOW, HIGH]),
-        MetricType::MI => ("modifiedIntegrityImpact", &[X, NONE, LOW, HIGH]),
-        MetricType::MA => ("modifiedAvailabilityImpact", &[X, NONE, LOW, HIGH]),
+        AV => ("attackVector",
+            &[("P", "PHYSICAL"), ("L", "LOCAL"), ("A", "ADJACENT_NETWORK"), ("N", "NETWORK")]),
+        AC => ("attackComplexity", &[("H", "HIGH"), ("L", "LOW")]),
+        PR => ("privilegesRequired", &[("H", "HIGH"), ("L", "LOW"), ("N", "NONE")]),
+        UI => ("userInteraction", &[("R", "REQUIRED"), ("N", "NONE")]),
+        S => ("scope", &[("U", "UNCHANGED"), ("C", "CHANGED")]),
+        C => ("confidentialityImpact", IMPACTS),
+        I => ("integrityImpact", IMPACTS),
+        A => ("availabilityImpact", IMPACTS),
+        E => ("exploitCodeMaturity",
+            &[X, ("H", "HIGH"), ("F", "FUNCTIONAL"), ("P", "PROOF_OF_CONCEPT"), ("U", "UNPROVEN")]),
+        RL => ("remediationLevel",
+            &[X, ("U", "UNAVAILABLE"), ("W", "WORKAROUND"), ("T", "TEMPORARY_FIX"),
+              ("O", "OFFICIAL_FIX")]),
+        RC => ("reportConfidence", &[X, ("C", "CONFIRMED"), ("R", "REASONABLE"), ("U", "UNKNOWN")]),
+        CR => ("confidentialityRequirement", REQUIREMENTS),
+        IR => ("integrityRequirement", REQUIREMENTS),
+        AR => ("availabilityRequirement", REQUIREMENTS),
+        MAV => ("modifiedAttackVector",
+            &[X, ("P", "PHYSICAL"), ("L", "LOCAL"), ("A", "ADJACENT_NETWORK"), ("N", "NETWORK")]),
+        MAC => ("modifiedAttackComplexity", &[X, ("H", "HIGH"), ("L", "LOW")]),
+        MPR => ("modifiedPrivilegesRequired", &[X, ("H", "HIGH"), ("L", "LOW"), ("N", "NONE")]),
+        MUI => ("modifiedUserInteraction", &[X, ("R", "REQUIRED"), ("N", "NONE")]),
+        MS => ("modifiedScope", &[X, ("U", "UNCHANGED"), ("C", "CHANGED")]),
+        MC => ("modifiedConfidentialityImpact", MODIFIED_IMPACTS),
+        MI => ("modifiedIntegrityImpact", MODIFIED_IMPACTS),
+        MA => ("modifiedAvailabilityImpact", MODIFIED_IMPACTS),
     }
 }

@@ -3,102 +3,72 @@
 ghost use Rattle.std.specs.Prelude.{◌≡◌, map};
 ghost use Rattle.cvss_json_names.specs.WordsV4.{entry_of};
 
-use crate::rows::{HIGH, LOCAL, LOW, MEDIUM, NETWORK, NONE, PHYSICAL, PROOF_OF_CONCEPT, Row, X};
+use crate::rows::{Row, X};
+use MetricType::*;
 use cvss_base::v4::MetricType;
 
-// Rows that this version alone has.
-const ADJACENT: Row = ("A", "ADJACENT");
+/// The values of an impact.
+const IMPACTS: &[Row] = &[("N", "NONE"), ("L", "LOW"), ("H", "HIGH")];
 
-const PRESENT: Row = ("P", "PRESENT");
+/// The values of a security requirement.
+const REQUIREMENTS: &[Row] = &[X, ("L", "LOW"), ("M", "MEDIUM"), ("H", "HIGH")];
 
-const ACTIVE: Row = ("A", "ACTIVE");
+/// The values of a modified impact.
+const MODIFIED_IMPACTS: &[Row] = &[X, ("N", "NONE"), ("L", "LOW"), ("H", "HIGH")];
 
-const PASSIVE: Row = ("P", "PASSIVE");
-
-const UNREPORTED: Row = ("U", "UNREPORTED");
-
-const ATTACKED: Row = ("A", "ATTACKED");
-
-const NEGLIGIBLE: Row = ("N", "NEGLIGIBLE");
-
-const SAFETY: Row = ("S", "SAFETY");
-
-const YES: Row = ("Y", "YES");
-
-const NO: Row = ("N", "NO");
-
-const AUTOMATIC: Row = ("A", "AUTOMATIC");
-
-const USER: Row = ("U", "USER");
-
-const IRRECOVERABLE: Row = ("I", "IRRECOVERABLE");
-
-const DIFFUSE: Row = ("D", "DIFFUSE");
-
-const CONCENTRATED: Row = ("C", "CONCENTRATED");
-
-const MODERATE: Row = ("M", "MODERATE");
-
-const RED: Row = ("Red", "RED");
-
-const AMBER: Row = ("Amber", "AMBER");
-
-const GREEN: Row = ("Green", "GREEN");
-
-const CLEAR: Row = ("Clear", "CLEAR");
+/// The values of a modified impact that may harm persons.
+const SAFETY_IMPACTS: &[Row] = &[
+    X,
+    ("N", "NEGLIGIBLE"),
+    ("L", "LOW"),
+    ("H", "HIGH"),
+    ("S", "SAFETY"),
+];
 
 /// The name of the member that holds the metric's value, and how its values are spelled, each
 /// with its word.
+// A line for each metric, as the schema has them.
+#[rattlefmt::skip]
 pub fn entry(kind: MetricType) -> (&'static str, &'static [Row])
     ensures { (result.0.now, map (λ row. (row.0.now, row.1.now)) result.1.now) ≡ entry_of kind }
 {
     match kind {
-        MetricType::AV => ("attackVector", &[PHYSICAL, LOCAL, ADJACENT, NETWORK]),
-        MetricType::AC => ("attackComplexity", &[HIGH, LOW]),
-        MetricType::AT => ("attackRequirements", &[PRESENT, NONE]),
-        MetricType::PR => ("privilegesRequired", &[HIGH, LOW, NONE]),
-        MetricType::UI => ("userInteraction", &[ACTIVE, PASSIVE, NONE]),
-        MetricType::VC => ("vulnConfidentialityImpact", &[NONE, LOW, HIGH]),
-        MetricType::VI => ("vulnIntegrityImpact", &[NONE, LOW, HIGH]),
-        MetricType::VA => ("vulnAvailabilityImpact", &[NONE, LOW, HIGH]),
-        MetricType::SC => ("subConfidentialityImpact", &[NONE, LOW, HIGH]),
-        MetricType::SI => ("subIntegrityImpact", &[NONE, LOW, HIGH]),
-        MetricType::SA => ("subAvailabilityImpact", &[NONE, LOW, HIGH]),
-        MetricType::E => (
-            "exploitMaturity",
-            &[X, UNREPORTED, PROOF_OF_CONCEPT, ATTACKED],
-        ),
-        MetricType::CR => ("confidentialityRequirement", &[X, LOW, MEDIUM, HIGH]),
-        MetricType::IR => ("integrityRequirement", &[X, LOW, MEDIUM, HIGH]),
-        MetricType::AR => ("availabilityRequirement", &[X, LOW, MEDIUM, HIGH]),
-        MetricType::MAV => (
-            "modifiedAttackVector",
-            &[PHYSICAL, LOCAL, ADJACENT, NETWORK, X],
-        ),
-        MetricType::MAC => ("modifiedAttackComplexity", &[X, HIGH, LOW]),
-        MetricType::MAT => ("modifiedAttackRequirements", &[X, PRESENT, NONE]),
-        MetricType::MPR => ("modifiedPrivilegesRequired", &[X, HIGH, LOW, NONE]),
-        MetricType::MUI => ("modifiedUserInteraction", &[X, ACTIVE, PASSIVE, NONE]),
-        MetricType::MVC => ("modifiedVulnConfidentialityImpact", &[X, NONE, LOW, HIGH]),
-        MetricType::MVI => ("modifiedVulnIntegrityImpact", &[X, NONE, LOW, HIGH]),
-        MetricType::MVA => ("modifiedVulnAvailabilityImpact", &[X, NONE, LOW, HIGH]),
-        MetricType::MSC => (
-            "modifiedSubConfidentialityImpact",
-            &[X, NEGLIGIBLE, LOW, HIGH],
-        ),
-        MetricType::MSI => (
-            "modifiedSubIntegrityImpact",
-            &[X, NEGLIGIBLE, LOW, HIGH, SAFETY],
-        ),
-        MetricType::MSA => (
-            "modifiedSubAvailabilityImpact",
-            &[X, NEGLIGIBLE, LOW, HIGH, SAFETY],
-        ),
-        MetricType::S => ("Safety", &[X, PRESENT, NEGLIGIBLE]),
-        MetricType::AU => ("Automatable", &[X, YES, NO]),
-        MetricType::R => ("Recovery", &[X, AUTOMATIC, USER, IRRECOVERABLE]),
-        MetricType::V => ("valueDensity", &[X, DIFFUSE, CONCENTRATED]),
-        MetricType::RE => ("vulnerabilityResponseEffort", &[X, LOW, MODERATE, HIGH]),
-        MetricType::U => ("providerUrgency", &[X, RED, AMBER, GREEN, CLEAR]),
+        AV => ("attackVector",
+            &[("P", "PHYSICAL"), ("L", "LOCAL"), ("A", "ADJACENT"), ("N", "NETWORK")]),
+        AC => ("attackComplexity", &[("H", "HIGH"), ("L", "LOW")]),
+        AT => ("attackRequirements", &[("P", "PRESENT"), ("N", "NONE")]),
+        PR => ("privilegesRequired", &[("H", "HIGH"), ("L", "LOW"), ("N", "NONE")]),
+        UI => ("userInteraction", &[("A", "ACTIVE"), ("P", "PASSIVE"), ("N", "NONE")]),
+        VC => ("vulnConfidentialityImpact", IMPACTS),
+        VI => ("vulnIntegrityImpact", IMPACTS),
+        VA => ("vulnAvailabilityImpact", IMPACTS),
+        SC => ("subConfidentialityImpact", IMPACTS),
+        SI => ("subIntegrityImpact", IMPACTS),
+        SA => ("subAvailabilityImpact", IMPACTS),
+        E => ("exploitMaturity",
+            &[X, ("U", "UNREPORTED"), ("P", "PROOF_OF_CONCEPT"), ("A", "ATTACKED")]),
+        CR => ("confidentialityRequirement", REQUIREMENTS),
+        IR => ("integrityRequirement", REQUIREMENTS),
+        AR => ("availabilityRequirement", REQUIREMENTS),
+        MAV => ("modifiedAttackVector",
+            &[("P", "PHYSICAL"), ("L", "LOCAL"), ("A", "ADJACENT"), ("N", "NETWORK"), X]),
+        MAC => ("modifiedAttackComplexity", &[X, ("H", "HIGH"), ("L", "LOW")]),
+        MAT => ("modifiedAttackRequirements", &[X, ("P", "PRESENT"), ("N", "NONE")]),
+        MPR => ("modifiedPrivilegesRequired", &[X, ("H", "HIGH"), ("L", "LOW"), ("N", "NONE")]),
+        MUI => ("modifiedUserInteraction", &[X, ("A", "ACTIVE"), ("P", "PASSIVE"), ("N", "NONE")]),
+        MVC => ("modifiedVulnConfidentialityImpact", MODIFIED_IMPACTS),
+        MVI => ("modifiedVulnIntegrityImpact", MODIFIED_IMPACTS),
+        MVA => ("modifiedVulnAvailabilityImpact", MODIFIED_IMPACTS),
+        MSC => ("modifiedSubConfidentialityImpact",
+            &[X, ("N", "NEGLIGIBLE"), ("L", "LOW"), ("H", "HIGH")]),
+        MSI => ("modifiedSubIntegrityImpact", SAFETY_IMPACTS),
+        MSA => ("modifiedSubAvailabilityImpact", SAFETY_IMPACTS),
+        S => ("Safety", &[X, ("P", "PRESENT"), ("N", "NEGLIGIBLE")]),
+        AU => ("Automatable", &[X, ("Y", "YES"), ("N", "NO")]),
+        R => ("Recovery", &[X, ("A", "AUTOMATIC"), ("U", "USER"), ("I", "IRRECOVERABLE")]),
+        V => ("valueDensity", &[X, ("D", "DIFFUSE"), ("C", "CONCENTRATED")]),
+        RE => ("vulnerabilityResponseEffort", &[X, ("L", "LOW"), ("M", "MODERATE"), ("H", "HIGH")]),
+        U => ("providerUrgency",
+            &[X, ("Red", "RED"), ("Amber", "AMBER"), ("Green", "GREEN"), ("Clear", "CLEAR")]),
     }
 }

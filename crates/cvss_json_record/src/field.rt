@@ -5,19 +5,23 @@ ghost use Rattle.std.specs.Prelude.{◌≡◌, ◌≤◌, length};
 ghost use Rattle.cvss_json_record.specs.Fields.{fields_of, name_of};
 
 use crate::group::Group;
+use Field::*;
+use Group::*;
 use cvss_any::Cvss;
-use cvss_base::{v2, v3, v4};
+use cvss_base::v2::MetricType as KindV2;
+use cvss_base::v3::MetricType as KindV3;
+use cvss_base::v4::MetricType as KindV4;
 use cvss_json_names::{v2 as words_v2, v3 as words_v3, v4 as words_v4};
 
 /// A member of a record, by what it says of the vector.
 #[derive(Clone, Copy)]
 pub enum Field {
     /// The value of a metric of CVSS v2.
-    V2(v2::MetricType),
+    V2(KindV2),
     /// The value of a metric of CVSS v3.
-    V3(v3::MetricType),
+    V3(KindV3),
     /// The value of a metric of CVSS v4.0.
-    V4(v4::MetricType),
+    V4(KindV4),
     /// The score of a group.
     Score(Group),
     /// The rating of a group's score.
@@ -50,102 +54,37 @@ pub fn fields_of(cvss: &Cvss) -> &'static [Field]
     ensures { result.now ≡ fields_of cvss.now }
 {
     match cvss {
-        Cvss::CvssV20(_) => &V2,
-        Cvss::CvssV30(_) | Cvss::CvssV31(_) => &V3,
-        Cvss::CvssV40(_) => &V4,
+        Cvss::CvssV20(_) => &FIELDS_V2,
+        Cvss::CvssV30(_) | Cvss::CvssV31(_) => &FIELDS_V3,
+        Cvss::CvssV40(_) => &FIELDS_V4,
     }
 }
 
-const V2: [Field; 19] = [
-    Field::V2(v2::MetricType::AC),
-    Field::V2(v2::MetricType::AV),
-    Field::V2(v2::MetricType::Au),
-    Field::V2(v2::MetricType::A),
-    Field::V2(v2::MetricType::AR),
-    Field::Score(Group::Base),
-    Field::V2(v2::MetricType::CDP),
-    Field::V2(v2::MetricType::C),
-    Field::V2(v2::MetricType::CR),
-    Field::Score(Group::Environmental),
-    Field::V2(v2::MetricType::E),
-    Field::V2(v2::MetricType::I),
-    Field::V2(v2::MetricType::IR),
-    Field::V2(v2::MetricType::RL),
-    Field::V2(v2::MetricType::RC),
-    Field::V2(v2::MetricType::TD),
-    Field::Score(Group::Temporal),
-    Field::Text,
-    Field::Version,
+#[rattlefmt::skip]
+const FIELDS_V2: [Field; 19] = [
+    V2(KindV2::AC), V2(KindV2::AV), V2(KindV2::Au), V2(KindV2::A), V2(KindV2::AR), Score(Base),
+    V2(KindV2::CDP), V2(KindV2::C), V2(KindV2::CR), Score(Environmental), V2(KindV2::E),
+    V2(KindV2::I), V2(KindV2::IR), V2(KindV2::RL), V2(KindV2::RC), V2(KindV2::TD), Score(Temporal),
+    Text, Version,
 ];
 
-const V3: [Field; 30] = [
-    Field::V3(v3::MetricType::AC),
-    Field::V3(v3::MetricType::AV),
-    Field::V3(v3::MetricType::A),
-    Field::V3(v3::MetricType::AR),
-    Field::Score(Group::Base),
-    Field::Rating(Group::Base),
-    Field::V3(v3::MetricType::C),
-    Field::V3(v3::MetricType::CR),
-    Field::Score(Group::Environmental),
-    Field::Rating(Group::Environmental),
-    Field::V3(v3::MetricType::E),
-    Field::V3(v3::MetricType::I),
-    Field::V3(v3::MetricType::IR),
-    Field::V3(v3::MetricType::MAC),
-    Field::V3(v3::MetricType::MAV),
-    Field::V3(v3::MetricType::MA),
-    Field::V3(v3::MetricType::MC),
-    Field::V3(v3::MetricType::MI),
-    Field::V3(v3::MetricType::MPR),
-    Field::V3(v3::MetricType::MS),
-    Field::V3(v3::MetricType::MUI),
-    Field::V3(v3::MetricType::PR),
-    Field::V3(v3::MetricType::RL),
-    Field::V3(v3::MetricType::RC),
-    Field::V3(v3::MetricType::S),
-    Field::Score(Group::Temporal),
-    Field::Rating(Group::Temporal),
-    Field::V3(v3::MetricType::UI),
-    Field::Text,
-    Field::Version,
+#[rattlefmt::skip]
+const FIELDS_V3: [Field; 30] = [
+    V3(KindV3::AC), V3(KindV3::AV), V3(KindV3::A), V3(KindV3::AR), Score(Base), Rating(Base),
+    V3(KindV3::C), V3(KindV3::CR), Score(Environmental), Rating(Environmental), V3(KindV3::E),
+    V3(KindV3::I), V3(KindV3::IR), V3(KindV3::MAC), V3(KindV3::MAV), V3(KindV3::MA), V3(KindV3::MC),
+    V3(KindV3::MI), V3(KindV3::MPR), V3(KindV3::MS), V3(KindV3::MUI), V3(KindV3::PR),
+    V3(KindV3::RL), V3(KindV3::RC), V3(KindV3::S), Score(Temporal), Rating(Temporal),
+    V3(KindV3::UI), Text, Version,
 ];
 
-const V4: [Field; 36] = [
-    Field::V4(v4::MetricType::AU),
-    Field::V4(v4::MetricType::R),
-    Field::V4(v4::MetricType::S),
-    Field::V4(v4::MetricType::AC),
-    Field::V4(v4::MetricType::AT),
-    Field::V4(v4::MetricType::AV),
-    Field::V4(v4::MetricType::AR),
-    Field::Score(Group::Base),
-    Field::Rating(Group::Base),
-    Field::V4(v4::MetricType::CR),
-    Field::V4(v4::MetricType::E),
-    Field::V4(v4::MetricType::IR),
-    Field::V4(v4::MetricType::MAC),
-    Field::V4(v4::MetricType::MAT),
-    Field::V4(v4::MetricType::MAV),
-    Field::V4(v4::MetricType::MPR),
-    Field::V4(v4::MetricType::MSA),
-    Field::V4(v4::MetricType::MSC),
-    Field::V4(v4::MetricType::MSI),
-    Field::V4(v4::MetricType::MUI),
-    Field::V4(v4::MetricType::MVA),
-    Field::V4(v4::MetricType::MVC),
-    Field::V4(v4::MetricType::MVI),
-    Field::V4(v4::MetricType::PR),
-    Field::V4(v4::MetricType::U),
-    Field::V4(v4::MetricType::SA),
-    Field::V4(v4::MetricType::SC),
-    Field::V4(v4::MetricType::SI),
-    Field::V4(v4::MetricType::UI),
-    Field::V4(v4::MetricType::V),
-    Field::Text,
-    Field::Version,
-    Field::V4(v4::MetricType::VA),
-    Field::V4(v4::MetricType::VC),
-    Field::V4(v4::MetricType::VI),
-    Field::V4(v4::MetricType::RE),
+#[rattlefmt::skip]
+const FIELDS_V4: [Field; 36] = [
+    V4(KindV4::AU), V4(KindV4::R), V4(KindV4::S), V4(KindV4::AC), V4(KindV4::AT), V4(KindV4::AV),
+    V4(KindV4::AR), Score(Base), Rating(Base), V4(KindV4::CR), V4(KindV4::E), V4(KindV4::IR),
+    V4(KindV4::MAC), V4(KindV4::MAT), V4(KindV4::MAV), V4(KindV4::MPR), V4(KindV4::MSA),
+    V4(KindV4::MSC), V4(KindV4::MSI), V4(KindV4::MUI), V4(KindV4::MVA), V4(KindV4::MVC),
+    V4(KindV4::MVI), V4(KindV4::PR), V4(KindV4::U), V4(KindV4::SA), V4(KindV4::SC), V4(KindV4::SI),
+    V4(KindV4::UI), V4(KindV4::V), Text, Version, V4(KindV4::VA), V4(KindV4::VC), V4(KindV4::VI),
+    V4(KindV4::RE),
 ];

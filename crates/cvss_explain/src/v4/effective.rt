@@ -1,7 +1,7 @@
 //! The letters of effective values.
 
 ghost use Rattle.std.specs.Prelude.{◌≡◌, ◌≤◌, length};
-ghost use Rattle.cvss_explain.specs.LettersV4.{vulnerable_impact_letter, subsequent_impact_letter, safety_impact_letter, requirement_letter, exploit_maturity_letter, letter_at, letter_member};
+ghost use Rattle.cvss_explain.specs.LettersV4.{safety_impact_letter, requirement_letter, letter_at, letter_member};
 
 use crate::table::Table;
 use MetricType::*;
@@ -28,6 +28,17 @@ impl Table for Effective {
     }
 }
 
+/// The letter of an impact, by one table for two types.
+macro_rules! impact {
+    ($value:expr, $value_type:ident) => {
+        match $value {
+            $value_type::High => "H",
+            $value_type::Low => "L",
+            $value_type::None => "N",
+        }
+    };
+}
+
 /// The letter of the effective value of a metric, and none where it has no such value.
 #[tactic(auto, using(crate::proofs::ShortLemmas::letters))]
 fn letter(effective: &Effective, kind: MetricType) -> &'static str
@@ -40,41 +51,21 @@ fn letter(effective: &Effective, kind: MetricType) -> &'static str
         MetricType::AT => effective.at.as_str(),
         MetricType::PR => effective.pr.as_str(),
         MetricType::UI => effective.ui.as_str(),
-        MetricType::VC => vulnerable_impact(effective.vc),
-        MetricType::VI => vulnerable_impact(effective.vi),
-        MetricType::VA => vulnerable_impact(effective.va),
-        MetricType::SC => subsequent_impact(effective.sc),
+        MetricType::VC => impact!(effective.vc, VulnerableImpact),
+        MetricType::VI => impact!(effective.vi, VulnerableImpact),
+        MetricType::VA => impact!(effective.va, VulnerableImpact),
+        MetricType::SC => impact!(effective.sc, SubsequentImpact),
         MetricType::SI => safety_impact(effective.si),
         MetricType::SA => safety_impact(effective.sa),
-        MetricType::E => exploit_maturity(effective.e),
+        MetricType::E => match effective.e {
+            ExploitMaturity::Attacked => "A",
+            ExploitMaturity::ProofOfConcept => "P",
+            ExploitMaturity::Unreported => "U",
+        },
         MetricType::CR => requirement(effective.cr),
         MetricType::IR => requirement(effective.ir),
         MetricType::AR => requirement(effective.ar),
         _ => "",
-    }
-}
-
-/// The letter of VC, VI or VA.
-fn vulnerable_impact(value: VulnerableImpact) -> &'static str
-    ensures text { result.now ≡ vulnerable_impact_letter value }
-    ensures short { length result.now ≤ 1 }
-{
-    match value {
-        VulnerableImpact::High => "H",
-        VulnerableImpact::Low => "L",
-        VulnerableImpact::None => "N",
-    }
-}
-
-/// The letter of SC.
-fn subsequent_impact(value: SubsequentImpact) -> &'static str
-    ensures text { result.now ≡ subsequent_impact_letter value }
-    ensures short { length result.now ≤ 1 }
-{
-    match value {
-        SubsequentImpact::High => "H",
-        SubsequentImpact::Low => "L",
-        SubsequentImpact::None => "N",
     }
 }
 
@@ -100,17 +91,5 @@ fn requirement(value: Requirement) -> &'static str
         Requirement::High => "H",
         Requirement::Medium => "M",
         Requirement::Low => "L",
-    }
-}
-
-/// The letter of E.
-fn exploit_maturity(value: ExploitMaturity) -> &'static str
-    ensures text { result.now ≡ exploit_maturity_letter value }
-    ensures short { length result.now ≤ 1 }
-{
-    match value {
-        ExploitMaturity::Attacked => "A",
-        ExploitMaturity::ProofOfConcept => "P",
-        ExploitMaturity::Unreported => "U",
     }
 }

@@ -65,20 +65,21 @@ fn is_defined(vector: &Vector, kind: MetricType) -> bool
 fn modified_of(kind: MetricType) -> Option<MetricType>
     ensures { result ≡ modified_of kind }
 {
-    match kind {
-        MetricType::AV => Some(MetricType::MAV),
-        MetricType::AC => Some(MetricType::MAC),
-        MetricType::AT => Some(MetricType::MAT),
-        MetricType::PR => Some(MetricType::MPR),
-        MetricType::UI => Some(MetricType::MUI),
-        MetricType::VC => Some(MetricType::MVC),
-        MetricType::VI => Some(MetricType::MVI),
-        MetricType::VA => Some(MetricType::MVA),
-        MetricType::SC => Some(MetricType::MSC),
-        MetricType::SI => Some(MetricType::MSI),
-        MetricType::SA => Some(MetricType::MSA),
-        _ => None,
-    }
+    use MetricType::*;
+    Some(match kind {
+        AV => MAV,
+        AC => MAC,
+        AT => MAT,
+        PR => MPR,
+        UI => MUI,
+        VC => MVC,
+        VI => MVI,
+        VA => MVA,
+        SC => MSC,
+        SI => MSI,
+        SA => MSA,
+        _ => return None,
+    })
 }
 
 fn is_modified(kind: MetricType) -> bool

@@ -1,5 +1,6 @@
 use Rattle.std.proofs.Common.{option_copied, take}
-use Rattle.cvss_explain_text.specs.WhatIf.{IsCell, Joins}
+use Rattle.cvss_explain_text.specs.Lines.{Joins}
+use Rattle.cvss_explain_text.specs.WhatIf.{IsCell}
 use Rattle.cvss_explain_text.specs.private.Writing.{Writes}
 use Rattle.cvss_explain_text.proofs.what_if.write_cells.Given as goal
 

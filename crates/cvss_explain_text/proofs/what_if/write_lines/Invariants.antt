@@ -1,5 +1,6 @@
 use Rattle.std.proofs.Common.{take}
-use Rattle.cvss_explain_text.specs.WhatIf.{IsLine, Joins}
+use Rattle.cvss_explain_text.specs.Lines.{Joins}
+use Rattle.cvss_explain_text.specs.WhatIf.{IsLine}
 use Rattle.cvss_explain_text.specs.private.Writing.{Writes}
 use Rattle.cvss_explain_text.proofs.what_if.write_lines.Given as goal
 

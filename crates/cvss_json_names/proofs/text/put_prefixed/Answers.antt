@@ -14,7 +14,7 @@ returns-clause-text g c =
     let components = texts_with_slash version vector version.printed in
     let text : (prefix ++ minor) ++ components ≡ canonical_text version vector =
     rw c.requires.prefix (sym (joined-with_slash version vector (prefix ++ minor) version.printed)) in
-    rw (c.put_with_slash.ensures, c.printed.ensures, c.whole.ensures.text, c.push.ensures, c.as_bytes.ensures.value, decimal_numeral c.args.minor (search rules))
+    rw (c.push_text.ensures, c.text.ensures, c.write_metrics.ensures, c.new-components.ensures, c.whole.ensures.text, c.push.ensures, c.as_bytes.ensures.value, decimal_numeral c.args.minor (search rules))
     (append_assoc (c.args.page.now ++ prefix) minor components
     ∙ append_assoc c.args.page.now prefix (minor ++ components)
     ∙ ap (λ rest. c.args.page.now ++ rest) (sym (append_assoc prefix minor components) ∙ text))
