@@ -1,7 +1,7 @@
 -- What a step of the walk over a document does, whatever the level in which it is taken.
-use Rattle.std.proofs.Common.{◌≡◌, ℕ, ◌+◌, ◌<◌, ◌≤◌, List, [], ◌∷◌, ◌++◌, length, map, None, Bor, BTreeMap, Global, String, refl, sym, ap, ap₂, ◌∙◌, append_assoc, append-nil, arith}
+use Rattle.std.proofs.Common.{◌≡◌, ℕ, ◌+◌, ◌<◌, ◌≤◌, List, [], ◌∷◌, ◌++◌, length, map, Option, None, Some, Bor, BTreeMap, Global, String, refl, sym, ap, ap₂, ◌∙◌, append_assoc, append-nil, arith}
 use Rattle.std.proofs.lemmas.Grind.{flat_map-append}
-use Rattle.std.specs.List.{filter_map}
+use Rattle.std.specs.List.{cons_option, filter_map}
 use Rattle.std.specs.Option.{option_to_list}
 use Rattle.std.proofs.lemmas.List.{map-append, map-id}
 use Rattle.serde_json.specs.Data.{array, object}
@@ -9,15 +9,14 @@ use Rattle.serde_json.specs.View.{items_view, members_view, view}
 use Rattle.serde_json.specs.declared.value.Value.{Value}
 use Rattle.cvss_document.specs.Places.{Place, context_view, forms, own_context, place_as, places_in, places_in_members, places_within}
 use Rattle.cvss_document.specs.PlacesLeft.{places_in_levels, places_in_rest, step_text, under}
-use Rattle.cvss_document.specs.private.Walking.{Visits, level_of, pointer_to, steps_in, steps_in_members, steps_in_rest, steps_left}
+use Rattle.cvss_document.specs.private.Walking.{Visits, level_of, pointer_to, steps_in, steps_in_rest, steps_left}
 use Rattle.cvss_document.specs.declared.place.Context.{Context}
 use Rattle.cvss_document.specs.declared.place.Form.{Form}
 use Rattle.cvss_document.specs.declared.places.Level.{Level}
 use Rattle.cvss_document.specs.declared.places.Rest.{Rest}
-use Rattle.cvss_document.specs.declared.places.Rest.TheVariants.{Whole, Own, Items, Members}
+use Rattle.cvss_document.specs.declared.places.Rest.TheVariants.{Whole, Own, Items}
 use Rattle.cvss_document.specs.declared.pointer.Step.{Step}
 use Rattle.cvss_document.specs.declared.pointer.Step.TheVariants.{Document}
-use Rattle.cvss_document.proofs.AddedLemmas.{added}
 
 -- a place under a pointer and a step
 under_both : (step pointer : List ℕ) (places : List Place)
@@ -105,30 +104,10 @@ object_over context own value holder asked is own_is all = record {
   fewer = omega (arith, ap steps_in is, ap length all);
 }
 
--- an object of which no form is left: its members are next
-pub members_over : (context : Context) (holder : Bor (BTreeMap (String Global) Value)) (asked : Bor (List Form)) (members : List (String Global × Value))
-    → asked.now ≡ [] → members ≡ holder.now.entries
-    → PassesOver (places_in_rest (Own holder context asked)) (steps_in_rest (Own holder context asked))
-    (places_in_rest (Members holder members context.id)) (steps_in_rest (Members holder members context.id))
-members_over context holder asked members none are = record {
-  same = ap₂ (λ asked left. filter_map (place_as (context_view context) (members_view holder.now.entries)) asked
-      ++ places_in_members (context_view context).1 (members_view holder.now.entries) (members_view left)) none (sym are);
-  fewer = omega (arith, ap (λ left. steps_in_members (members_view left)) are);
-}
-
--- the places in the first form, and those that are left
-pub first_form : (context : Context) (holder : Bor (BTreeMap (String Global) Value)) (asked later : Bor (List Form)) (form : Form)
-    → asked.now ≡ form ∷ later.now
-    → places_in_rest (Own holder context asked)
-    ≡ option_to_list (place_as (context_view context) (members_view holder.now.entries) form) ++ places_in_rest (Own holder context later)
-first_form context holder asked later form is =
-    let members = members_view holder.now.entries in
-    let in_members = places_in_members (context_view context).1 members members in
-    let own = option_to_list (place_as (context_view context) members form) in
-    let others = filter_map (place_as (context_view context) members) later.now in
-    ap (λ asked. filter_map (place_as (context_view context) members) asked ++ in_members) is
-    ∙ ap (λ places. places ++ in_members) (sym (added (place_as (context_view context) members form) [] others))
-    ∙ append_assoc own others in_members
+-- the place in a form before those in later forms and in members
+pub first_place : (own : Option Place) (others inner : List Place) → cons_option own others ++ inner ≡ option_to_list own ++ (others ++ inner)
+first_place None others inner = refl
+first_place (Some own) others inner = refl
 
 -- a step that gives places of a value itself, by the pointer to the level of what is next
 pub Visits-own : (front levels : List Level) (step : Step) (old rest : Rest) (own places : List Place)
