@@ -1,17 +1,15 @@
 -- How it ends to answer a file.
-use Rattle.std.proofs.Common.{◌≡◌, ◌≢◌, ◌⊎◌, ℕ, Bool, true, false, List, [], ◌++◌, Option, None, Some, Result, Err, inl, inr, refl, sym, ap, ◌∙◌, subst, append-nil}
+use Rattle.std.proofs.Common.{◌≡◌, ◌≢◌, ◌⊎◌, ℕ, Bool, List, [], ◌++◌, Option, None, Some, Result, Err, inl, inr, refl, sym, ap, ◌∙◌, subst, append-nil}
+use Rattle.std.proofs.KnownBytes.{Keeps-refl}
 use Rattle.std.specs.Fmt.{option_append}
 use Rattle.std.specs.Io.KnownBytes.{Consumes}
-use Rattle.cvss_lines.specs.Streaming.{StreamEnds}
 use Rattle.cvss_lines.specs.declared.fault.RunFault.{RunFault}
 use Rattle.cvss_lines.specs.declared.fault.RunFault.TheVariants.{Read, Write, Memory}
 use Rattle.cvss_lines.specs.declared.summary.Summary.{Summary}
-use Rattle.cvss_audit.specs.Answers.{BeginsLine, IsLineAnswer}
-use Rattle.cvss_audit.specs.Files.{Are, AreByLine, FileEnds, HasFirstText, IsBeginning, is_by_line, is_json}
+use Rattle.cvss_audit.specs.Files.{AnswersBy, Are, AreByLine, FileEnds, HasFirstText, IsBeginning, is_by_line, is_json}
 use Rattle.cvss_audit.specs.Inputs.{Input}
-use Rattle.cvss_audit.specs.Whole.{WholeEnds}
+use Rattle.cvss_program.specs.Operands.{Ending}
 use Rattle.cvss_audit.proofs.FilesLemmas.{first_text_settled}
-use Rattle.cvss_audit.proofs.WholeLemmas.{kept_itself}
 
 -- what is read again is what was there
 joined : (u u' : Option (List ℕ)) (beginning : List ℕ) → Consumes u u' beginning → Are u (option_append (Some beginning) u')
@@ -28,29 +26,20 @@ decided (Some bytes) (Some rest) beginning b is by = go is.decided where
   go (inl has) = ap is_by_line is.consumed ∙ ap is_json (first_text_settled beginning rest has) ∙ sym by
   go (inr at_end) = ap is_by_line (is.consumed ∙ ap (λ rest. beginning ++ rest) at_end ∙ append-nil beginning) ∙ sym by
 
-module _ (input : Input) (u u' w w' : Option (List ℕ)) (outcome : Result Summary RunFault) (beginning : List ℕ) (bytes left : Option (List ℕ)) where
-  pub FileEnds-lines : (end : Option (List ℕ)) → IsBeginning beginning u u' → true ≡ is_by_line beginning → bytes ≡ option_append (Some beginning) u'
-      → StreamEnds (IsLineAnswer input) (BeginsLine input) bytes left w w' outcome → FileEnds input u end w w' outcome
-  FileEnds-lines end is by are ends = inl (record {
-    by_line = decided u u' beginning true is by;
-    bytes = bytes;
-    are = subst (Are u) (sym are) (joined u u' beginning is.consumed);
-    left = left;
-    ends = ends;
-  })
-
-  pub FileEnds-one : (end : Option (List ℕ)) → IsBeginning beginning u u' → false ≡ is_by_line beginning → bytes ≡ option_append (Some beginning) u'
-      → WholeEnds input bytes left w w' outcome → FileEnds input u end w w' outcome
-  FileEnds-one end is by are ends = inr (inl (record {
-    in_all = decided u u' beginning false is by;
-    bytes = bytes;
-    are = subst (Are u) (sym are) (joined u u' beginning is.consumed);
-    left = left;
-    ends = ends;
-  }))
+-- what follows the beginning is answered as the beginning decides
+pub AnswersBy-beginning : (ends : Ending) (by_line : Bool) (u u' w w' : Option (List ℕ)) (outcome : Result Summary RunFault) (beginning : List ℕ) (bytes left : Option (List ℕ))
+    → IsBeginning beginning u u' → by_line ≡ is_by_line beginning → bytes ≡ option_append (Some beginning) u' → ends bytes left w w' outcome
+    → AnswersBy ends by_line u w w' outcome
+AnswersBy-beginning ends by_line u u' w w' outcome beginning bytes left is by are ended = record {
+  are_by_line = decided u u' beginning by_line is by;
+  bytes = bytes;
+  are = subst (Are u) (sym are) (joined u u' beginning is.consumed);
+  left = left;
+  ended = ended;
+}
 
 pub FileEnds-undecided : (input : Input) (u end w : Option (List ℕ)) (outcome : Result Summary RunFault) (fault : RunFault) → outcome ≡ Err fault
     → fault ≢ Write → FileEnds input u end w w outcome
-FileEnds-undecided input u end w outcome Read is other = inr (inr (record { fault = inl is; kept = kept_itself w }))
-FileEnds-undecided input u end w outcome Memory is other = inr (inr (record { fault = inr is; kept = kept_itself w }))
+FileEnds-undecided input u end w outcome Read is other = inr (inr (record { fault = inl is; kept = Keeps-refl w }))
+FileEnds-undecided input u end w outcome Memory is other = inr (inr (record { fault = inr is; kept = Keeps-refl w }))
 FileEnds-undecided input u end w outcome Write is other = absurd (other refl)

@@ -3,8 +3,7 @@ use Rattle.std.proofs.Common.{◌≡◌, ℕ, ◌+◌, Bool, true, false, ◌&&�
 use Rattle.std.proofs.KnownBytes.{Appends-kept, Appends-nil, Appends-trans}
 use Rattle.std.proofs.Math.Bool.{and-true}
 use Rattle.std.proofs.Math.Seq.{take-append-add}
-use Rattle.std.proofs.lemmas.Grind.{flat_map-append}
-use Rattle.std.proofs.lemmas.List.{map-append}
+use Rattle.std.proofs.lemmas.List.{flat_map_more, map-append}
 use Rattle.std.proofs.lemmas.List.Folds.{list_all-append}
 use Rattle.std.specs.Io.KnownBytes.{Appends}
 use Rattle.std.specs.Str.{IsUtf8}
@@ -34,12 +33,8 @@ written-push : (found : List Found) (last : Found) (old middle new : List ℕ)
     → middle ≡ old ++ flat_map written_text (texts_of found) → new ≡ middle ++ written_text last.text
     → new ≡ old ++ flat_map written_text (texts_of (found ++ last ∷ []))
 written-push found last old middle new before next =
-    next ∙ ap (λ bytes. bytes ++ written_text last.text) before
-    ∙ append_assoc old (flat_map written_text (texts_of found)) (written_text last.text)
-    ∙ ap (λ bytes. old ++ bytes)
-    (sym (ap (flat_map written_text) (map-append (λ (each : Found). each.text) found (last ∷ []))
-    ∙ flat_map-append written_text (texts_of found) (last.text ∷ [])
-    ∙ ap (λ bytes. flat_map written_text (texts_of found) ++ bytes) (append-nil (written_text last.text))))
+    next ∙ ap (λ bytes. bytes ++ written_text last.text) before ∙ flat_map_more written_text old (texts_of found) last.text
+    ∙ ap (λ texts. old ++ flat_map written_text texts) (sym (map-append (λ (each : Found). each.text) found (last ∷ [])))
 
 module _ (input : Input) (places : List Place) where
   -- before the first place
@@ -86,32 +81,32 @@ module _ (input : Input) (places : List Place) where
   pub StreamsFound-next : (place : Place) (left left' : List Place) (old waits middle new : List ℕ) (w w' w'' : Option (List ℕ)) (agree agrees : Bool)
       → left ≡ place ∷ left' → StreamsFound input places left old waits w w' agree → WritesPlace input place waits middle agrees
       → WritesWaiting middle new w' w'' → StreamsFound input places left' old new w w'' (agree && agrees)
-  StreamsFound-next place left left' old waits middle new w w' w'' agree agrees next before wrote (inl kept) = record {
-    seen = before.seen ++ place ∷ [];
-    split = split_more before.seen place left left' before.split next;
-    found = before.found ++ wrote.found ∷ [];
-    are_found = AreFound-push input before.seen before.found place wrote.found before.are_found wrote.is_found;
-    reported = ap₂ (λ (a b : Bool). a && b) before.reported wrote.reported ∙ sym (all_agree-push before.found wrote.found);
-    passed = before.passed;
-    pass = before.pass;
-    appended = Appends-kept w w' w'' before.passed before.appended kept.1;
-    together = ap (λ bytes. before.passed ++ bytes) kept.0
-        ∙ together_push before.passed waits old middle before.found wrote.found before.together wrote.written;
-  }
-  StreamsFound-next place left left' old waits middle new w w' w'' agree agrees next before wrote (inr flushed) =
-      let begins = found_more before.seen place left left' before.found wrote.found before.split next before.are_found wrote.is_found in
-      let all = together_push before.passed waits old middle before.found wrote.found before.together wrote.written in
-      record {
-        seen = before.seen ++ place ∷ [];
-        split = split_more before.seen place left left' before.split next;
-        found = before.found ++ wrote.found ∷ [];
-        are_found = AreFound-push input before.seen before.found place wrote.found before.are_found wrote.is_found;
-        reported = ap₂ (λ (a b : Bool). a && b) before.reported wrote.reported ∙ sym (all_agree-push before.found wrote.found);
-        passed = before.passed ++ middle;
-        pass = inr (written_found (before.found ++ wrote.found ∷ []), begins, all);
-        appended = Appends-trans w w' w'' before.passed middle before.appended flushed.1;
-        together = ap (λ bytes. (before.passed ++ middle) ++ bytes) flushed.0 ∙ append-nil (before.passed ++ middle) ∙ all;
-      }
+  StreamsFound-next place left left' old waits middle new w w' w'' agree agrees next before wrote = by_case where
+    all : before.passed ++ middle ≡ old ++ written_found (before.found ++ wrote.found ∷ [])
+    all = together_push before.passed waits old middle before.found wrote.found before.together wrote.written
+
+    more : (passed : List ℕ) → PassFound input places old passed → Appends w w'' passed
+        → passed ++ new ≡ old ++ written_found (before.found ++ wrote.found ∷ []) → StreamsFound input places left' old new w w'' (agree && agrees)
+    more passed pass appended together = record {
+      seen = before.seen ++ place ∷ [];
+      split = split_more before.seen place left left' before.split next;
+      found = before.found ++ wrote.found ∷ [];
+      are_found = AreFound-push input before.seen before.found place wrote.found before.are_found wrote.is_found;
+      reported = ap₂ (λ (a b : Bool). a && b) before.reported wrote.reported ∙ sym (all_agree-push before.found wrote.found);
+      passed = passed;
+      pass = pass;
+      appended = appended;
+      together = together;
+    }
+
+    by_case : WritesWaiting middle new w' w'' → StreamsFound input places left' old new w w'' (agree && agrees)
+    by_case (inl kept) =
+        more before.passed before.pass (Appends-kept w w' w'' before.passed before.appended kept.1) (ap (λ bytes. before.passed ++ bytes) kept.0 ∙ all)
+    by_case (inr flushed) =
+        more (before.passed ++ middle)
+        (inr (written_found (before.found ++ wrote.found ∷ []), found_more before.seen place left left' before.found wrote.found before.split next before.are_found wrote.is_found, all))
+        (Appends-trans w w' w'' before.passed middle before.appended flushed.1)
+        (ap (λ bytes. (before.passed ++ middle) ++ bytes) flushed.0 ∙ append-nil (before.passed ++ middle) ∙ all)
 
   -- a write failed after one more place
   pub StopsFound-write : (place : Place) (left left' : List Place) (old waits middle : List ℕ) (w w' w'' : Option (List ℕ)) (agree agrees : Bool) (fault : RunFault)

@@ -1,6 +1,6 @@
 -- How it ends to answer an input that is one document.
 use Rattle.std.proofs.Common.{◌≡◌, ◌≢◌, ℕ, ◌+◌, ◌⊎◌, Bool, List, [], ◌∷◌, ◌++◌, length, take, Option, None, Some, Result, Ok, Err, inl, inr, refl, sym, ap, ◌∙◌, append-nil, subst}
-use Rattle.std.proofs.KnownBytes.{Appends-trans}
+use Rattle.std.proofs.KnownBytes.{Appends-trans, Keeps-refl}
 use Rattle.std.proofs.Math.Seq.{take-append-add}
 use Rattle.std.specs.Io.KnownBytes.{Appends, Consumes, IsAtEnd, Keeps}
 use Rattle.cvss_lines.specs.Answers.{Answer, Accepted, Refused, is_accepted, written_answer}
@@ -12,10 +12,6 @@ use Rattle.cvss_audit.specs.Answers.{Begins}
 use Rattle.cvss_audit.specs.Inputs.{Input}
 use Rattle.cvss_audit.specs.Whole.{AnswersBegun, WholeEnds}
 use Rattle.cvss_audit.specs.private.Writing.{Answers, StopsAnswering, summary_of_one}
-
-pub kept_itself : (w : Option (List ℕ)) → Keeps w w
-kept_itself None = tt
-kept_itself (Some bytes) = refl
 
 kept_of : (w w' : Option (List ℕ)) (passed : List ℕ) → Appends w w' passed → passed ≡ [] → Keeps w w'
 kept_of None w' passed appended none = tt
@@ -32,8 +28,8 @@ module _ (input : Input) (u u' w : Option (List ℕ)) where
       → WholeEnds input u u' w w outcome
   WholeEnds-unread outcome fault is other = subst (WholeEnds input u u' w w) (sym is) (record {
     answered = tt;
-    read_fault = λ _. kept_itself w;
-    memory_fault = λ _. inl (kept_itself w);
+    read_fault = λ _. Keeps-refl w;
+    memory_fault = λ _. inl (Keeps-refl w);
     write_fault = λ write. absurd (other (cc));
   })
 

@@ -6,6 +6,7 @@ use Rattle.cvss_audit.specs.Answers.{BeginsLine, IsLineAnswer, is_blank}
 use Rattle.cvss_audit.specs.Inputs.{Input}
 use Rattle.cvss_audit.specs.Whole.{WholeEnds}
 use Rattle.cvss_lines.specs.Streaming.{StreamEnds}
+use Rattle.cvss_program.specs.Operands.{Ending}
 use Rattle.cvss_lines.specs.declared.fault.RunFault.{RunFault}
 use Rattle.cvss_lines.specs.declared.fault.RunFault.TheVariants.{Read, Memory}
 use Rattle.cvss_lines.specs.declared.summary.Summary.{Summary}
@@ -55,21 +56,13 @@ abbrev pub Are : Option (List ℕ) → Option (List ℕ) → Type 0
 Are None bytes = ⊤
 Are (Some known) bytes = bytes ≡ Some known
 
--- its lines are answered
-pub record AnswersLines (input : Input) (unread written written' : Option (List ℕ)) (outcome : Result Summary RunFault) : Type 0 where
-  pub by_line : AreByLine true unread
+-- it holds its documents in this way, and is answered so
+pub record AnswersBy (ends : Ending) (by_line : Bool) (unread written written' : Option (List ℕ)) (outcome : Result Summary RunFault) : Type 0 where
+  pub are_by_line : AreByLine by_line unread
   pub bytes : Option (List ℕ)
   pub are : Are unread bytes
   pub left : Option (List ℕ)
-  pub ends : StreamEnds (IsLineAnswer input) (BeginsLine input) bytes left written written' outcome
-
--- it is answered as one document
-pub record AnswersOne (input : Input) (unread written written' : Option (List ℕ)) (outcome : Result Summary RunFault) : Type 0 where
-  pub in_all : AreByLine false unread
-  pub bytes : Option (List ℕ)
-  pub are : Are unread bytes
-  pub left : Option (List ℕ)
-  pub ends : WholeEnds input bytes left written written' outcome
+  pub ended : ends bytes left written written' outcome
 
 -- a fault of the reader or of memory comes before it is known which of both it is
 pub record IsUndecided (written written' : Option (List ℕ)) (outcome : Result Summary RunFault) : Type 0 where
@@ -79,5 +72,5 @@ pub record IsUndecided (written written' : Option (List ℕ)) (outcome : Result 
 -- how it ends to answer an input that has one document a line or is one
 abbrev pub FileEnds : Input → Option (List ℕ) → Option (List ℕ) → Option (List ℕ) → Option (List ℕ) → Result Summary RunFault → Type 0
 FileEnds input unread unread' written written' outcome =
-    AnswersLines input unread written written' outcome
-    ⊎ (AnswersOne input unread written written' outcome ⊎ IsUndecided written written' outcome)
+    AnswersBy (StreamEnds (IsLineAnswer input) (BeginsLine input)) true unread written written' outcome
+    ⊎ (AnswersBy (WholeEnds input) false unread written written' outcome ⊎ IsUndecided written written' outcome)

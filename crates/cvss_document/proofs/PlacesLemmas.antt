@@ -1,15 +1,17 @@
 -- What a step of the walk over a document does, whatever the level in which it is taken.
-use Rattle.std.proofs.Common.{◌≡◌, ℕ, ◌+◌, ◌<◌, ◌≤◌, List, [], ◌∷◌, ◌++◌, map, None, Bor, BTreeMap, Global, String, refl, sym, ap, ap₂, ◌∙◌, append_assoc, append-nil, arith}
+use Rattle.std.proofs.Common.{◌≡◌, ℕ, ◌+◌, ◌<◌, ◌≤◌, List, [], ◌∷◌, ◌++◌, length, map, Option, None, Some, Bor, BTreeMap, Global, String, refl, sym, ap, ap₂, ◌∙◌, append_assoc, append-nil, arith}
 use Rattle.std.proofs.lemmas.Grind.{flat_map-append}
+use Rattle.std.specs.List.{cons_option, filter_map}
+use Rattle.std.specs.Option.{option_to_list}
 use Rattle.std.proofs.lemmas.List.{map-append, map-id}
 use Rattle.serde_json.specs.Data.{array, object}
 use Rattle.serde_json.specs.View.{items_view, members_view, view}
 use Rattle.serde_json.specs.declared.value.Value.{Value}
-use Rattle.cvss_document.specs.Places.{Place, context_view, own_context, places_in, places_in_members, places_of, places_within}
+use Rattle.cvss_document.specs.Places.{Place, context_view, forms, own_context, place_as, places_in, places_in_members, places_within}
 use Rattle.cvss_document.specs.PlacesLeft.{places_in_levels, places_in_rest, step_text, under}
 use Rattle.cvss_document.specs.private.Walking.{Visits, level_of, pointer_to, steps_in, steps_in_rest, steps_left}
 use Rattle.cvss_document.specs.declared.place.Context.{Context}
-use Rattle.cvss_document.specs.declared.place.Form.TheVariants.{Record}
+use Rattle.cvss_document.specs.declared.place.Form.{Form}
 use Rattle.cvss_document.specs.declared.places.Level.{Level}
 use Rattle.cvss_document.specs.declared.places.Rest.{Rest}
 use Rattle.cvss_document.specs.declared.places.Rest.TheVariants.{Whole, Own, Items}
@@ -91,16 +93,21 @@ Visits-over front levels step old now over visits = record {
 }
 
 -- an object: its own places are next
-pub object_over : (context own : Context) (value : Bor Value) (holder : Bor (BTreeMap (String Global) Value))
+pub object_over : (context own : Context) (value : Bor Value) (holder : Bor (BTreeMap (String Global) Value)) (asked : Bor (List Form))
     → view value.now ≡ object (members_view holder.now.entries)
-    → context_view own ≡ own_context (context_view context) (members_view holder.now.entries)
-    → PassesOver (places_in_rest (Whole value context)) (steps_in_rest (Whole value context)) (places_in_rest (Own holder own Record)) (steps_in_rest (Own holder own Record))
-object_over context own value holder is own_is = record {
+    → context_view own ≡ own_context (context_view context) (members_view holder.now.entries) → asked.now ≡ forms
+    → PassesOver (places_in_rest (Whole value context)) (steps_in_rest (Whole value context)) (places_in_rest (Own holder own asked)) (steps_in_rest (Own holder own asked))
+object_over context own value holder asked is own_is all = record {
   same = ap (places_within (context_view context)) is
-      ∙ ap (λ seen. places_of seen (members_view holder.now.entries)
-      ++ places_in_members seen.1 (members_view holder.now.entries) (members_view holder.now.entries)) (sym own_is);
-  fewer = omega (arith, ap steps_in is);
+      ∙ ap₂ (λ seen asked. filter_map (place_as seen (members_view holder.now.entries)) asked
+      ++ places_in_members seen.1 (members_view holder.now.entries) (members_view holder.now.entries)) (sym own_is) (sym all);
+  fewer = omega (arith, ap steps_in is, ap length all);
 }
+
+-- the place in a form before those in later forms and in members
+pub first_place : (own : Option Place) (others inner : List Place) → cons_option own others ++ inner ≡ option_to_list own ++ (others ++ inner)
+first_place None others inner = refl
+first_place (Some own) others inner = refl
 
 -- a step that gives places of a value itself, by the pointer to the level of what is next
 pub Visits-own : (front levels : List Level) (step : Step) (old rest : Rest) (own places : List Place)

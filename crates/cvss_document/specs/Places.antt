@@ -1,6 +1,6 @@
 -- Where vectors are in a JSON document, and in which form: FIRST's schemas, GitHub's advisories, OSV's records,
 -- CycloneDX, grype, Trivy, RustSec's advisories and SPDX 3. Locations are JSON Pointers: RFC 6901.
-use Rattle.std.specs.Prelude.{ℕ, ◌+◌, ◌==◌, ◌||◌, Bool, false, List, [], ◌∷◌, ◌++◌, codes, drop, map, flat_map, bytes_eq, if◌then◌else◌, is_some, Option, Some, None, option_map, option_and_then, unwrap_or}
+use Rattle.std.specs.Prelude.{ℕ, ◌+◌, ◌==◌, ◌||◌, Bool, false, List, [], ◌∷◌, ◌++◌, codes, map, flat_map, bytes_eq, if◌then◌else◌, is_some, Option, Some, None, option_map, option_and_then, unwrap_or}
 use Rattle.std.specs.Char.{encode_utf8}
 use Rattle.std.specs.Fmt.{decimal}
 use Rattle.std.specs.List.{filter_map, list_any, starts_with}
@@ -160,18 +160,6 @@ place_as context members form = option_map (λ text. ([], form, text, members, c
 -- the forms in the order in which an object is looked at
 abbrev pub forms : List Form
 forms = Record ∷ GitHub ∷ Osv ∷ Rating ∷ TrivyV2 ∷ TrivyV3 ∷ TrivyV40 ∷ RustSec ∷ Spdx ∷ []
-
--- those from one on
-abbrev pub forms_from : Form → List Form
-forms_from Record = forms
-forms_from GitHub = drop 1 forms
-forms_from Osv = drop 2 forms
-forms_from Rating = drop 3 forms
-forms_from TrivyV2 = drop 4 forms
-forms_from TrivyV3 = drop 5 forms
-forms_from TrivyV40 = drop 6 forms
-forms_from RustSec = drop 7 forms
-forms_from Spdx = drop 8 forms
 
 -- the places of the object itself: one for each form in which it holds a vector
 abbrev pub places_of : Context → Members → List Place

@@ -3,7 +3,7 @@ use Rattle.std.specs.Prelude.{◌≡◌, ℕ, List, [], ◌∷◌, ◌++◌, cod
 use Rattle.std.specs.Fmt.{decimal}
 use Rattle.std.specs.List.{filter_map}
 use Rattle.serde_json.specs.View.{items_view, members_view, view}
-use Rattle.cvss_document.specs.Places.{Place, context_view, escaped, forms_from, place_as, place_view, places_in_items, places_in_members, places_within}
+use Rattle.cvss_document.specs.Places.{Place, context_view, escaped, place_as, place_view, places_in_items, places_in_members, places_within}
 use Rattle.cvss_document.specs.declared.place.Place as code
 use Rattle.cvss_document.specs.declared.places.Level.{Level}
 use Rattle.cvss_document.specs.declared.places.Places.{Places}
@@ -21,8 +21,8 @@ step_text (Item index) = codes "/" ++ decimal index
 -- the places in what is still to be visited in a value, seen from the value
 abbrev pub places_in_rest : Rest → List Place
 places_in_rest (Whole value context) = places_within (context_view context) (view value.now)
-places_in_rest (Own holder context form) =
-    filter_map (place_as (context_view context) (members_view holder.now.entries)) (forms_from form)
+places_in_rest (Own holder context forms) =
+    filter_map (place_as (context_view context) (members_view holder.now.entries)) forms.now
     ++ places_in_members (context_view context).1 (members_view holder.now.entries) (members_view holder.now.entries)
 places_in_rest (Items items index id) = places_in_items (option_map (λ id. id.now) id) index (items_view (drop index items.now))
 places_in_rest (Members holder members id) =

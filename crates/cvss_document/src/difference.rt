@@ -41,6 +41,13 @@ pub enum Said<'a> {
     Name(&'a str),
 }
 
+/// A vector, and its scores.
+#[derive(Clone, Copy)]
+pub(crate) struct Scored<'a> {
+    pub(crate) cvss: &'a Cvss,
+    pub(crate) scores: Scores,
+}
+
 /// What a member is to say.
 #[derive(Clone, Copy)]
 pub(crate) enum Claim {
@@ -69,8 +76,9 @@ pub fn differences<'a>(
     ensures { IfOk result (λ found. AreDifferences cvss.now (members_view object.now.entries)
         (map difference_view found.items)) }
 {
+    let scores = Scores::of(cvss);
     let mut found = Vec::new(alloc);
-    push_members(&mut found, alloc, cvss, &Scores::of(cvss), object)?;
+    push_members(&mut found, Scored { cvss, scores }, object)?;
     Ok(found)
 }
 
@@ -94,66 +102,49 @@ pub fn differences_at<'a>(
 {
     let scores = Scores::of(cvss);
     let parts = SubScores::of(cvss);
+    let vector = Scored { cvss, scores };
     let mut found = Vec::new(alloc);
-    push_object(&mut found, alloc, cvss, &scores, place)?;
-    push_around(
-        &mut found,
-        alloc,
-        cvss,
-        &scores,
-        parts,
-        place.context.around,
-    )?;
+    push_object(&mut found, vector, place)?;
+    push_around(&mut found, vector, parts, place.context.around)?;
     Ok(found)
 }
 
 /// Adds the differences of the object that holds the vector.
 fn push_object<'a>(
     found: &mut Vec<Difference<'a>>,
-    alloc: Global,
-    cvss: &Cvss,
-    scores: &Scores,
+    vector: Scored<'_>,
     place: &Place<'a>,
 ) -> Result<(), AllocError>
-    ensures { OnOk result (Adds found.old.items (member_differences cvss.now scores.now place.now.form
+    ensures { OnOk result (Adds found.old.items
+        (member_differences vector.entry.cvss.now vector.entry.scores place.now.form
         (members_view place.now.object.now.entries)) found.new.items) }
 {
     let object = place.object;
     match place.form {
-        Form::Record => push_members(found, alloc, cvss, scores, object),
-        Form::GitHub => push_at(found, alloc, "score", Claim::Number(scores.base), object),
-        Form::Osv => push_at(found, alloc, "type", Claim::Text(osv_type(cvss)), object),
-        Form::Rating => push_rating_members(found, alloc, cvss, scores, object),
-        Form::TrivyV2 => push_trivy(found, alloc, cvss, scores, ("V2Score", "V2Vector"), object),
-        Form::TrivyV3 => push_trivy(found, alloc, cvss, scores, ("V3Score", "V3Vector"), object),
-        Form::TrivyV40 => {
-            push_trivy(
-                found,
-                alloc,
-                cvss,
-                scores,
-                ("V40Score", "V40Vector"),
-                object,
-            )
-        }
+        Form::Record => push_members(found, vector, object),
+        Form::GitHub => push_at(found, "score", Claim::Number(vector.scores.base), object),
+        Form::Osv => push_at(found, "type", Claim::Text(osv_type(vector.cvss)), object),
+        Form::Rating => push_rating_members(found, vector, object),
+        Form::TrivyV2 => push_trivy(found, vector, ("V2Score", "V2Vector"), object),
+        Form::TrivyV3 => push_trivy(found, vector, ("V3Score", "V3Vector"), object),
+        Form::TrivyV40 => push_trivy(found, vector, ("V40Score", "V40Vector"), object),
         Form::RustSec => Ok(()),
-        Form::Spdx => push_spdx(found, alloc, cvss, scores, object),
+        Form::Spdx => push_spdx(found, vector, object),
     }
 }
 
 /// Adds the differences of all members of an object.
 fn push_members<'a>(
     found: &mut Vec<Difference<'a>>,
-    alloc: Global,
-    cvss: &Cvss,
-    scores: &Scores,
+    vector: Scored<'_>,
     object: &'a Map<String, Value>,
 ) -> Result<(), AllocError>
     ensures { OnOk result (Adds found.old.items
-        (record_differences cvss.now scores.now (members_view object.now.entries)) found.new.items) }
+        (record_differences vector.entry.cvss.now vector.entry.scores
+        (members_view object.now.entries)) found.new.items) }
 {
     for (name, said) in object {
-        push_member(found, alloc, cvss, scores, name.as_str(), said)?;
+        push_member(found, vector, name.as_str(), said)?;
     }
     Ok(())
 }
@@ -161,7 +152,6 @@ fn push_members<'a>(
 /// Adds the difference of the member of this name from what it is to say, if it is there.
 pub(crate) fn push_at<'a>(
     found: &mut Vec<Difference<'a>>,
-    alloc: Global,
     name: &'a str,
     claim: Claim,
     object: &'a Map<String, Value>,
@@ -171,7 +161,7 @@ pub(crate) fn push_at<'a>(
         found.new.items) }
 {
     match member(object, name) {
-        Some(said) => push_if_other(found, alloc, name, said, expected_by(claim, said)),
+        Some(said) => push_if_other(found, name, said, expected_by(claim, said)),
         None => Ok(()),
     }
 }
@@ -213,27 +203,25 @@ fn osv_type(cvss: &Cvss) -> &'static str
 /// Adds the difference of a member, if it says otherwise than the vector's record or score.
 fn push_member<'a>(
     found: &mut Vec<Difference<'a>>,
-    alloc: Global,
-    cvss: &Cvss,
-    scores: &Scores,
+    vector: Scored<'_>,
     name: &'a str,
     said: &'a Value,
 ) -> Result<(), AllocError>
     ensures { OnOk result (Adds found.old.items
-        (option_to_list (difference_at cvss.now scores.now (name.now, view said.now)))
-        found.new.items) }
+        (option_to_list (difference_at vector.entry.cvss.now vector.entry.scores
+        (name.now, view said.now))) found.new.items) }
 {
     if name == "score" {
-        let expected = expected_by(Claim::Number(scores.base), said);
-        return push_if_other(found, alloc, name, said, expected);
+        let expected = expected_by(Claim::Number(vector.scores.base), said);
+        return push_if_other(found, name, said, expected);
     }
-    push_if_other(found, alloc, name, said, expected_at(cvss, scores, name))
+    let expected = expected_at(vector.cvss, &vector.scores, name);
+    push_if_other(found, name, said, expected)
 }
 
 /// Adds the difference between what is said and what is expected, if there is one.
 fn push_if_other<'a>(
     found: &mut Vec<Difference<'a>>,
-    alloc: Global,
     member: &'a str,
     said: &'a Value,
     expected: Option<Expected>,
@@ -248,13 +236,12 @@ fn push_if_other<'a>(
     if agrees(expected, said) {
         return Ok(());
     }
-    push_difference(found, alloc, member, Said::Value(said), expected)
+    push_difference(found, member, Said::Value(said), expected)
 }
 
 /// Adds the name of a member, if it says another version than the vector's.
 pub(crate) fn push_name<'a>(
     found: &mut Vec<Difference<'a>>,
-    alloc: Global,
     cvss: &Cvss,
     name: &'a str,
     is_wrong: bool,
@@ -264,7 +251,7 @@ pub(crate) fn push_name<'a>(
 {
     if is_wrong {
         let expected = Expected::Text(version(cvss));
-        return push_difference(found, alloc, name, Said::Name(name), expected);
+        return push_difference(found, name, Said::Name(name), expected);
     }
     Ok(())
 }
@@ -272,7 +259,6 @@ pub(crate) fn push_name<'a>(
 /// Adds the difference between what a member says and what is expected.
 fn push_difference<'a>(
     found: &mut Vec<Difference<'a>>,
-    alloc: Global,
     member: &'a str,
     says: Said<'a>,
     expected: Expected,
@@ -280,10 +266,7 @@ fn push_difference<'a>(
     ensures { OnOk result (Adds found.old.items
         ((member.now, said_view says.entry, expected_value (expected_view expected)) ∷ []) found.new.items) }
 {
-    found.push(Difference {
-        member,
-        says,
-        is: expected_value(expected, alloc)?,
-    })?;
+    let is = expected_value(expected, *found.allocator())?;
+    found.push(Difference { member, says, is })?;
     Ok(())
 }

@@ -31,6 +31,19 @@ pub enum Form {
     Spdx,
 }
 
+/// All forms, in the order in which an object is looked at.
+pub(crate) const FORMS: &[Form] = &[
+    Form::Record,
+    Form::GitHub,
+    Form::Osv,
+    Form::Rating,
+    Form::TrivyV2,
+    Form::TrivyV3,
+    Form::TrivyV40,
+    Form::RustSec,
+    Form::Spdx,
+];
+
 /// A place where a vector is in a document.
 #[derive(Drop)]
 pub struct Place<'a> {

@@ -1,15 +1,15 @@
 //! Where vectors are in a document, one place after another.
 
-ghost use Rattle.std.specs.Prelude.{◌≡◌, ◌<◌, ◌++◌, ◌∷◌, [], false, IfOk, OnOk, map, option_map, string_bytes};
+ghost use Rattle.std.specs.Prelude.{◌≡◌, ◌++◌, ◌∷◌, [], false, IfOk, OnOk, map, option_map, string_bytes};
 ghost use Rattle.std.specs.Option.{option_to_list};
 ghost use Rattle.cvss_document.specs.Places.{Context as Surroundings, context_view, place_as, place_view, places_in, places_within};
-ghost use Rattle.cvss_document.specs.PlacesLeft.{IsNextPlace, places_in_rest, places_left, under};
-ghost use Rattle.cvss_document.specs.private.Walking.{Visits, level_of, pointer_to, steps_in_rest};
+ghost use Rattle.cvss_document.specs.PlacesLeft.{IsNextPlace, places_left, under};
+ghost use Rattle.cvss_document.specs.private.Walking.{Visits, level_of, pointer_to};
 ghost use Rattle.serde_json.specs.View.{members_view, view};
 ghost use Rattle.cvss_document.specs.declared.places.Rest.TheVariants.{Items, Members, Own, Whole};
 
 use crate::ids::own_context;
-use crate::place::{Around, Context, Form, Place, vector_as};
+use crate::place::{Around, Context, FORMS, Form, Place, vector_as};
 use crate::pointer::{Step, push_step};
 use serde_json::{Map, Value};
 use std::alloc::{AllocError, Global};
@@ -35,8 +35,8 @@ pub(crate) struct Level<'a> {
 pub(crate) enum Rest<'a> {
     /// All of it.
     Whole(&'a Value, Context<'a>),
-    /// An object's own vectors from this form on, and all of its members.
-    Own(&'a Map<String, Value>, Context<'a>, Form),
+    /// An object's own vectors in these forms, and all of its members.
+    Own(&'a Map<String, Value>, Context<'a>, &'static [Form]),
     /// The items of an array from this one, with the id that is the nearest around them.
     Items(&'a [Value], usize, Option<&'a str>),
     /// Members of an object, with the id that is the nearest around them.
@@ -88,7 +88,9 @@ impl<'a> Places<'a> {
         let step = level.step;
         match level.rest {
             Rest::Whole(value, context) => self.visit_whole(alloc, step, value, context),
-            Rest::Own(object, context, form) => self.visit_form(alloc, step, object, context, form),
+            Rest::Own(object, context, forms) => {
+                self.visit_forms(alloc, step, object, context, forms)
+            }
             Rest::Items(items, index, id) => {
                 self.visit_items(step, items, index, id)?;
                 Ok(None)
@@ -119,27 +121,35 @@ impl<'a> Places<'a> {
             }
             Value::Object(object) => {
                 let own = own_context(context, object);
-                self.visit_form(alloc, step, object, own, Form::Record)
+                self.visit_forms(alloc, step, object, own, FORMS)
             }
             _ => Ok(None),
         }
     }
 
-    /// Visits an object in one form: the later forms and its members are visited next.
-    fn visit_form(
+    /// Visits an object in the first of these forms: the later ones and its members are visited next.
+    fn visit_forms(
         &mut self,
         alloc: Global,
         step: Step<'a>,
         object: &'a Map<String, Value>,
         context: Context<'a>,
-        form: Form,
+        forms: &'static [Form],
     ) -> Result<Option<Place<'a>>, AllocError>
         ensures { IfOk result (λ found. Visits
-            (self.old.levels.items ++ level_of step.entry (Own object.entry context.entry form) ∷ [])
+            (self.old.levels.items ++ level_of step.entry (Own object.entry context.entry forms.entry) ∷ [])
             (option_to_list (option_map place_view found)) self.new.levels.items) }
     {
-        self.push(step, after_form(object, context, form))?;
-        self.own_place(alloc, object, context, form)
+        match forms.split_first() {
+            Some((form, later)) => {
+                self.push(step, Rest::Own(object, context, later))?;
+                self.own_place(alloc, object, context, *form)
+            }
+            None => {
+                self.visit_members(step, object, object.iter(), context.id)?;
+                Ok(None)
+            }
+        }
     }
 
     /// Visits the next item of an array that is one itself or an object: what is in it is visited
@@ -224,27 +234,6 @@ impl<'a> Places<'a> {
         self.levels.push(Level { step, rest })?;
         Ok(())
     }
-}
-
-/// What is to be visited of an object after one form.
-fn after_form<'a>(object: &'a Map<String, Value>, context: Context<'a>, form: Form) -> Rest<'a>
-    ensures places { places_in_rest (Own object.entry context.entry form) ≡ option_to_list
-        (place_as (context_view context.entry) (members_view object.now.entries) form)
-        ++ places_in_rest result }
-    ensures fewer { steps_in_rest result < steps_in_rest (Own object.entry context.entry form) }
-{
-    let next = match form {
-        Form::Record => Form::GitHub,
-        Form::GitHub => Form::Osv,
-        Form::Osv => Form::Rating,
-        Form::Rating => Form::TrivyV2,
-        Form::TrivyV2 => Form::TrivyV3,
-        Form::TrivyV3 => Form::TrivyV40,
-        Form::TrivyV40 => Form::RustSec,
-        Form::RustSec => Form::Spdx,
-        Form::Spdx => return Rest::Members(object, object.iter(), context.id),
-    };
-    Rest::Own(object, context, next)
 }
 
 /// Whether a value is an array or an object: in another one there is no place.

@@ -5,51 +5,46 @@ ghost use Rattle.cvss_document.specs.Differences.{claim_view, given_rating_diffe
 ghost use Rattle.cvss_document.specs.private.Views.{Adds};
 ghost use Rattle.serde_json.specs.View.{members_view};
 
-use crate::difference::{Claim, Difference, push_at, push_name};
+use crate::difference::{Claim, Difference, Scored, push_at, push_name};
 use crate::place::object_at;
 use cvss_any::Cvss;
 use cvss_base::TENTH;
 use cvss_json_names::version;
-use cvss_json_record::Scores;
 use serde_json::{Map, Value};
-use std::alloc::{AllocError, Global};
+use std::alloc::AllocError;
 
 /// Adds the differences of a rating, as CycloneDX and grype have it.
 pub(crate) fn push_rating_members<'a>(
     found: &mut Vec<Difference<'a>>,
-    alloc: Global,
-    cvss: &Cvss,
-    scores: &Scores,
+    vector: Scored<'_>,
     object: &'a Map<String, Value>,
 ) -> Result<(), AllocError>
     ensures { OnOk result (Adds found.old.items
-        (given_rating_differences cvss.now scores.now (members_view object.now.entries))
-        found.new.items) }
+        (given_rating_differences vector.entry.cvss.now vector.entry.scores
+        (members_view object.now.entries)) found.new.items) }
 {
-    push_at(found, alloc, "method", Claim::Text(method_of(cvss)), object)?;
-    push_metrics(found, alloc, scores, object_at(object, "metrics"))?;
-    push_at(found, alloc, "score", Claim::Number(scores.base), object)?;
-    push_at(found, alloc, "severity", severity(cvss, scores), object)?;
-    push_at(found, alloc, "version", Claim::Text(version(cvss)), object)
+    push_at(found, "method", Claim::Text(method_of(vector.cvss)), object)?;
+    push_metrics(found, vector, object_at(object, "metrics"))?;
+    push_at(found, "score", Claim::Number(vector.scores.base), object)?;
+    push_at(found, "severity", severity(vector), object)?;
+    push_at(found, "version", Claim::Text(version(vector.cvss)), object)
 }
 
 /// Adds the difference of the base score in `metrics`, as grype has it.
 fn push_metrics<'a>(
     found: &mut Vec<Difference<'a>>,
-    alloc: Global,
-    scores: &Scores,
+    vector: Scored<'_>,
     metrics: Option<&'a Map<String, Value>>,
 ) -> Result<(), AllocError>
     ensures { OnOk result (Adds found.old.items
-        (metrics_differences scores.now
+        (metrics_differences vector.entry.scores
         (option_map (λ object. members_view object.now.entries) metrics.entry)) found.new.items) }
 {
     match metrics {
         Some(metrics) => push_at(
             found,
-            alloc,
             "baseScore",
-            Claim::Number(scores.base),
+            Claim::Number(vector.scores.base),
             metrics,
         ),
         None => Ok(()),
@@ -72,18 +67,21 @@ fn method_of(cvss: &Cvss) -> &'static str
 /// score's, and the vector's, which says the version.
 pub(crate) fn push_trivy<'a>(
     found: &mut Vec<Difference<'a>>,
-    alloc: Global,
-    cvss: &Cvss,
-    scores: &Scores,
+    vector: Scored<'_>,
     names: (&'a str, &'a str),
     object: &'a Map<String, Value>,
 ) -> Result<(), AllocError>
     ensures { OnOk result (Adds found.old.items
-        (trivy_differences cvss.now scores.now names.entry.0.now names.entry.1.now
+        (trivy_differences vector.entry.cvss.now vector.entry.scores names.entry.0.now names.entry.1.now
         (members_view object.now.entries)) found.new.items) }
 {
-    push_at(found, alloc, names.0, Claim::Number(scores.base), object)?;
-    push_name(found, alloc, cvss, names.1, names.1 != trivy_name(cvss))
+    push_at(found, names.0, Claim::Number(vector.scores.base), object)?;
+    push_name(
+        found,
+        vector.cvss,
+        names.1,
+        names.1 != trivy_name(vector.cvss),
+    )
 }
 
 /// The member in which Trivy gives a vector.
@@ -100,33 +98,27 @@ fn trivy_name(cvss: &Cvss) -> &'static str
 /// Adds the differences of a score and a severity, as SPDX 3 has them.
 pub(crate) fn push_spdx<'a>(
     found: &mut Vec<Difference<'a>>,
-    alloc: Global,
-    cvss: &Cvss,
-    scores: &Scores,
+    vector: Scored<'_>,
     object: &'a Map<String, Value>,
 ) -> Result<(), AllocError>
     ensures { OnOk result (Adds found.old.items
-        (spdx_differences cvss.now scores.now (members_view object.now.entries)) found.new.items) }
+        (spdx_differences vector.entry.cvss.now vector.entry.scores
+        (members_view object.now.entries)) found.new.items) }
 {
     push_at(
         found,
-        alloc,
         "security_score",
-        Claim::Number(scores.base),
+        Claim::Number(vector.scores.base),
         object,
     )?;
-    push_at(
-        found,
-        alloc,
-        "security_severity",
-        severity(cvss, scores),
-        object,
-    )
+    push_at(found, "security_severity", severity(vector), object)
 }
 
 /// The rating of a vector's score, in lower case.
-fn severity(cvss: &Cvss, scores: &Scores) -> Claim
-    ensures { claim_view result ≡ severity (severity_text_of cvss.now scores.now.base) }
+fn severity(vector: Scored<'_>) -> Claim
+    ensures { claim_view result
+        ≡ severity (severity_text_of vector.entry.cvss.now vector.entry.scores.base) }
 {
-    Claim::Severity(cvss.severity_of(i128::from(scores.base) * TENTH).as_str())
+    let score = i128::from(vector.scores.base) * TENTH;
+    Claim::Severity(vector.cvss.severity_of(score).as_str())
 }

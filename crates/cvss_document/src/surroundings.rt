@@ -6,32 +6,35 @@ ghost use Rattle.cvss_document.specs.Differences.{around_differences, is_rated, 
 ghost use Rattle.cvss_document.specs.Places.{around_view, is_among};
 ghost use Rattle.cvss_document.specs.private.Views.{Adds};
 
-use crate::difference::{Claim, Difference, push_at, push_name};
+use crate::difference::{Claim, Difference, Scored, push_at, push_name};
 use crate::place::Around;
 use crate::sub_scores::SubScores;
 use cvss_any::Cvss;
-use cvss_json_record::{Scores, rating};
-use std::alloc::{AllocError, Global};
+use cvss_json_record::rating;
+use std::alloc::AllocError;
 
 /// Adds the differences of what is around an object.
 pub(crate) fn push_around<'a>(
     found: &mut Vec<Difference<'a>>,
-    alloc: Global,
-    cvss: &Cvss,
-    scores: &Scores,
+    vector: Scored<'_>,
     parts: Option<SubScores>,
     around: Option<Around<'a>>,
 ) -> Result<(), AllocError>
     ensures { OnOk result (Adds found.old.items
-        (around_differences cvss.now scores.now parts (option_map around_view around.entry))
-        found.new.items) }
+        (around_differences vector.entry.cvss.now vector.entry.scores parts
+        (option_map around_view around.entry)) found.new.items) }
 {
     let Some(around) = around else {
         return Ok(());
     };
-    push_name(found, alloc, cvss, around.name, is_wrong(cvss, around.name))?;
-    push_rating(found, alloc, cvss, scores.base, around)?;
-    push_sub_scores(found, alloc, parts, around)
+    push_name(
+        found,
+        vector.cvss,
+        around.name,
+        is_wrong(vector.cvss, around.name),
+    )?;
+    push_rating(found, vector, around)?;
+    push_sub_scores(found, parts, around)
 }
 
 /// Whether a member of this name says another version than the vector's.
@@ -65,22 +68,21 @@ fn reports_version_of(cvss: &Cvss, name: &str) -> bool
 }
 
 /// Adds the difference of the rating that NVD says of a vector of CVSS v2 beside its record, if it is
-/// another one than that of so many tenths.
+/// another one than that of its score.
 fn push_rating<'a>(
     found: &mut Vec<Difference<'a>>,
-    alloc: Global,
-    cvss: &Cvss,
-    tenths: u8,
+    vector: Scored<'_>,
     around: Around<'a>,
 ) -> Result<(), AllocError>
     ensures { OnOk result (Adds found.old.items
-        (rating_differences cvss.now tenths (around_view around.entry)) found.new.items) }
+        (rating_differences vector.entry.cvss.now vector.entry.scores.base
+        (around_view around.entry)) found.new.items) }
 {
-    if is_rated(cvss) || around.name != "cvssData" {
+    if is_rated(vector.cvss) || around.name != "cvssData" {
         return Ok(());
     }
-    let claim = Claim::Text(rating(cvss, tenths));
-    push_at(found, alloc, "baseSeverity", claim, around.object)
+    let claim = Claim::Text(rating(vector.cvss, vector.scores.base));
+    push_at(found, "baseSeverity", claim, around.object)
 }
 
 /// Whether records of the vector's version have ratings.
@@ -93,7 +95,6 @@ fn is_rated(cvss: &Cvss) -> bool
 /// Adds the differences of the sub-scores that NVD says beside a record.
 fn push_sub_scores<'a>(
     found: &mut Vec<Difference<'a>>,
-    alloc: Global,
     parts: Option<SubScores>,
     around: Around<'a>,
 ) -> Result<(), AllocError>
@@ -103,16 +104,9 @@ fn push_sub_scores<'a>(
     match parts {
         Some(parts) if around.name == "cvssData" => {
             let exploitability = Claim::Number(parts.exploitability);
+            push_at(found, "exploitabilityScore", exploitability, around.object)?;
             push_at(
                 found,
-                alloc,
-                "exploitabilityScore",
-                exploitability,
-                around.object,
-            )?;
-            push_at(
-                found,
-                alloc,
                 "impactScore",
                 Claim::Number(parts.impact),
                 around.object,

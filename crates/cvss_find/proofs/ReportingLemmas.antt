@@ -2,8 +2,7 @@
 use Rattle.std.proofs.Common.{◌≡◌, ℕ, Bool, true, false, ◌&&◌, cond, not, List, [], ◌∷◌, ◌++◌, drop, flat_map, length, inl, refl, sym, ap, ap₂, ◌∙◌, subst, append_assoc, append-nil, arith, codes, decimal}
 use Rattle.std.proofs.Math.Bool.{and-true}
 use Rattle.std.proofs.lemmas.Fmt.{decimal_digit}
-use Rattle.std.proofs.lemmas.Grind.{flat_map-append}
-use Rattle.std.proofs.lemmas.List.{drop_all, map-append}
+use Rattle.std.proofs.lemmas.List.{drop_all, flat_map_more, map-append}
 use Rattle.std.proofs.lemmas.List.Elements.{All-nil}
 use Rattle.std.proofs.lemmas.List.Folds.{list_all-append}
 use Rattle.std.specs.Prelude.{bytes_eq}
@@ -17,7 +16,7 @@ use Rattle.cvss_find.specs.Decoding.{decoded}
 use Rattle.cvss_find.specs.declared.form.Form.{Form}
 use Rattle.cvss_find.specs.declared.form.Form.TheVariants.{Annotated, Located, Object}
 use Rattle.cvss_find.specs.private.Reporting.{AnswersLine, Reports, WritesReported, WritesShown, closing, opening, written_as}
-use Rattle.cvss_rows.specs.Rows.{AreCells}
+use Rattle.cvss_rows.proofs.RowLemmas.{one_text_of_cells}
 use Rattle.cvss_rows.specs.declared.format.Format.TheVariants.{Json}
 use Rattle.cvss_scan.proofs.AcceptedLemmas.{accepted_alone, accepted_whole}
 use Rattle.cvss_scan.specs.Mentions.{AreFound, IsAccepted, IsFound, Placed, mentions_of}
@@ -42,15 +41,9 @@ one_text_of_score : (allow : Bool) → AnswersByOneText (score_rule allow)
 one_text_of_score true = one_text_of
 one_text_of_score false = one_text_of_complete
 
-one_text_of_cells : (allow : Bool) → AnswersByOneText (AreCells Json allow)
-unfolding AreCells
-one_text_of_cells allow number line (Accepted (text ∷ [])) is = (text, refl)
-one_text_of_cells allow number line (Refused (text ∷ [])) is = (text, refl)
-one_text_of_cells allow number line _ is = absurd is
-
 one_text : (form : Form) (allow : Bool) → AnswersByOneText (answers_as form allow)
 one_text Located = one_text_of_score
-one_text Object = one_text_of_cells
+one_text Object = one_text_of_cells Json
 one_text (Annotated all) = one_text_of_score
 
 -- a mention is reported of, once its answer is written after what is before it, and the byte 10 stays or is taken off
@@ -96,12 +89,8 @@ written-push : (write : List ℕ → List ℕ) (reported : List Reported) (last 
     → middle ≡ old ++ flat_map write (reported_texts reported) → new ≡ middle ++ write last.text
     → new ≡ old ++ flat_map write (reported_texts (reported ++ last ∷ []))
 written-push write reported last old middle new before next =
-    next ∙ ap (λ bytes. bytes ++ write last.text) before
-    ∙ append_assoc old (flat_map write (reported_texts reported)) (write last.text)
-    ∙ ap (λ bytes. old ++ bytes)
-    (sym (ap (flat_map write) (map-append (λ (each : Reported). each.text) reported (last ∷ []))
-    ∙ flat_map-append write (reported_texts reported) (last.text ∷ [])
-    ∙ ap (λ bytes. flat_map write (reported_texts reported) ++ bytes) (append-nil (write last.text))))
+    next ∙ ap (λ bytes. bytes ++ write last.text) before ∙ flat_map_more write old (reported_texts reported) last.text
+    ∙ ap (λ texts. old ++ flat_map write texts) (sym (map-append (λ (each : Reported). each.text) reported (last ∷ [])))
 
 -- before the first mention
 pub Reports-start : (asked : Asked) (bytes : List ℕ) (left : List Placed) → left ≡ mentions_of asked.line → Reports asked left bytes bytes true

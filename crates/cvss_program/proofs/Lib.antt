@@ -1,1 +1,1 @@
-mod PrefixedLemmas
+pub mod PrefixedLemmas

@@ -1,2 +1,2 @@
-mod RowLemmas
+pub mod RowLemmas
 mod TextLemmas

@@ -106,14 +106,6 @@ fn push_unknown(metrics: &[u8], text: &mut OutputBuffer) -> Result<(), AllocErro
         ++ (codes "not a metric of any version: " ++ (metrics.now ++ 10 ∷ []))) }
 {
     text.push(b"not a metric of any version: ")?;
-    push_line(metrics, text)
-}
-
-/// Appends metrics and a byte 10.
-fn push_line(metrics: &[u8], text: &mut OutputBuffer) -> Result<(), AllocError>
-    ensures { OnOk result (text.new.bytes.items
-        ≡ text.old.bytes.items ++ (metrics.now ++ 10 ∷ [])) }
-{
     text.push(metrics)?;
     text.push(b"\n")
 }
@@ -141,6 +133,7 @@ fn push_name(name: Option<&[u8]>, text: &mut OutputBuffer) -> Result<(), AllocEr
     text.push(b": ")
 }
 
+#[tactic(auto, using(cvss_lines::proofs::TextsLemmas::appended))]
 fn push_number(index: usize, text: &mut OutputBuffer) -> fmt::Result
     ensures { OnOk result (text.new.bytes.items ≡ text.old.bytes.items ++ number_text index) }
 {

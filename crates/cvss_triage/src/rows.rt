@@ -66,6 +66,7 @@ fn write_score(score: OneDecimal, text: &mut OutputBuffer) -> fmt::Result
     write!(text, "{score}")
 }
 
+#[tactic(auto, using(cvss_lines::proofs::TextsLemmas::appended))]
 fn write_vector(vector: &Cvss, text: &mut OutputBuffer) -> fmt::Result
     ensures { OnOk result (text.new.bytes.items ≡ text.old.bytes.items ++ text_of vector.now) }
 {

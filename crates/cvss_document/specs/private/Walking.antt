@@ -2,7 +2,7 @@
 use Rattle.std.specs.Prelude.{◌≡◌, ℕ, ◌+◌, ◌<◌, List, [], ◌∷◌, ◌++◌, drop, flat_map, length}
 use Rattle.serde_json.specs.Data.{Data, null, boolean, number, string, array, object, Items, no_items, item, Members, no_members, member}
 use Rattle.serde_json.specs.View.{items_view, members_view, view}
-use Rattle.cvss_document.specs.Places.{Place, forms_from}
+use Rattle.cvss_document.specs.Places.{Place}
 use Rattle.cvss_document.specs.PlacesLeft.{places_in_levels, step_text}
 use Rattle.cvss_document.specs.declared.places.Level.{Level}
 use Rattle.cvss_document.specs.declared.places.Rest.{Rest}
@@ -38,7 +38,7 @@ abbrev mutual
 -- how many steps visit what is left in a value
 abbrev pub steps_in_rest : Rest → ℕ
 steps_in_rest (rest.Whole value context) = steps_in (view value.now)
-steps_in_rest (rest.Own holder context form) = length (forms_from form) + steps_in_members (members_view holder.now.entries)
+steps_in_rest (rest.Own holder context forms) = length forms.now + steps_in_members (members_view holder.now.entries)
 steps_in_rest (rest.Items items index id) = steps_in_items (items_view (drop index items.now))
 steps_in_rest (rest.Members holder members id) = steps_in_members (members_view members)
 

@@ -7,7 +7,7 @@ use Rattle.cvss_document.proofs.difference.push_members.Goals as goal
 
 pub loop-name-preserved : goal.loop-name-preserved
 loop-name-preserved c =
-    let differences = filter_map (difference_at c.args.cvss.now c.args.scores.now) in
+    let differences = filter_map (difference_at c.args.vector.cvss.now c.args.vector.scores) in
     let before = map difference_view c.loop-name.found.items in
     let rest = list_of (members_view c.next.new.self) in
     let next = ap (λ entries. list_of (members_view entries)) c.in-Some.ensures.steps

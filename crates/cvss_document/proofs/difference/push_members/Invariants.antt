@@ -6,5 +6,5 @@ use Rattle.cvss_document.proofs.difference.push_members.Given as goal
 
 abbrev pub invariant-loop-name : goal.invariant-loop-name
 invariant-loop-name l =
-    map difference_view l.found.items ++ filter_map (difference_at l.cvss l.scores) (list_of (members_view l.name-iterator))
-    ≡ map difference_view l.fn.found.items ++ filter_map (difference_at l.cvss l.scores) (list_of (members_view l.object.entries))
+    map difference_view l.found.items ++ filter_map (difference_at l.vector.cvss.now l.vector.scores) (list_of (members_view l.name-iterator))
+    ≡ map difference_view l.fn.found.items ++ filter_map (difference_at l.vector.cvss.now l.vector.scores) (list_of (members_view l.object.entries))

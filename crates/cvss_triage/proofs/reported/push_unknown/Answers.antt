@@ -4,8 +4,10 @@ use Rattle.cvss_triage.proofs.reported.push_unknown.Goals as goal
 
 pub returns : goal.returns
 returns c =
-    let line = c.args.metrics.now ++ 10 ∷ [] in
-    on_ok_weaker c.push_line.result
-    (λ is. is ∙ ap (λ bytes. bytes ++ line) c.in_ok-push.ensures
-    ∙ append_assoc c.args.text.now.bytes.items (codes "not a metric of any version: ") line)
-    c.push_line.ensures
+    let old = c.args.text.now.bytes.items in
+    let words = codes "not a metric of any version: " in
+    let metrics = c.args.metrics.now in
+    on_ok_weaker c.push-3.result
+    (λ is. is ∙ ap (λ bytes. bytes ++ 10 ∷ []) (c.in_ok-push-2.ensures ∙ ap (λ bytes. bytes ++ metrics) c.in_ok-push.ensures ∙ append_assoc old words metrics)
+    ∙ append_assoc old (words ++ metrics) (10 ∷ []))
+    c.push-3.ensures

@@ -6,12 +6,12 @@ use Rattle.serde_json.proofs.Views.{view-Array, view-Object}
 use Rattle.serde_json.specs.Data.{array, object}
 use Rattle.serde_json.specs.View.{items_view, members_view, view}
 use Rattle.serde_json.specs.declared.value.Value.{Value, the_lemmas}
-use Rattle.cvss_document.specs.Places.{context_view, own_context, place_view, places_within}
+use Rattle.cvss_document.specs.Places.{context_view, forms, own_context, place_view, places_within}
 use Rattle.cvss_document.specs.private.Walking.{Visits, level_of, steps_in}
 use Rattle.cvss_document.specs.declared.places.Rest.TheVariants.{Own, Whole}
 use Rattle.cvss_document.proofs.PlacesLemmas.{Visits-array, Visits-nothing, Visits-over, object_over}
 use Rattle.cvss_document.specs.declared.place.Context.{Context}
-use Rattle.cvss_document.specs.declared.place.Form.TheVariants.{Record}
+use Rattle.cvss_document.specs.declared.place.Form.{Form}
 use Rattle.cvss_document.specs.declared.place.Place as code
 use Rattle.cvss_document.specs.declared.places.Level.{Level}
 use Rattle.cvss_document.specs.declared.pointer.Step.{Step}
@@ -22,19 +22,19 @@ returns-in_ok-push-in-Array c =
     Visits-array c.args.self.now.levels.items _ c.args.step c.args.context c.args.value c.deref.result
     (ap view c.in-Array.is ∙ view-Array c.in-Array.items ∙ ap (λ items. array (items_view items)) (sym c.deref.ensures.value)) c.in_ok-push-in-Array.ensures
 
--- what an object's first form and those after it give is what the object gives
+-- what an object's forms and its members give is what the object gives
 from_object : (result : Result (Option code.Place) AllocError) (front levels : List Level) (step : Step) (context own : Context) (value : Bor Value)
-    (holder : Bor (BTreeMap (String Global) Value))
-    → IfOk result (λ found. Visits (front ++ level_of step (Own holder own Record) ∷ []) (option_to_list (option_map place_view found)) levels)
+    (holder : Bor (BTreeMap (String Global) Value)) (asked : Bor (List Form))
+    → IfOk result (λ found. Visits (front ++ level_of step (Own holder own asked) ∷ []) (option_to_list (option_map place_view found)) levels)
     → view value.now ≡ object (members_view holder.now.entries)
-    → context_view own ≡ own_context (context_view context) (members_view holder.now.entries)
+    → context_view own ≡ own_context (context_view context) (members_view holder.now.entries) → asked.now ≡ forms
     → IfOk result (λ found. Visits (front ++ level_of step (Whole value context) ∷ []) (option_to_list (option_map place_view found)) levels)
-from_object result front levels step context own value holder visits is own_is =
-    IfOk-weaker result _ _ (λ found given. Visits-over front levels step (Whole value context) (Own holder own Record) (object_over context own value holder is own_is) given) visits
+from_object result front levels step context own value holder asked visits is own_is all =
+    IfOk-weaker result _ _ (λ found given. Visits-over front levels step (Whole value context) (Own holder own asked) (object_over context own value holder asked is own_is all) given) visits
 
 pub returns-in-Object : goal.returns-in-Object
 returns-in-Object c =
-    from_object _ _ _ _ _ _ c.args.value _ c.visit_form.ensures (ap view c.in-Object.is ∙ view-Object c.in-Object.object) c.own_context-own.ensures
+    from_object _ _ _ _ _ _ c.args.value _ _ c.visit_forms.ensures (ap view c.in-Object.is ∙ view-Object c.in-Object.object) c.own_context-own.ensures refl
 
 pub returns-in_default : goal.returns-in_default
 returns-in_default c =

@@ -1,11 +1,20 @@
+use Rattle.std.proofs.Common.{◌++◌}
 use Rattle.std.proofs.lemmas.Result.{IfOk-weaker}
-use Rattle.cvss_rows.proofs.RowLemmas.{row_written}
+use Rattle.cvss_program.proofs.PrefixedLemmas.{WritesAnswer-prefixed}
+use Rattle.cvss_rows.specs.Cells.{given_text, opening}
+use Rattle.cvss_rows.specs.Rows.{AreCells, IsRow}
+use Rattle.cvss_rows.proofs.RowLemmas.{one_text_of_cells}
 use Rattle.cvss_rows.proofs.rows.Rows.answer_line.Goals as goal
 
 pub returns : goal.returns
+unfolding IsRow
 returns c =
     let rows = c.args.self.now in
+    let line = c.args.line.now in
     IfOk-weaker c.write_cells.result _ _
-    (λ accepted written. row_written rows.format rows.allow_incomplete rows.prefix.now c.args.number c.args.line.now c.args.answers.now.bytes.items _ _ accepted
-    c.in_ok-push_start.ensures written)
+    (λ accepted written.
+    let row = WritesAnswer-prefixed (AreCells rows.format rows.allow_incomplete) (one_text_of_cells rows.format rows.allow_incomplete)
+    (opening rows.format rows.prefix.now ++ given_text rows.format line) c.args.number line c.args.answers.now.bytes.items _ _ accepted
+    c.in_ok-push_start.ensures written in
+    record { answer = row.answer; answers = row.answers; reported = row.reported; written = row.written })
     (c.write_cells.ensures c.args.number)
