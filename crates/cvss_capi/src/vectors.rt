@@ -22,7 +22,7 @@ use cvss_ffi::metrics::put_metrics;
 use cvss_ffi::numbers::{NOTHING, rating_number, version_number};
 use cvss_ffi::objects::{put_explanation, put_record};
 use cvss_ffi::overriding::put_overridden;
-use cvss_ffi::scores::{put_scores_by, score_of};
+use cvss_ffi::scores::put_scores_by;
 use cvss_ffi::{CvssMetric, CvssScores, CvssScoresBy, CvssValues};
 
 /// The version of the vector that a text denotes, as 20, 30, 31 or 40; -1 where it denotes none.
@@ -57,7 +57,10 @@ pub extern "C" fn cvss_scores(text: &[u8], scores: &mut CvssScores) -> bool
 pub extern "C" fn cvss_score(text: &[u8]) -> i32
     ensures { Answers text.now (λ cvss. IsScoreInTenths (IsScoreOf cvss) result) (result ≡ nothing) }
 {
-    score_of(text)
+    match Cvss::read_bytes(text) {
+        Some(cvss) => i32::from(cvss.tenths()),
+        None => NOTHING,
+    }
 }
 
 /// Whether a text denotes a vector; then its version, its published score, its nomenclature and the

@@ -15,15 +15,14 @@ use cvss_base::tenths::text_of;
 use cvss_json_names::put_vector;
 use cvss_json_write::Page;
 
-/// Writes the answer to a text at the beginning of a buffer where it fits, and returns its length.
+/// Writes the answer to a text.
 pub fn put_answer_to(text: &[u8], buffer: &mut [u8]) -> usize
     ensures { Writes (IsAnswer text.now) buffer.old buffer.new result }
 {
     write_answer(text, &[], buffer)
 }
 
-/// Writes the answer to a text and an end at the beginning of a buffer where both fit, and returns their
-/// length.
+/// Writes the answer to a text, and an end.
 pub(crate) fn write_answer<'a>(text: &'a [u8], end: &'a [u8], buffer: &mut [u8]) -> usize
     requires { length end.now ≤ 1 }
     ensures { (answer : List ℕ) × IsAnswer text.now answer
@@ -35,8 +34,7 @@ pub(crate) fn write_answer<'a>(text: &'a [u8], end: &'a [u8], buffer: &mut [u8])
     }
 }
 
-/// Writes the answer of a vector and an end at the beginning of a buffer where both fit, and returns
-/// their length.
+/// Writes the answer of a vector, and an end.
 fn write_answer_of(cvss: &Cvss, end: &[u8], buffer: &mut [u8]) -> usize
     requires scored { HasScore cvss.now }
     requires short { length end.now ≤ 1 }

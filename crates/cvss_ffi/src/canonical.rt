@@ -13,8 +13,8 @@ use cvss_json_names::put_vector;
 use cvss_json_write::Page;
 use cvss_text::print::{Printed, text_after};
 
-/// The vector that a text denotes, if there is one. Its canonical text, which is as long as the text,
-/// is written at the beginning of a buffer where it fits. It takes no memory.
+/// The vector that a text denotes, if there is one. Its canonical text is written, which is as long as
+/// the text.
 pub fn put_canonical_of(text: &[u8], buffer: &mut [u8]) -> Option<Cvss>
     ensures denoted { IfSome result (λ cvss. DenotesCvss text.now cvss) }
     ensures scored { IfSome result (λ cvss. HasScore cvss) }
@@ -28,8 +28,7 @@ pub fn put_canonical_of(text: &[u8], buffer: &mut [u8]) -> Option<Cvss>
     Some(cvss)
 }
 
-/// Writes the canonical text of a vector at the beginning of a buffer where it fits, and returns its
-/// length.
+/// Writes the canonical text of a vector.
 pub(crate) fn write_canonical(cvss: &Cvss, buffer: &mut [u8]) -> usize
     ensures { IsWritten (text_of cvss.now) buffer.old buffer.new result }
 {

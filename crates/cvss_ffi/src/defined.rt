@@ -21,8 +21,7 @@ const NOT_DEFINED_V2: [u8; 2] = *b"ND";
 /// How a metric of CVSS v3 and v4.0 is spelled that is not defined.
 const NOT_DEFINED: [u8; 1] = *b"X";
 
-/// Writes the canonical text of a vector without its undefined metrics at the beginning of a buffer where
-/// it fits, and returns its length.
+/// Writes the canonical text of a vector without its undefined metrics.
 pub fn put_without_undefined(cvss: &Cvss, buffer: &mut [u8]) -> usize
     ensures { WritesVector (IsWithoutUndefined cvss.now) buffer.old buffer.new result }
 {

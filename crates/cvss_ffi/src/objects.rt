@@ -10,7 +10,7 @@ use crate::buffer::write;
 use cvss_any::Cvss;
 use cvss_json_write::Page;
 
-/// Writes the record of a vector at the beginning of a buffer where it fits, and returns its length.
+/// Writes the record of a vector.
 pub fn put_record(cvss: &Cvss, buffer: &mut [u8]) -> usize
     requires { HasScore cvss.now }
     ensures { Writes (IsRecordText cvss.now) buffer.old buffer.new result }
@@ -20,7 +20,7 @@ pub fn put_record(cvss: &Cvss, buffer: &mut [u8]) -> usize
     write(page.bytes(), buffer)
 }
 
-/// Writes why a vector has its score at the beginning of a buffer where it fits, and returns its length.
+/// Writes why a vector has its score.
 pub fn put_explanation(cvss: &Cvss, buffer: &mut [u8]) -> usize
     requires { HasScore cvss.now }
     ensures { Writes (IsExplanationText None cvss.now) buffer.old buffer.new result }

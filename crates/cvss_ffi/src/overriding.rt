@@ -18,11 +18,10 @@ use crate::v4;
 use cvss_any::{Cvss, Refusal};
 use cvss_v4::overrides::{OverrideFault, read_overrides};
 
-/// One override more than a vector has environmental metrics is too many.
-const TOO_MANY: usize = 15;
+/// One override more than a vector has metrics is too many.
+const TOO_MANY: usize = 33;
 
-/// Writes the canonical text of a vector with overrides in place at the beginning of a buffer where
-/// it fits, and returns its length; 0 where they cannot be put into it.
+/// Writes the canonical text of a vector with overrides in place.
 pub fn put_overridden(cvss: &Cvss, overrides: &[u8], buffer: &mut [u8]) -> usize
     ensures { WritesNew (IsWithOverrides cvss.now overrides.now) buffer.old buffer.new result }
 {
@@ -32,8 +31,7 @@ pub fn put_overridden(cvss: &Cvss, overrides: &[u8], buffer: &mut [u8]) -> usize
     }
 }
 
-/// Writes why a text denotes no vector, or why overrides cannot be put into its vector, at the
-/// beginning of a buffer where it fits, and returns its length; 0 where they can.
+/// Writes why a text denotes no vector, or why overrides cannot be put into its vector.
 pub fn put_override_reason(text: &[u8], overrides: &[u8], buffer: &mut [u8]) -> usize
     ensures { WritesOrWhy text.now (λ cvss. WritesWhyNot (IsWithOverrides cvss overrides.now)
         (IsOverrideReason cvss overrides.now)) buffer.old buffer.new result }
@@ -98,8 +96,8 @@ fn overrides_of(text: &str) -> Result<v4::Vector, (usize, OverrideFault<'_>)>
 /// The first overrides of a text, no more than `TOO_MANY`, and how many they are; none of an empty text.
 fn first_texts(text: &str) -> ([&str; TOO_MANY], usize)
     ensures texts { map (λ text. text.now) (take result.1 result.0)
-        ≡ take 15 (overrides_in text.now) }
-    ensures room { result.1 ≤ 15 }
+        ≡ take 33 (overrides_in text.now) }
+    ensures room { result.1 ≤ 33 }
 {
     let mut texts = [""; TOO_MANY];
     let mut count = 0;

@@ -20,8 +20,7 @@ const ACCEPTED: i32 = 0;
 
 const NOT_UTF8: i32 = 8;
 
-/// Writes why a text is refused at the beginning of a buffer where it fits, and returns its length; 0
-/// where the text denotes a vector.
+/// Writes why a text is refused.
 pub fn put_reason(text: &[u8], buffer: &mut [u8]) -> usize
     ensures { WritesRefusal text.now (IsReason text.now) buffer.old buffer.new result }
 {
@@ -41,8 +40,7 @@ pub fn kind_of(text: &[u8]) -> i32
     }
 }
 
-/// Writes the abbreviation of the metric that a refusal names at the beginning of a buffer where it
-/// fits, and returns its length; 0 where the refusal names none, and where the text denotes a vector.
+/// Writes the abbreviation of the metric that a refusal names, if it names one.
 pub fn put_reported_kind(text: &[u8], buffer: &mut [u8]) -> usize
     ensures { WritesRefusal text.now (IsReportedKind text.now) buffer.old buffer.new result }
 {
@@ -52,8 +50,7 @@ pub fn put_reported_kind(text: &[u8], buffer: &mut [u8]) -> usize
     }
 }
 
-/// Writes the part of the text that a refusal quotes at the beginning of a buffer where it fits, and
-/// returns its length; 0 where the refusal quotes none, and where the text denotes a vector.
+/// Writes the part of the text that a refusal quotes, if it quotes one.
 pub fn put_quoted(text: &[u8], buffer: &mut [u8]) -> usize
     ensures { WritesRefusal text.now (IsQuoted text.now) buffer.old buffer.new result }
 {
@@ -98,8 +95,7 @@ fn reported_name(error: ReadError<'_>) -> &'static [u8]
     }
 }
 
-/// Writes the part of the text that an error quotes at the beginning of a buffer where it fits, and
-/// returns its length.
+/// Writes the part of the text that an error quotes, if it quotes one.
 fn write_quoted(error: ReadError<'_>, buffer: &mut [u8]) -> usize
     ensures { IsWritten (said_of part_quoted [] error.entry) buffer.old buffer.new result }
 {

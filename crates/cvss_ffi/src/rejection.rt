@@ -26,7 +26,7 @@ pub(crate) enum Rejection<'a> {
     OtherGroup(usize),
 }
 
-/// Writes what a rejection says at the beginning of a buffer where it fits, and returns its length.
+/// Writes what a rejection says.
 pub(crate) fn write_rejection(rejection: Rejection<'_>, buffer: &mut [u8]) -> usize
     ensures { IsWritten (rejection_text rejection.entry) buffer.old buffer.new result }
 {

@@ -1,7 +1,7 @@
 //! The scores of a vector, as C sees them.
 
 ghost use Rattle.std.specs.Prelude.{◌≡◌};
-ghost use Rattle.cvss_any.specs.Answers.{HasScore, IsScoreOf};
+ghost use Rattle.cvss_any.specs.Answers.{HasScore};
 ghost use Rattle.cvss_base.specs.Tenths.{IsInTenths};
 ghost use Rattle.cvss_base.specs.Version.{IsComplete};
 ghost use Rattle.cvss_any.specs.declared.vector.Cvss.TheVariants.{CvssV31};
@@ -11,8 +11,7 @@ ghost use Rattle.cvss_score.specs.v4.Scores.{IsScore};
 ghost use Rattle.cvss_v4.specs.Merging.{effective_of};
 ghost use Rattle.cvss_v4.specs.Parts.{IsScoreBy};
 ghost use Rattle.cvss_v4.specs.Vector.{v4};
-ghost use Rattle.cvss_ffi.specs.Answers.{Answers};
-ghost use Rattle.cvss_ffi.specs.Scores.{AnswersScoresBy, AreScoresBy, AreScoresOf, IsReportedScore, IsScoreInTenths, nothing};
+ghost use Rattle.cvss_ffi.specs.Scores.{AnswersScoresBy, AreScoresBy, AreScoresOf, IsReportedScore, IsScoreInTenths};
 
 use crate::numbers::{NOTHING, nomenclature_of, rating_number, version_number};
 use crate::{v3, v4};
@@ -115,16 +114,6 @@ fn tenths_of_v3(vector: &v3::Vector) -> (i32, i32, i32)
         i32::from(vector.temporal_tenths()),
         i32::from(vector.environmental_tenths()),
     )
-}
-
-/// The tenths of the published score of the vector that a text denotes; `NOTHING` where it denotes none.
-pub fn score_of(text: &[u8]) -> i32
-    ensures { Answers text.now (λ cvss. IsScoreInTenths (IsScoreOf cvss) result) (result ≡ nothing) }
-{
-    match Cvss::read_bytes(text) {
-        Some(cvss) => i32::from(cvss.tenths()),
-        None => NOTHING,
-    }
 }
 
 /// Whether a vector is of CVSS v4.0; then its scores by nomenclature are written. Else they are left as

@@ -16,8 +16,7 @@ use crate::refusal::read;
 use crate::rejection::{Rejection, write_rejection};
 use cvss_any::{Cvss, SetError, Version};
 
-/// Writes the canonical text of a vector with metrics set at the beginning of a buffer where it fits,
-/// and returns its length; 0 where they are rejected.
+/// Writes the canonical text of a vector with metrics set.
 pub fn put_with(cvss: &Cvss, metrics: &[u8], buffer: &mut [u8]) -> usize
     ensures { WritesNew (IsWithMetrics cvss.now metrics.now) buffer.old buffer.new result }
 {
@@ -27,8 +26,7 @@ pub fn put_with(cvss: &Cvss, metrics: &[u8], buffer: &mut [u8]) -> usize
     }
 }
 
-/// Writes why a text denotes no vector, or why metrics are not set in its vector, at the beginning of a
-/// buffer where it fits, and returns its length; 0 where they are.
+/// Writes why a text denotes no vector, or why metrics are not set in its vector.
 pub fn put_with_reason(text: &[u8], metrics: &[u8], buffer: &mut [u8]) -> usize
     ensures { WritesOrWhy text.now (λ cvss. WritesWhyNot (IsWithMetrics cvss metrics.now)
         (IsWithReasonText cvss metrics.now)) buffer.old buffer.new result }
@@ -49,8 +47,7 @@ fn write_why_not(cvss: &Cvss, metrics: &[u8], buffer: &mut [u8]) -> usize
     }
 }
 
-/// Writes the canonical text of the vector of a version that metrics make at the beginning of a buffer
-/// where it fits, and returns its length; 0 where they make none.
+/// Writes the canonical text of the vector of a version that metrics make.
 pub fn put_build(version: i32, metrics: &[u8], buffer: &mut [u8]) -> usize
     ensures { WritesNew (IsBuiltFrom version metrics.now) buffer.old buffer.new result }
 {
@@ -63,8 +60,7 @@ pub fn put_build(version: i32, metrics: &[u8], buffer: &mut [u8]) -> usize
     }
 }
 
-/// Writes why metrics make no vector of a version at the beginning of a buffer where it fits, and
-/// returns its length; 0 where they make one.
+/// Writes why metrics make no vector of a version.
 pub fn put_build_reason(version: i32, metrics: &[u8], buffer: &mut [u8]) -> usize
     ensures { WritesWhyNot (IsBuiltFrom version metrics.now)
         (IsBuildReasonText version metrics.now) buffer.old buffer.new result }
