@@ -17,10 +17,10 @@ pub extern "C" fn cvss_answer(text: &[u8], buffer: &mut [u8]) -> usize
     put_answer_to(text, buffer)
 }
 
-/// The answers to many texts, each ended by a byte 10, which one byte 13 may precede. Each answer is
-/// ended by a byte 10, as the program writes them. As many are written, one after the other, as have room
-/// in the buffer; their length is returned, and in `read` how many bytes of the texts they answer. What
-/// follows the last byte 10 is not read.
+/// The answers to many texts, each ended by a byte 10, which one byte 13 may precede. Each answer
+/// is ended by a byte 10, as the program writes them. As many are written, one after the other, as
+/// have room in the buffer; their length is returned, and in `read` how many bytes of the texts
+/// they answer. What follows the last byte 10 is not read.
 #[unsafe(no_mangle)]
 pub extern "C" fn cvss_answers(texts: &[u8], buffer: &mut [u8], read: &mut usize) -> usize
     ensures { AnswersLines texts.now buffer.old buffer.new read.new result }

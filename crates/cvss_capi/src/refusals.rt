@@ -18,10 +18,10 @@ pub extern "C" fn cvss_reason(text: &[u8], buffer: &mut [u8]) -> usize
     put_reason(text, buffer)
 }
 
-/// The kind of refusal that a text gets: 1 for a piece that is no component, 2 for a wrong prefix, 3
-/// for a version that is not supported, 4 for an unknown metric, 5 for a value that the metric does
-/// not have, 6 for a metric that occurs twice, 7 for a metric that is missing, 8 for a text that is
-/// not UTF-8. 0 where the text denotes a vector.
+/// The kind of refusal that a text gets: 1 for a piece that is no component, 2 for a wrong prefix,
+/// 3 for a version that is not supported, 4 for an unknown metric, 5 for a value that the metric
+/// does not have, 6 for a metric that occurs twice, 7 for a metric that is missing, 8 for a text
+/// that is not UTF-8. 0 where the text denotes a vector.
 #[unsafe(no_mangle)]
 pub extern "C" fn cvss_refusal_kind(text: &[u8]) -> i32
     ensures { Answers text.now (λ _. result ≡ pos 0) (IsKind text.now result) }
@@ -37,8 +37,8 @@ pub extern "C" fn cvss_refusal_metric(text: &[u8], buffer: &mut [u8]) -> usize
     put_reported_kind(text, buffer)
 }
 
-/// The part of the text that the reason quotes, as the reason has it: the component, the prefix, the
-/// version, the name or the value.
+/// The part of the text that the reason quotes, as the reason has it: the component, the prefix,
+/// the version, the name or the value.
 #[unsafe(no_mangle)]
 pub extern "C" fn cvss_refusal_value(text: &[u8], buffer: &mut [u8]) -> usize
     ensures { WritesRefusal text.now (IsQuoted text.now) buffer.old buffer.new result }
@@ -46,8 +46,8 @@ pub extern "C" fn cvss_refusal_value(text: &[u8], buffer: &mut [u8]) -> usize
     put_quoted(text, buffer)
 }
 
-/// Why `cvss_overridden` returns 0: why the text denotes no vector, that it is none of CVSS v4.0, or what
-/// is wrong with the first override that is refused.
+/// Why `cvss_overridden` returns 0: why the text denotes no vector, that it is none of CVSS v4.0,
+/// or what is wrong with the first override that is refused.
 #[unsafe(no_mangle)]
 pub extern "C" fn cvss_override_reason(text: &[u8], overrides: &[u8], buffer: &mut [u8]) -> usize
     ensures { WritesOrWhy text.now (λ cvss. WritesWhyNot (IsWithOverrides cvss overrides.now)

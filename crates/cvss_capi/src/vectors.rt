@@ -30,10 +30,7 @@ use cvss_ffi::{CvssMetric, CvssScores, CvssScoresBy, CvssValues};
 pub extern "C" fn cvss_version(text: &[u8]) -> i32
     ensures { Answers text.now (λ cvss. result ≡ number_of_version cvss) (result ≡ nothing) }
 {
-    match Cvss::read_bytes(text) {
-        Some(cvss) => version_number(&cvss),
-        None => NOTHING,
-    }
+    Cvss::read_bytes(text).map_or(NOTHING, |cvss| version_number(&cvss))
 }
 
 /// Whether a text denotes a vector; then the vector's scores.
@@ -51,8 +48,8 @@ pub extern "C" fn cvss_scores(text: &[u8], scores: &mut CvssScores) -> bool
     }
 }
 
-/// The tenths of the published score of the vector that a text denotes, in CVSS v2 and v3 the base score;
-/// -1 where it denotes none. No other score is computed.
+/// The tenths of the published score of the vector that a text denotes, in CVSS v2 and v3 the base
+/// score; -1 where it denotes none. No other score is computed.
 #[unsafe(no_mangle)]
 pub extern "C" fn cvss_score(text: &[u8]) -> i32
     ensures { Answers text.now (λ cvss. IsScoreInTenths (IsScoreOf cvss) result) (result ≡ nothing) }
@@ -79,8 +76,8 @@ pub extern "C" fn cvss_values(text: &[u8], values: &mut CvssValues) -> bool
     }
 }
 
-/// Whether a text denotes a vector of CVSS v4.0; then the tenths of its scores by nomenclature, CVSS-B,
-/// CVSS-BE, CVSS-BT and CVSS-BTE.
+/// Whether a text denotes a vector of CVSS v4.0; then the tenths of its scores by nomenclature,
+/// CVSS-B, CVSS-BE, CVSS-BT and CVSS-BTE.
 #[unsafe(no_mangle)]
 pub extern "C" fn cvss_nomenclature_scores(text: &[u8], scores: &mut CvssScoresBy) -> bool
     ensures { Answers text.now (λ cvss. AnswersScoresBy cvss scores.old scores.new result)
@@ -92,8 +89,8 @@ pub extern "C" fn cvss_nomenclature_scores(text: &[u8], scores: &mut CvssScoresB
     }
 }
 
-/// The number of the rating of so many tenths by the bounds of a version, 20, 30, 31 or 40; -1 of another
-/// version, and of tenths outside 0 to 100.
+/// The number of the rating of so many tenths by the bounds of a version, 20, 30, 31 or 40; -1 of
+/// another version, and of tenths outside 0 to 100.
 #[unsafe(no_mangle)]
 pub extern "C" fn cvss_rating(version: i32, tenths: i32) -> i32
     ensures { IsRatingNumber version tenths result }
@@ -132,8 +129,8 @@ pub extern "C" fn cvss_read(text: &[u8], scores: &mut CvssScores, buffer: &mut [
     }
 }
 
-/// How many metrics the vector has that a text denotes; they are written into the array, in the order
-/// of the vector's canonical text, where they fit.
+/// How many metrics the vector has that a text denotes; they are written into the array, in the
+/// order of the vector's canonical text, where they fit.
 #[unsafe(no_mangle)]
 pub extern "C" fn cvss_metrics(text: &[u8], metrics: &mut [CvssMetric]) -> usize
     ensures { WritesOf text.now (λ cvss. IsWritten (metrics_in_order cvss))
@@ -145,8 +142,8 @@ pub extern "C" fn cvss_metrics(text: &[u8], metrics: &mut [CvssMetric]) -> usize
     }
 }
 
-/// The canonical text of the vector that a text denotes, without the metrics that are not defined. Where no
-/// metric is defined, which may be in CVSS v3 alone, all are kept.
+/// The canonical text of the vector that a text denotes, without the metrics that are not defined.
+/// Where no metric is defined, which may be in CVSS v3 alone, all are kept.
 #[unsafe(no_mangle)]
 pub extern "C" fn cvss_without_undefined(text: &[u8], buffer: &mut [u8]) -> usize
     ensures { WritesOf text.now (λ cvss. WritesVector (IsWithoutUndefined cvss))
@@ -158,8 +155,9 @@ pub extern "C" fn cvss_without_undefined(text: &[u8], buffer: &mut [u8]) -> usiz
     }
 }
 
-/// The canonical text of the vector of CVSS v4.0 that a text denotes, with overrides in place: components
-/// of environmental metrics, in any order and any ASCII case, each once, joined by slashes.
+/// The canonical text of the vector of CVSS v4.0 that a text denotes, with overrides in place:
+/// components of environmental metrics, in any order and any ASCII case, each once, joined by
+/// slashes.
 #[unsafe(no_mangle)]
 pub extern "C" fn cvss_overridden(text: &[u8], overrides: &[u8], buffer: &mut [u8]) -> usize
     ensures { WritesOf text.now (λ cvss. WritesNew (IsWithOverrides cvss overrides.now))

@@ -13,8 +13,8 @@ use cvss_json_names::put_vector;
 use cvss_json_write::Page;
 use cvss_text::print::{Printed, text_after};
 
-/// The vector that a text denotes, if there is one. Its canonical text is written, which is as long as
-/// the text.
+/// The vector that a text denotes, if there is one. Its canonical text is written, which is as long
+/// as the text.
 pub fn put_canonical_of(text: &[u8], buffer: &mut [u8]) -> Option<Cvss>
     ensures denoted { IfSome result (λ cvss. DenotesCvss text.now cvss) }
     ensures scored { IfSome result (λ cvss. HasScore cvss) }

@@ -53,7 +53,7 @@ const TRILLION: i128 = 1_000_000_000_000;
 const MILLION: i64 = 1_000_000_000_000_000_000;
 
 /// Whether the version is CVSS v2 or v3 and the components make a vector of it, which may lack any
-/// metric; then its numbers are written. Else they are left as they were.
+/// metric; then its numbers are written.
 pub fn put_numbers(version: i32, metrics: &[u8], numbers: &mut CvssNumbers) -> bool
     ensures { AnswersNumbers version metrics.now numbers.old numbers.new result }
 {
@@ -90,7 +90,7 @@ fn write_v3(minor_version: usize, metrics: &[u8], numbers: &mut CvssNumbers) -> 
 }
 
 /// Whether the version is CVSS v2 or v3 and the number less than a million from 0; then the tenths of the
-/// number are written, rounded as the version rounds scores. Else they are left as they were.
+/// number are written, rounded as the version rounds scores.
 pub fn put_rounded(version: i32, number: &CvssNumber, tenths: &mut i32) -> bool
     ensures { AnswersRounded version number.now tenths.old tenths.new result }
 {
@@ -123,8 +123,7 @@ fn rounded(version: i32, count: i128) -> Option<i128>
 }
 
 /// Whether the components make a vector of CVSS v2, which may lack any metric, and the impact is less
-/// than a million from 0; then the tenths of the temporal score with this impact are written. Else they
-/// are left as they were.
+/// than a million from 0; then the tenths of the temporal score with this impact are written.
 pub fn put_temporal(metrics: &[u8], impact: &CvssNumber, tenths: &mut i32) -> bool
     ensures { AnswersTemporal metrics.now impact.now tenths.old tenths.new result }
 {

@@ -116,8 +116,7 @@ fn tenths_of_v3(vector: &v3::Vector) -> (i32, i32, i32)
     )
 }
 
-/// Whether a vector is of CVSS v4.0; then its scores by nomenclature are written. Else they are left as
-/// they were.
+/// Whether a vector is of CVSS v4.0; then its scores by nomenclature are written.
 pub fn put_scores_by(cvss: &Cvss, scores: &mut CvssScoresBy) -> bool
     requires { HasScore cvss.now }
     ensures { AnswersScoresBy cvss.now scores.old scores.new result }
