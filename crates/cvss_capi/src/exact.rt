@@ -1,13 +1,14 @@
-//! Exact numbers for C: those of vectors that may lack mandatory metrics, and numbers that are rounded.
+//! Exact numbers for C: those of vectors that may lack mandatory metrics, and numbers that are
+//! rounded.
 
 ghost use Rattle.cvss_ffi.specs.Exact.{AnswersNumbers, AnswersRounded, AnswersTemporal};
 
 use cvss_ffi::exact::{put_numbers, put_rounded, put_temporal};
 use cvss_ffi::{CvssNumber, CvssNumbers};
 
-/// Whether the version is 20, 30 or 31 and metrics make a vector of it, which may lack any: components
-/// joined by slashes, in any order and each once; then the vector's scores, in tenths, and its exact
-/// sub-scores. Else the numbers are left as they were. It takes no memory.
+/// Whether the version is 20, 30 or 31 and metrics make a vector of it, which may lack any:
+/// components joined by slashes, in any order and each once; then the vector's scores, in tenths,
+/// and its exact sub-scores.
 #[unsafe(no_mangle)]
 pub extern "C" fn cvss_numbers(version: i32, metrics: &[u8], numbers: &mut CvssNumbers) -> bool
     ensures { AnswersNumbers version metrics.now numbers.old numbers.new result }
@@ -15,9 +16,8 @@ pub extern "C" fn cvss_numbers(version: i32, metrics: &[u8], numbers: &mut CvssN
     put_numbers(version, metrics, numbers)
 }
 
-/// Whether the version is 20, 30 or 31 and the number's parts are within their bounds; then the tenths of
-/// the number, rounded as the version rounds scores. Else the tenths are left as they were. It takes no
-/// memory.
+/// Whether the version is 20, 30 or 31 and the number's parts are within their bounds; then the
+/// tenths of the number, rounded as the version rounds scores.
 #[unsafe(no_mangle)]
 pub extern "C" fn cvss_rounded(version: i32, number: &CvssNumber, tenths: &mut i32) -> bool
     ensures { AnswersRounded version number.now tenths.old tenths.new result }
@@ -25,9 +25,9 @@ pub extern "C" fn cvss_rounded(version: i32, number: &CvssNumber, tenths: &mut i
     put_rounded(version, number, tenths)
 }
 
-/// Whether metrics make a vector of CVSS v2, as for `cvss_numbers`, and the impact's parts are within
-/// their bounds; then the tenths of the temporal score with this impact in place of the vector's own,
-/// which may be below 0. Else the tenths are left as they were. It takes no memory.
+/// Whether metrics make a vector of CVSS v2, as for `cvss_numbers`, and the impact's parts are
+/// within their bounds; then the tenths of the temporal score with this impact in place of the
+/// vector's own, which may be below 0.
 #[unsafe(no_mangle)]
 pub extern "C" fn cvss_temporal_with_impact(
     metrics: &[u8],

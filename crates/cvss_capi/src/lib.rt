@@ -1,7 +1,11 @@
-//! CVSS vectors for C: read, printed and scored by functions over bytes, each proved up to the call.
+//! CVSS vectors for C: read, printed and scored by functions over bytes, each proved up to the
+//! call.
 //!
-//! A text is a pointer and a length. A text that is answered goes into a buffer of the caller, which
-//! is left as it was where it is too small. No function takes memory.
+//! A text is a pointer and a length. A function that takes a buffer writes its result at the
+//! beginning of the buffer where it fits, leaves the buffer as it was where it does not, and
+//! returns the result's length either way. Where there is no result, as of a text that denotes no
+//! vector, the function returns 0 or false and leaves what it would write as it was. No function
+//! takes memory.
 #![tactic(auto)]
 
 mod exact;

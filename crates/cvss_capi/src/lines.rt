@@ -1,8 +1,7 @@
 //! What C is reported of lines, and of texts with vectors in them.
 
-ghost use Rattle.std.specs.Prelude.{ℕ, List};
 ghost use Rattle.cvss_ffi.specs.Answers.{IsAnswer};
-ghost use Rattle.cvss_ffi.specs.Buffer.{IsWritten};
+ghost use Rattle.cvss_ffi.specs.Buffer.{Writes};
 ghost use Rattle.cvss_ffi.specs.Lines.{AnswersLines};
 ghost use Rattle.cvss_ffi.specs.Mentioned.{AnswersMention};
 
@@ -10,20 +9,18 @@ use cvss_ffi::answer::put_answer_to;
 use cvss_ffi::lines::put_answers;
 use cvss_ffi::mentioned::put_mention;
 
-/// The length of the line that the program answers to a text, without the byte 10 that ends it; it
-/// is written into the buffer where it fits. It takes no memory.
+/// The line that the program answers to a text, without the byte 10 that ends it.
 #[unsafe(no_mangle)]
 pub extern "C" fn cvss_answer(text: &[u8], buffer: &mut [u8]) -> usize
-    ensures { (answer : List ℕ) × IsAnswer text.now answer
-        × IsWritten answer buffer.old buffer.new result }
+    ensures { Writes (IsAnswer text.now) buffer.old buffer.new result }
 {
     put_answer_to(text, buffer)
 }
 
-/// The answers to many texts, each ended by a byte 10, which one byte 13 may precede. Each answer is
-/// ended by a byte 10, as the program writes them. As many are written into the buffer, one after
-/// the other, as have room in it; their length is reported, and in `read` how many bytes of the texts
-/// they answer. What follows the last byte 10 is not read. It takes no memory.
+/// The answers to many texts, each ended by a byte 10, which one byte 13 may precede. Each answer
+/// is ended by a byte 10, as the program writes them. As many are written, one after the other, as
+/// have room in the buffer; their length is returned, and in `read` how many bytes of the texts
+/// they answer. What follows the last byte 10 is not read.
 #[unsafe(no_mangle)]
 pub extern "C" fn cvss_answers(texts: &[u8], buffer: &mut [u8], read: &mut usize) -> usize
     ensures { AnswersLines texts.now buffer.old buffer.new read.new result }
@@ -35,8 +32,7 @@ pub extern "C" fn cvss_answers(texts: &[u8], buffer: &mut [u8], read: &mut usize
 
 /// Whether a vector is mentioned in any text from a byte on; then where the first mention begins,
 /// counted from 0 in the whole text, and its length. A mention denotes a vector, or begins with
-/// `CVSS:`, has a slash and is refused. Where there is none, the numbers are left as they were. It
-/// takes no memory.
+/// `CVSS:`, has a slash and is refused.
 #[unsafe(no_mangle)]
 pub extern "C" fn cvss_find(
     text: &[u8],

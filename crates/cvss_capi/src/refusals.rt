@@ -1,31 +1,27 @@
 //! What C is reported of a text, or of overrides, that are refused.
 
-ghost use Rattle.std.specs.Prelude.{◌≡◌, ℕ, List, pos};
+ghost use Rattle.std.specs.Prelude.{◌≡◌, pos};
 ghost use Rattle.cvss_any.specs.Reasons.{IsReason};
-ghost use Rattle.cvss_ffi.specs.Answers.{Answers};
-ghost use Rattle.cvss_ffi.specs.Buffer.{IsLeft, IsWritten};
+ghost use Rattle.cvss_ffi.specs.Answers.{Answers, WritesOrWhy, WritesRefusal};
 ghost use Rattle.cvss_ffi.specs.Overriding.{IsOverrideReason, IsWithOverrides};
 ghost use Rattle.cvss_ffi.specs.Refusals.{IsReportedKind, IsKind, IsQuoted};
-ghost use Rattle.cvss_ffi.specs.Setting.{AnswersNew};
+ghost use Rattle.cvss_ffi.specs.Setting.{WritesWhyNot};
 
 use cvss_ffi::overriding::put_override_reason;
 use cvss_ffi::refusal::{kind_of, put_quoted, put_reason, put_reported_kind};
 
-/// The length of the reason why a text is refused, which is written into the buffer where it fits;
-/// 0 where the text denotes a vector. It takes no memory.
+/// Why a text denotes no vector.
 #[unsafe(no_mangle)]
 pub extern "C" fn cvss_reason(text: &[u8], buffer: &mut [u8]) -> usize
-    ensures { Answers text.now (λ _. IsLeft buffer.old buffer.new result)
-        ((reason : List ℕ) × IsReason text.now reason
-        × IsWritten reason buffer.old buffer.new result) }
+    ensures { WritesRefusal text.now (IsReason text.now) buffer.old buffer.new result }
 {
     put_reason(text, buffer)
 }
 
-/// The kind of refusal that a text gets: 1 for a piece that is no component, 2 for a wrong prefix, 3
-/// for a version that is not supported, 4 for an unknown metric, 5 for a value that the metric does
-/// not have, 6 for a metric that occurs twice, 7 for a metric that is missing, 8 for a text that is
-/// not UTF-8. 0 where the text denotes a vector. It takes no memory.
+/// The kind of refusal that a text gets: 1 for a piece that is no component, 2 for a wrong prefix,
+/// 3 for a version that is not supported, 4 for an unknown metric, 5 for a value that the metric
+/// does not have, 6 for a metric that occurs twice, 7 for a metric that is missing, 8 for a text
+/// that is not UTF-8. 0 where the text denotes a vector.
 #[unsafe(no_mangle)]
 pub extern "C" fn cvss_refusal_kind(text: &[u8]) -> i32
     ensures { Answers text.now (λ _. result ≡ pos 0) (IsKind text.now result) }
@@ -33,42 +29,29 @@ pub extern "C" fn cvss_refusal_kind(text: &[u8]) -> i32
     kind_of(text)
 }
 
-/// The length of the abbreviation of the metric that a refusal of the kinds 5 to 7 names, which is
-/// written into the buffer where it fits; 0 for the other kinds, and where the text denotes a
-/// vector. It takes no memory.
+/// The abbreviation of the metric that a refusal of the kinds 5 to 7 names.
 #[unsafe(no_mangle)]
 pub extern "C" fn cvss_refusal_metric(text: &[u8], buffer: &mut [u8]) -> usize
-    ensures { Answers text.now (λ _. IsLeft buffer.old buffer.new result)
-        ((name : List ℕ) × IsReportedKind text.now name
-        × IsWritten name buffer.old buffer.new result) }
+    ensures { WritesRefusal text.now (IsReportedKind text.now) buffer.old buffer.new result }
 {
     put_reported_kind(text, buffer)
 }
 
-/// The length of the part of the text that the reason quotes, as the reason has it: the component, the
-/// prefix, the version, the name or the value. It is written into the buffer where it fits; 0 where the
-/// reason quotes none, and where the text denotes a vector. It takes no memory.
+/// The part of the text that the reason quotes, as the reason has it: the component, the prefix,
+/// the version, the name or the value.
 #[unsafe(no_mangle)]
 pub extern "C" fn cvss_refusal_value(text: &[u8], buffer: &mut [u8]) -> usize
-    ensures { Answers text.now (λ _. IsLeft buffer.old buffer.new result)
-        ((part : List ℕ) × IsQuoted text.now part
-        × IsWritten part buffer.old buffer.new result) }
+    ensures { WritesRefusal text.now (IsQuoted text.now) buffer.old buffer.new result }
 {
     put_quoted(text, buffer)
 }
 
-/// The length of the reason why `cvss_overridden` answers 0: why the text denotes no vector, that it
-/// is none of CVSS v4.0, or what is wrong with the first override that is refused. It is written into
-/// the buffer where it fits. 0 where the overrides are put into the vector. It takes no memory.
+/// Why `cvss_overridden` returns 0: why the text denotes no vector, that it is none of CVSS v4.0,
+/// or what is wrong with the first override that is refused.
 #[unsafe(no_mangle)]
 pub extern "C" fn cvss_override_reason(text: &[u8], overrides: &[u8], buffer: &mut [u8]) -> usize
-    ensures { Answers text.now
-        (λ cvss. AnswersNew (IsWithOverrides cvss overrides.now)
-        (λ _. IsLeft buffer.old buffer.new result)
-        ((reason : List ℕ) × IsOverrideReason cvss overrides.now reason
-        × IsWritten reason buffer.old buffer.new result))
-        ((reason : List ℕ) × IsReason text.now reason
-        × IsWritten reason buffer.old buffer.new result) }
+    ensures { WritesOrWhy text.now (λ cvss. WritesWhyNot (IsWithOverrides cvss overrides.now)
+        (IsOverrideReason cvss overrides.now)) buffer.old buffer.new result }
 {
     put_override_reason(text, overrides, buffer)
 }

@@ -1,17 +1,17 @@
 //! What C is reported of the vector that a text denotes.
 
-ghost use Rattle.std.specs.Prelude.{◌≡◌, ℕ, List, None, length, true, false};
+ghost use Rattle.std.specs.Prelude.{◌≡◌, None, length, true, false};
 ghost use Rattle.cvss_explain.specs.Explanation.{IsExplanationText};
 ghost use Rattle.cvss_any.specs.Answers.{IsScoreOf, text_of};
 ghost use Rattle.cvss_any.specs.Dispatch.{DenotesCvss};
 ghost use Rattle.cvss_any.specs.declared.vector.Cvss.{Cvss};
-ghost use Rattle.cvss_ffi.specs.Answers.{Answers};
-ghost use Rattle.cvss_ffi.specs.Buffer.{IsLeft, IsWritten};
+ghost use Rattle.cvss_ffi.specs.Answers.{Answers, WritesOf};
+ghost use Rattle.cvss_ffi.specs.Buffer.{IsWritten, Writes};
 ghost use Rattle.cvss_ffi.specs.Defined.{IsWithoutUndefined};
 ghost use Rattle.cvss_ffi.specs.Metrics.{metrics_in_order};
 ghost use Rattle.cvss_ffi.specs.Overriding.{IsWithOverrides};
 ghost use Rattle.cvss_ffi.specs.Scores.{AnswersScoresBy, AreScoresOf, IsRatingNumber, IsScoreInTenths, nothing, version_number as number_of_version};
-ghost use Rattle.cvss_ffi.specs.Setting.{AnswersNew};
+ghost use Rattle.cvss_ffi.specs.Setting.{WritesNew, WritesVector};
 ghost use Rattle.cvss_ffi.specs.Values.{AreValuesOf};
 ghost use Rattle.cvss_json_record.specs.Record.{IsRecordText};
 
@@ -22,23 +22,18 @@ use cvss_ffi::metrics::put_metrics;
 use cvss_ffi::numbers::{NOTHING, rating_number, version_number};
 use cvss_ffi::objects::{put_explanation, put_record};
 use cvss_ffi::overriding::put_overridden;
-use cvss_ffi::scores::{put_scores_by, score_of};
+use cvss_ffi::scores::put_scores_by;
 use cvss_ffi::{CvssMetric, CvssScores, CvssScoresBy, CvssValues};
 
 /// The version of the vector that a text denotes, as 20, 30, 31 or 40; -1 where it denotes none.
-/// It takes no memory.
 #[unsafe(no_mangle)]
 pub extern "C" fn cvss_version(text: &[u8]) -> i32
     ensures { Answers text.now (λ cvss. result ≡ number_of_version cvss) (result ≡ nothing) }
 {
-    match Cvss::read_bytes(text) {
-        Some(cvss) => version_number(&cvss),
-        None => NOTHING,
-    }
+    Cvss::read_bytes(text).map_or(NOTHING, |cvss| version_number(&cvss))
 }
 
-/// Whether a text denotes a vector, and the vector's scores. Where it denotes none, the scores are
-/// left as they were. It takes no memory.
+/// Whether a text denotes a vector; then the vector's scores.
 #[unsafe(no_mangle)]
 pub extern "C" fn cvss_scores(text: &[u8], scores: &mut CvssScores) -> bool
     ensures { Answers text.now (λ cvss. (result ≡ true) × AreScoresOf cvss scores.new)
@@ -53,17 +48,20 @@ pub extern "C" fn cvss_scores(text: &[u8], scores: &mut CvssScores) -> bool
     }
 }
 
-/// The tenths of the published score of the vector that a text denotes, in CVSS v2 and v3 the base score;
-/// -1 where it denotes none. No other score is computed. It takes no memory.
+/// The tenths of the published score of the vector that a text denotes, in CVSS v2 and v3 the base
+/// score; -1 where it denotes none. No other score is computed.
 #[unsafe(no_mangle)]
 pub extern "C" fn cvss_score(text: &[u8]) -> i32
     ensures { Answers text.now (λ cvss. IsScoreInTenths (IsScoreOf cvss) result) (result ≡ nothing) }
 {
-    score_of(text)
+    match Cvss::read_bytes(text) {
+        Some(cvss) => i32::from(cvss.tenths()),
+        None => NOTHING,
+    }
 }
 
-/// Whether a text denotes a vector; then the vector's version, its published score, its nomenclature and the
-/// values of its metrics. Where it denotes none, the values are left as they were. It takes no memory.
+/// Whether a text denotes a vector; then its version, its published score, its nomenclature and the
+/// values of its metrics.
 #[unsafe(no_mangle)]
 pub extern "C" fn cvss_values(text: &[u8], values: &mut CvssValues) -> bool
     ensures { Answers text.now (λ cvss. (result ≡ true) × AreValuesOf cvss values.new)
@@ -78,9 +76,8 @@ pub extern "C" fn cvss_values(text: &[u8], values: &mut CvssValues) -> bool
     }
 }
 
-/// Whether a text denotes a vector of CVSS v4.0; then the tenths of its scores by nomenclature, CVSS-B,
-/// CVSS-BE, CVSS-BT and CVSS-BTE. Where it denotes none, the numbers are left as they were. It takes no
-/// memory.
+/// Whether a text denotes a vector of CVSS v4.0; then the tenths of its scores by nomenclature,
+/// CVSS-B, CVSS-BE, CVSS-BT and CVSS-BTE.
 #[unsafe(no_mangle)]
 pub extern "C" fn cvss_nomenclature_scores(text: &[u8], scores: &mut CvssScoresBy) -> bool
     ensures { Answers text.now (λ cvss. AnswersScoresBy cvss scores.old scores.new result)
@@ -92,8 +89,8 @@ pub extern "C" fn cvss_nomenclature_scores(text: &[u8], scores: &mut CvssScoresB
     }
 }
 
-/// The number of the rating of so many tenths by the bounds of a version, 20, 30, 31 or 40; -1 of another
-/// version, and of tenths outside 0 to 100. It takes no memory.
+/// The number of the rating of so many tenths by the bounds of a version, 20, 30, 31 or 40; -1 of
+/// another version, and of tenths outside 0 to 100.
 #[unsafe(no_mangle)]
 pub extern "C" fn cvss_rating(version: i32, tenths: i32) -> i32
     ensures { IsRatingNumber version tenths result }
@@ -101,14 +98,11 @@ pub extern "C" fn cvss_rating(version: i32, tenths: i32) -> i32
     rating_number(version, tenths)
 }
 
-/// The length of the canonical text of the vector that a text denotes, which is written into the
-/// buffer where it fits; 0 where the text denotes none. The canonical text is as long as the text.
-/// It takes no memory.
+/// The canonical text of the vector that a text denotes, which is as long as the text.
 #[unsafe(no_mangle)]
 pub extern "C" fn cvss_canonical(text: &[u8], buffer: &mut [u8]) -> usize
-    ensures canonical { Answers text.now
-        (λ cvss. IsWritten (text_of cvss) buffer.old buffer.new result)
-        (IsLeft buffer.old buffer.new result) }
+    ensures canonical { WritesOf text.now (λ cvss. IsWritten (text_of cvss))
+        buffer.old buffer.new result }
     ensures length { (cvss : Cvss) → DenotesCvss text.now cvss → result ≡ length text.now }
 {
     match put_canonical_of(text, buffer) {
@@ -117,17 +111,13 @@ pub extern "C" fn cvss_canonical(text: &[u8], buffer: &mut [u8]) -> usize
     }
 }
 
-/// What `cvss_scores` and `cvss_canonical` answer, in one call: the length of the canonical text of
-/// the vector that a text denotes, which is written into the buffer where it fits, and the vector's
-/// scores. 0 where the text denotes none, and then the scores are left as they were. It takes no
-/// memory.
+/// What `cvss_scores` and `cvss_canonical` answer, in one call.
 #[unsafe(no_mangle)]
 pub extern "C" fn cvss_read(text: &[u8], scores: &mut CvssScores, buffer: &mut [u8]) -> usize
     ensures scores { Answers text.now (λ cvss. AreScoresOf cvss scores.new)
         (scores.new ≡ scores.old) }
-    ensures canonical { Answers text.now
-        (λ cvss. IsWritten (text_of cvss) buffer.old buffer.new result)
-        (IsLeft buffer.old buffer.new result) }
+    ensures canonical { WritesOf text.now (λ cvss. IsWritten (text_of cvss))
+        buffer.old buffer.new result }
     ensures length { (cvss : Cvss) → DenotesCvss text.now cvss → result ≡ length text.now }
 {
     match put_canonical_of(text, buffer) {
@@ -139,13 +129,12 @@ pub extern "C" fn cvss_read(text: &[u8], scores: &mut CvssScores, buffer: &mut [
     }
 }
 
-/// How many metrics the vector has that a text denotes; they are written into the array, in the order
-/// of the vector's canonical text, where they fit. 0 where the text denotes none. It takes no memory.
+/// How many metrics the vector has that a text denotes; they are written into the array, in the
+/// order of the vector's canonical text, where they fit.
 #[unsafe(no_mangle)]
 pub extern "C" fn cvss_metrics(text: &[u8], metrics: &mut [CvssMetric]) -> usize
-    ensures { Answers text.now
-        (λ cvss. IsWritten (metrics_in_order cvss) metrics.old metrics.new result)
-        (IsLeft metrics.old metrics.new result) }
+    ensures { WritesOf text.now (λ cvss. IsWritten (metrics_in_order cvss))
+        metrics.old metrics.new result }
 {
     match Cvss::read_bytes(text) {
         Some(cvss) => put_metrics(&cvss, metrics),
@@ -153,15 +142,12 @@ pub extern "C" fn cvss_metrics(text: &[u8], metrics: &mut [CvssMetric]) -> usize
     }
 }
 
-/// The length of the canonical text, less the metrics that are not defined, of the vector that a text
-/// denotes; it is written into the buffer where it fits. Where no metric is defined, which may be in
-/// CVSS v3 alone, all are kept. 0 where the text denotes none. It takes no memory.
+/// The canonical text of the vector that a text denotes, without the metrics that are not defined.
+/// Where no metric is defined, which may be in CVSS v3 alone, all are kept.
 #[unsafe(no_mangle)]
 pub extern "C" fn cvss_without_undefined(text: &[u8], buffer: &mut [u8]) -> usize
-    ensures { Answers text.now
-        (λ cvss. (new : Cvss) × IsWithoutUndefined cvss new
-        × IsWritten (text_of new) buffer.old buffer.new result)
-        (IsLeft buffer.old buffer.new result) }
+    ensures { WritesOf text.now (λ cvss. WritesVector (IsWithoutUndefined cvss))
+        buffer.old buffer.new result }
 {
     match Cvss::read_bytes(text) {
         Some(cvss) => put_without_undefined(&cvss, buffer),
@@ -169,17 +155,13 @@ pub extern "C" fn cvss_without_undefined(text: &[u8], buffer: &mut [u8]) -> usiz
     }
 }
 
-/// The length of the canonical text of the vector of CVSS v4.0 that a text denotes, with overrides in
-/// place: components of environmental metrics, in any order and any ASCII case, each once, joined by
-/// slashes. It is written into the buffer where it fits. 0 where the text denotes no vector of CVSS
-/// v4.0, and where an override is refused. It takes no memory.
+/// The canonical text of the vector of CVSS v4.0 that a text denotes, with overrides in place:
+/// components of environmental metrics, in any order and any ASCII case, each once, joined by
+/// slashes.
 #[unsafe(no_mangle)]
 pub extern "C" fn cvss_overridden(text: &[u8], overrides: &[u8], buffer: &mut [u8]) -> usize
-    ensures { Answers text.now
-        (λ cvss. AnswersNew (IsWithOverrides cvss overrides.now)
-        (λ new. IsWritten (text_of new) buffer.old buffer.new result)
-        (IsLeft buffer.old buffer.new result))
-        (IsLeft buffer.old buffer.new result) }
+    ensures { WritesOf text.now (λ cvss. WritesNew (IsWithOverrides cvss overrides.now))
+        buffer.old buffer.new result }
 {
     match Cvss::read_bytes(text) {
         Some(cvss) => put_overridden(&cvss, overrides, buffer),
@@ -187,15 +169,11 @@ pub extern "C" fn cvss_overridden(text: &[u8], overrides: &[u8], buffer: &mut [u
     }
 }
 
-/// The length of the record of the vector that a text denotes, the JSON object of FIRST's schema of
-/// its version, which is written into the buffer where it fits; 0 where the text denotes none. It takes
-/// no memory.
+/// The record of the vector that a text denotes, the JSON object of FIRST's schema of its version.
 #[unsafe(no_mangle)]
 pub extern "C" fn cvss_record(text: &[u8], buffer: &mut [u8]) -> usize
-    ensures { Answers text.now
-        (λ cvss. (written : List ℕ) × IsRecordText cvss written
-        × IsWritten written buffer.old buffer.new result)
-        (IsLeft buffer.old buffer.new result) }
+    ensures { WritesOf text.now (λ cvss. Writes (IsRecordText cvss))
+        buffer.old buffer.new result }
 {
     match Cvss::read_bytes(text) {
         Some(cvss) => put_record(&cvss, buffer),
@@ -203,14 +181,11 @@ pub extern "C" fn cvss_record(text: &[u8], buffer: &mut [u8]) -> usize
     }
 }
 
-/// The length of the explanation of the score of the vector that a text denotes, a JSON object, which is
-/// written into the buffer where it fits; 0 where the text denotes none. It takes no memory.
+/// The explanation of the score of the vector that a text denotes, a JSON object.
 #[unsafe(no_mangle)]
 pub extern "C" fn cvss_account(text: &[u8], buffer: &mut [u8]) -> usize
-    ensures { Answers text.now
-        (λ cvss. (explanation : List ℕ) × IsExplanationText None cvss explanation
-        × IsWritten explanation buffer.old buffer.new result)
-        (IsLeft buffer.old buffer.new result) }
+    ensures { WritesOf text.now (λ cvss. Writes (IsExplanationText None cvss))
+        buffer.old buffer.new result }
 {
     match Cvss::read_bytes(text) {
         Some(cvss) => put_explanation(&cvss, buffer),

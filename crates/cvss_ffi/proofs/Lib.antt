@@ -5,5 +5,4 @@ pub mod LengthLemmas
 pub mod LinesLemmas
 pub mod ObjectionLemmas
 pub mod RefusalLemmas
-pub mod RejectionLemmas
 pub mod UndefinedLemmas

@@ -1,62 +1,37 @@
--- What is wrong with the first of some overrides is wrong with all of them, and no vector has more than fourteen.
-use Rattle.std.proofs.Common.{◌≡◌, ◌≤◌, ◌<◌, ℕ, suc, Bool, true, false, List, [], ◌∷◌, length, take, Option, Some, None, IsSome, if◌then◌else◌, inl, inr, refl, sym, ap, subst, ◌∙◌, arith}
+-- What is wrong with the first of some overrides is wrong with all of them, and no vector has more than 32 metrics.
+use Rattle.std.proofs.Common.{◌≡◌, ◌≤◌, ◌<◌, ℕ, suc, List, [], ◌∷◌, length, take, Option, Some, None, inl, inr, refl, sym, ap, subst, ◌∙◌, arith}
 use Rattle.std.specs.List.{cons_option, filter_map}
-use Rattle.std.specs.Option.{option_map}
 use Rattle.std.proofs.lemmas.List.{get_or-take, length-map, length-take, length-take-le, take_all}
 use Rattle.std.proofs.lemmas.List.Sorted.{length_permutation}
 use Rattle.std.proofs.lemmas.Bool.{cases_lt}
-use Rattle.cvss_base.specs.Groups.{same_group}
-use Rattle.cvss_base.specs.declared.group.MetricGroup.TheVariants.{Environmental}
 use Rattle.cvss_base.specs.declared.v4.MetricType.{MetricType}
 use Rattle.cvss_v4.specs.Overriding.{AreOverrides, IsFirstObjection, Objection, NamesOther, ObjectionAt, OfOtherGroup, OfText}
 use Rattle.cvss_base.specs.Refusal.{BadComponent, BadValue, FaultAt, IsNamedBefore, Spells, Missing, Refusal, Repeated, UnknownName, WrongPrefix, WrongVersion, name_at, piece_at, value_at}
 use Rattle.cvss_base.specs.Text.{IsComponent, name_part, pieces, value_part}
-use Rattle.cvss_base.specs.V4Types.{group_of}
 use Rattle.cvss_v4.specs.declared.vector.Vector.{Vector}
 use Rattle.cvss_v4.specs.Vector.{v4}
 use Rattle.cvss_ffi.specs.Overriding.{overrides_in}
 use Rattle.cvss_base.specs.Version.{component_of, components_of, read, reading}
 
--- whether a metric is an environmental one
-abbrev is_environmental : MetricType → Bool
-is_environmental kind = same_group (group_of kind) Environmental
+one_more : {X : Type 0} (part : Option X) (parts : List X) (n : ℕ) → length parts ≤ n → length (cons_option part parts) ≤ suc n
+one_more None parts n fits = omega arith
+one_more (Some part) parts n fits = omega arith
 
-environmental_is : (kind : MetricType) → group_of kind ≡ Environmental → is_environmental kind ≡ true
-environmental_is kind is = ap (λ group. same_group group Environmental) is
+components-most : (v : Vector) (kinds : List MetricType) → length (filter_map (component_of v4 v) kinds) ≤ length kinds
+components-most v [] = omega arith
+components-most v (kind ∷ kinds) = one_more (component_of v4 v kind) (filter_map (component_of v4 v) kinds) (length kinds) (components-most v kinds)
 
--- how many of these metrics are environmental ones
-abbrev count : List MetricType → ℕ
-count [] = 0
-count (kind ∷ kinds) = if is_environmental kind then suc (count kinds) else count kinds
-
-counted : (part : Option (List ℕ)) (is : Bool) (parts : List (List ℕ)) (n : ℕ) → (IsSome part → is ≡ true) → length parts ≤ n → length (cons_option part parts) ≤ (if is then suc n else n)
-counted None true parts n only fits = omega arith
-counted None false parts n only fits = fits
-counted (Some part) true parts n only fits = omega arith
-counted (Some part) false parts n only fits = absurd (let no : false ≡ true = only refl in cc)
-
-module _ (texts : List (List ℕ)) (v : Vector) (are : AreOverrides texts v) where
-  has_value : {A B C : Type 0} (f : B → C) (g : A → B) (o : Option A) → IsSome (option_map f (option_map g o)) → IsSome o
-  has_value f g None some = some
-  has_value f g (Some value) some = refl
-
-  counted_all : (kinds : List MetricType) → length (filter_map (component_of v4 v) kinds) ≤ count kinds
-  counted_all [] = omega arith
-  counted_all (kind ∷ kinds) =
-      counted (component_of v4 v kind) (is_environmental kind) (filter_map (component_of v4 v) kinds) (count kinds)
-      (λ some. environmental_is kind (are.environmental.each kind (has_value _ _ _ some))) (counted_all kinds)
-
-  pub overrides-most : length texts ≤ 14
-  overrides-most =
-      let fourteen : count v4.printed ≡ 14 = refl in
-      omega (
-        arith,
-        length_permutation _ _ are.components.each_once,
-        length-map texts (read v4),
-        length-map (components_of v4 v) (read v4),
-        counted_all v4.printed,
-        fourteen,
-      )
+pub overrides-most : (texts : List (List ℕ)) (v : Vector) → AreOverrides texts v → length texts ≤ 32
+overrides-most texts v are =
+    let all : length v4.printed ≡ 32 = refl in
+    omega (
+      arith,
+      length_permutation _ _ are.components.each_once,
+      length-map texts (read v4),
+      length-map (components_of v4 v) (read v4),
+      components-most v v4.printed,
+      all,
+    )
 
 module _ (xs ys : List (List ℕ)) (place : ℕ) (same : (k : ℕ) → k ≤ place → piece_at xs k ≡ piece_at ys k) where
   name_same : (k : ℕ) → k ≤ place → name_at v4 xs k ≡ name_at v4 ys k
@@ -99,34 +74,34 @@ module _ (xs ys : List (List ℕ)) (place : ℕ) (same : (k : ℕ) → k ≤ pla
   objection_same (OfText (Missing kind)) (is, none, fault) = absurd fault
 
 module _ (texts : List (List ℕ)) where
-  first_same : (k : ℕ) → k < 15 → piece_at (take 15 texts) k ≡ piece_at texts k
-  first_same k within = get_or-take 15 texts k [] within
+  first_same : (k : ℕ) → k < 33 → piece_at (take 33 texts) k ≡ piece_at texts k
+  first_same k within = get_or-take 33 texts k [] within
 
   -- the first override of the first ones with which something is wrong
-  pub first_objection : (index : ℕ) (objection : Objection) → IsFirstObjection (take 15 texts) index objection → IsFirstObjection texts index objection
+  pub first_objection : (index : ℕ) (objection : Objection) → IsFirstObjection (take 33 texts) index objection → IsFirstObjection texts index objection
   first_objection index objection first =
-      let within : index < 15 = omega (arith, first.within, length-take 15 texts) in
+      let within : index < 33 = omega (arith, first.within, length-take 33 texts) in
       record {
-        within = omega (arith, first.within, length-take 15 texts);
-        is = objection_same (take 15 texts) texts index (λ k before. first_same k (omega (arith, before, within))) objection first.is;
+        within = omega (arith, first.within, length-take 33 texts);
+        is = objection_same (take 33 texts) texts index (λ k before. first_same k (omega (arith, before, within))) objection first.is;
         earlier = record {
           none = λ earlier objection below at. first.earlier.none earlier objection below
-              (objection_same texts (take 15 texts) earlier (λ k before. sym (first_same k (omega (arith, before, below, within)))) objection at);
+              (objection_same texts (take 33 texts) earlier (λ k before. sym (first_same k (omega (arith, before, below, within)))) objection at);
         };
       }
 
   -- overrides are no more than the first ones
-  pub first_overrides : (v : Vector) → AreOverrides (take 15 texts) v → AreOverrides texts v
+  pub first_overrides : (v : Vector) → AreOverrides (take 33 texts) v → AreOverrides texts v
   first_overrides v are =
-      let most = overrides-most (take 15 texts) v are in
-      elim (cases_lt 14 (length texts)) [
-        | inl more ↦ absurd (omega (arith, most, length-take-le 15 texts (omega (arith, more))))
-        | inr fits ↦ subst (λ each. AreOverrides each v) (take_all 15 texts (omega (arith, fits))) are
+      let most = overrides-most (take 33 texts) v are in
+      elim (cases_lt 32 (length texts)) [
+        | inl more ↦ absurd (omega (arith, most, length-take-le 33 texts (omega (arith, more))))
+        | inr fits ↦ subst (λ each. AreOverrides each v) (take_all 33 texts (omega (arith, fits))) are
       ]
 
-  pub all_overrides : (v : Vector) → AreOverrides texts v → AreOverrides (take 15 texts) v
+  pub all_overrides : (v : Vector) → AreOverrides texts v → AreOverrides (take 33 texts) v
   all_overrides v are =
-      subst (λ each. AreOverrides each v) (sym (take_all 15 texts (omega (arith, overrides-most texts v are)))) are
+      subst (λ each. AreOverrides each v) (sym (take_all 33 texts (omega (arith, overrides-most texts v are)))) are
 
 -- the overrides of a text that is not empty are its pieces
 pub overrides_in-some : (text : List ℕ) → 0 < length text → pieces text ≡ overrides_in text

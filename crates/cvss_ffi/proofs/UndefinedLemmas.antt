@@ -1,5 +1,5 @@
 -- What is not defined counts as what is absent.
-use Rattle.std.proofs.Common.{◌≡◌, ◌⊎◌, inl, inr, ℕ, Bool, true, false, List, codes, Option, Some, None, IfSome, bytes_eq, if◌then◌else◌, refl, sym, ap}
+use Rattle.std.proofs.Common.{◌≡◌, ◌⊎◌, inl, inr, ℕ, Bool, true, false, List, codes, Option, Some, None, IfSome, bytes_eq, if◌then◌else◌, refl, sym, ap, ◌∙◌}
 use Rattle.std.specs.Bool.{Decides}
 use Rattle.std.specs.Option.{option_map, option_map_or, option_and_then}
 use Rattle.std.proofs.lemmas.Slice.Eq.{bytes_eq-Decides}
@@ -24,14 +24,13 @@ module _ {X : Type 0} (spelling : X → List ℕ) where
   same_or_undefined undefined one None (Some y) held = absurd (let no : Some (spelling y) ≡ None = held in cc)
   same_or_undefined undefined one (Some x) p held = same_value undefined one x p (bytes_eq (spelling x) undefined) (bytes_eq-Decides (spelling x) undefined) held
 
-  same_letter_of : (x : X) (p : Option X) (out : Bool) → Decides out (spelling x ≡ codes "X") → option_map spelling p ≡ (if out then None else Some (spelling x)) → spelling x ≡ letter spelling p
-  same_letter_of x None true is_undefined held = is_undefined.0 refl
-  same_letter_of x (Some y) true is_undefined held = absurd (let no : Some (spelling y) ≡ None = held in cc)
-  same_letter_of x None false defined held = absurd (let no : None ≡ Some (spelling x) = held in cc)
-  same_letter_of x (Some y) false defined held = let some : Some (spelling y) ≡ Some (spelling x) = held in let texts : spelling y ≡ spelling x = cc in sym texts
+  undefined_letter : (o : Option X) → IfSome o (λ x. spelling x ≡ codes "X") → letter spelling o ≡ codes "X"
+  undefined_letter None is = refl
+  undefined_letter (Some x) is = is
 
   -- the letter is kept, where what is absent counts as X
-  pub same_letter : (o p : Option X) → option_map spelling p ≡ option_and_then (if_defined (codes "X")) (option_map spelling o) → letter spelling o ≡ letter spelling p
-  same_letter None None held = refl
-  same_letter None (Some y) held = absurd (let no : Some (spelling y) ≡ None = held in cc)
-  same_letter (Some x) p held = same_letter_of x p (bytes_eq (spelling x) (codes "X")) (bytes_eq-Decides (spelling x) (codes "X")) held
+  pub same_letter : ((x y : X) → spelling x ≡ spelling y → x ≡ y) → (o p : Option X) → option_map spelling p ≡ option_and_then (if_defined (codes "X")) (option_map spelling o) → letter spelling o ≡ letter spelling p
+  same_letter one o p held = elim (same_or_undefined (codes "X") one o p held) [
+    | inl same ↦ ap (letter spelling) same
+    | inr both ↦ undefined_letter o both.0 ∙ sym (undefined_letter p both.1)
+  ]

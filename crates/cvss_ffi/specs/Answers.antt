@@ -3,7 +3,8 @@ use Rattle.std.specs.Prelude.{◌≡◌, ℕ, ◌⊎◌, List}
 use Rattle.cvss_any.specs.Answers.{IsScoreOf, score_of_tenths, vector_answer}
 use Rattle.cvss_any.specs.declared.vector.Cvss.{Cvss}
 use Rattle.cvss_any.specs.Dispatch.{DenotesCvss}
-use Rattle.cvss_any.specs.Reasons.{IsErrorAnswer}
+use Rattle.cvss_any.specs.Reasons.{IsErrorAnswer, IsReason}
+use Rattle.cvss_ffi.specs.Buffer.{IsLeft, Writes}
 
 -- the text denotes a vector, of which this holds
 pub record IsAccepted (text : List ℕ) (IsOf : Cvss → Type 0) : Type 0 where
@@ -18,6 +19,18 @@ pub record IsRefused (text : List ℕ) : Type 0 where
 -- the one holds of the vector that the text denotes, or it denotes none and the other holds
 abbrev pub Answers : List ℕ → (Cvss → Type 0) → Type 0 → Type 0
 Answers text IsOf Otherwise = IsAccepted text IsOf ⊎ (IsRefused text × Otherwise)
+
+-- what is written of the vector that the text denotes; nothing, where it denotes none
+abbrev pub WritesOf : {X : Type 0} → List ℕ → (Cvss → List X → List X → ℕ → Type 0) → List X → List X → ℕ → Type 0
+WritesOf text IsOf old now reported = Answers text (λ cvss. IsOf cvss old now reported) (IsLeft old now reported)
+
+-- the same; and why it denotes none, where it does
+abbrev pub WritesOrWhy : List ℕ → (Cvss → List ℕ → List ℕ → ℕ → Type 0) → List ℕ → List ℕ → ℕ → Type 0
+WritesOrWhy text IsOf old now reported = Answers text (λ cvss. IsOf cvss old now reported) (Writes (IsReason text) old now reported)
+
+-- what is written where the text denotes no vector; nothing, where it denotes one
+abbrev pub WritesRefusal : List ℕ → (List ℕ → Type 0) → List ℕ → List ℕ → ℕ → Type 0
+WritesRefusal text IsText old now reported = Answers text (λ _. IsLeft old now reported) (Writes IsText old now reported)
 
 -- the vector's canonical text, its score of so many tenths, and the score's rating
 pub record IsAnswerOf (answer : List ℕ) (cvss : Cvss) : Type 0 where

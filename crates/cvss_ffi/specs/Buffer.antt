@@ -11,6 +11,10 @@ pub record IsWritten {X : Type 0} (text old now : List X) (reported : ℕ) : Typ
   pub reported_is : reported ≡ length text
   pub now_is : now ≡ if nat_le (length text) (length old) then begun text old else old
 
+-- a text of which this holds is written
+abbrev pub Writes : (List ℕ → Type 0) → List ℕ → List ℕ → ℕ → Type 0
+Writes IsText old now reported = (text : List ℕ) × IsText text × IsWritten text old now reported
+
 -- 0 is reported, and the buffer is left as it was
 pub record IsLeft {X : Type 0} (old now : List X) (reported : ℕ) : Type 0 where
   pub reported_is : reported ≡ 0

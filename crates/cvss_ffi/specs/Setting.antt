@@ -4,7 +4,9 @@ use Rattle.std.specs.Prelude.{◌≡◌, ◌≢◌, ◌⊎◌, ℕ, ℤ, pos, Li
 use Rattle.std.specs.Fmt.{decimal}
 use Rattle.std.specs.Str.{IsUtf8}
 use Rattle.cvss_base.specs.Refusal.{Refusal}
+use Rattle.cvss_any.specs.Answers.{text_of}
 use Rattle.cvss_any.specs.Reasons.{not_utf8_text, reason_text}
+use Rattle.cvss_ffi.specs.Buffer.{IsLeft, IsWritten, Writes}
 use Rattle.cvss_any.specs.Setting.{IsBuiltAs, IsBuiltReason, IsWith, IsWithReason}
 use Rattle.cvss_any.specs.declared.metric_type.MetricType.{MetricType}
 use Rattle.cvss_any.specs.declared.setting.Version.{Version}
@@ -40,6 +42,19 @@ pub record IsNoVector (IsIt : Cvss → Type 0) : Type 0 where
 -- the one holds of the vector, or there is none and the other holds
 abbrev pub AnswersNew : (Cvss → Type 0) → (Cvss → Type 0) → Type 0 → Type 0
 AnswersNew IsIt IsOf Otherwise = ((new : Cvss) × IsIt new × IsOf new) ⊎ (IsNoVector IsIt × Otherwise)
+
+-- the text of such a vector is written
+abbrev pub WritesVector : (Cvss → Type 0) → List ℕ → List ℕ → ℕ → Type 0
+WritesVector IsIt old now reported = (new : Cvss) × IsIt new × IsWritten (text_of new) old now reported
+
+-- the same; nothing, where there is none
+abbrev pub WritesNew : (Cvss → Type 0) → List ℕ → List ℕ → ℕ → Type 0
+WritesNew IsIt old now reported =
+    AnswersNew IsIt (λ new. IsWritten (text_of new) old now reported) (IsLeft old now reported)
+
+-- why there is no such vector is written; nothing, where there is one
+abbrev pub WritesWhyNot : (Cvss → Type 0) → (List ℕ → Type 0) → List ℕ → List ℕ → ℕ → Type 0
+WritesWhyNot IsIt IsWhy old now reported = AnswersNew IsIt (λ _. IsLeft old now reported) (Writes IsWhy old now reported)
 
 -- the words that name a metric, counted from 0
 abbrev pub metric_words : ℕ → List ℕ

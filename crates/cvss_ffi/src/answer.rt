@@ -3,43 +3,38 @@
 ghost use Rattle.std.specs.Prelude.{◌≤◌, ◌+◌, ◌++◌, ℕ, List, length};
 ghost use Rattle.cvss_any.specs.Answers.{HasScore};
 ghost use Rattle.cvss_ffi.specs.Answers.{IsAnswer, IsAnswerOf};
-ghost use Rattle.cvss_ffi.specs.Buffer.{IsWritten};
+ghost use Rattle.cvss_ffi.specs.Buffer.{IsWritten, Writes};
 ghost use Rattle.cvss_ffi.specs.private.Steps.{IsRated};
 
 use crate::buffer::write;
 use crate::message::write_message;
 use crate::refusal::read;
 use cvss_any::{Cvss, Message};
-use cvss_base::tenths::{tenths_of, text_of};
+use cvss_base::TENTH;
+use cvss_base::tenths::text_of;
 use cvss_json_names::put_vector;
 use cvss_json_write::Page;
 
-/// Writes the answer to a text at the beginning of a buffer where it fits, and returns its length.
+/// Writes the answer to a text.
 pub fn put_answer_to(text: &[u8], buffer: &mut [u8]) -> usize
-    ensures { (answer : List ℕ) × IsAnswer text.now answer
-        × IsWritten answer buffer.old buffer.new result }
+    ensures { Writes (IsAnswer text.now) buffer.old buffer.new result }
 {
     write_answer(text, &[], buffer)
 }
 
-/// Writes the answer to a text and an end at the beginning of a buffer where both fit, and returns their
-/// length.
+/// Writes the answer to a text, and an end.
 pub(crate) fn write_answer<'a>(text: &'a [u8], end: &'a [u8], buffer: &mut [u8]) -> usize
     requires { length end.now ≤ 1 }
     ensures { (answer : List ℕ) × IsAnswer text.now answer
         × IsWritten (answer ++ end.now) buffer.old buffer.new result }
 {
-    if let Some(cvss) = Cvss::read_canonical(text) {
-        return write_answer_of(&cvss, end, buffer);
-    }
     match read(text) {
         Ok(cvss) => write_answer_of(&cvss, end, buffer),
         Err(error) => write_message(b"error: ", Message::of(error).segments, end, buffer),
     }
 }
 
-/// Writes the answer of a vector and an end at the beginning of a buffer where both fit, and returns
-/// their length.
+/// Writes the answer of a vector, and an end.
 fn write_answer_of(cvss: &Cvss, end: &[u8], buffer: &mut [u8]) -> usize
     requires scored { HasScore cvss.now }
     requires short { length end.now ≤ 1 }
@@ -63,6 +58,7 @@ fn rated(cvss: &Cvss) -> (&'static str, &'static str)
     ensures rated { IsRated cvss.now result.0.now result.1.now }
     ensures bound { length result.0.now + length result.1.now ≤ 12 }
 {
-    let score = cvss.score();
-    (text_of(tenths_of(score)), cvss.severity_of(score).as_str())
+    let tenths = cvss.tenths();
+    let score = i128::from(tenths) * TENTH;
+    (text_of(tenths), cvss.severity_of(score).as_str())
 }

@@ -1,18 +1,20 @@
 //! The canonical text of a vector.
 
-ghost use Rattle.std.specs.Prelude.{◌≡◌, IfNone, IfSome, length};
+ghost use Rattle.std.specs.Prelude.{◌≡◌, [], ◌∷◌, IfNone, IfSome, length};
 ghost use Rattle.cvss_any.specs.Answers.{HasScore, text_of};
 ghost use Rattle.cvss_any.specs.Dispatch.{DenotesCvss};
+ghost use Rattle.cvss_base.specs.Version.{canonical_text};
 ghost use Rattle.cvss_ffi.specs.Answers.{IsRefused};
 ghost use Rattle.cvss_ffi.specs.Buffer.{IsWritten};
 
 use crate::buffer::write;
-use cvss_any::Cvss;
+use cvss_any::{Cvss, TextBuffer};
 use cvss_json_names::put_vector;
 use cvss_json_write::Page;
+use cvss_text::print::{Printed, text_after};
 
-/// The vector that a text denotes, if there is one. Its canonical text, which is as long as the text,
-/// is written at the beginning of a buffer where it fits. It takes no memory.
+/// The vector that a text denotes, if there is one. Its canonical text is written, which is as long
+/// as the text.
 pub fn put_canonical_of(text: &[u8], buffer: &mut [u8]) -> Option<Cvss>
     ensures denoted { IfSome result (λ cvss. DenotesCvss text.now cvss) }
     ensures scored { IfSome result (λ cvss. HasScore cvss) }
@@ -21,18 +23,46 @@ pub fn put_canonical_of(text: &[u8], buffer: &mut [u8]) -> Option<Cvss>
     ensures refused { IfNone result (IsRefused text.now) }
     ensures left { IfNone result (buffer.new ≡ buffer.old) }
 {
-    if let Some(cvss) = Cvss::read_canonical(text) {
-        write(text, buffer);
-        return Some(cvss);
-    }
-    let cvss = Cvss::read_in_any_order(text)?;
+    let cvss = Cvss::read_bytes(text)?;
     write_canonical(&cvss, buffer);
     Some(cvss)
 }
 
-/// Writes the canonical text of a vector at the beginning of a buffer where it fits, and returns its
-/// length.
+/// Writes the canonical text of a vector.
 pub(crate) fn write_canonical(cvss: &Cvss, buffer: &mut [u8]) -> usize
+    ensures { IsWritten (text_of cvss.now) buffer.old buffer.new result }
+{
+    match cvss {
+        Cvss::CvssV20(vector) => write(vector.text(&mut TextBuffer::new()), buffer),
+        Cvss::CvssV30(vector) if vector.minor_version == 0 => write_after(
+            *b"CVSS:3.0",
+            vector,
+            buffer,
+        ),
+        Cvss::CvssV31(vector) if vector.minor_version == 1 => write_after(
+            *b"CVSS:3.1",
+            vector,
+            buffer,
+        ),
+        Cvss::CvssV40(vector) if vector.minor_version == 0 => write_after(
+            *b"CVSS:4.0",
+            vector,
+            buffer,
+        ),
+        _ => write_by_page(cvss, buffer),
+    }
+}
+
+/// Writes the canonical text of a vector whose version this piece says.
+fn write_after<V: Printed>(piece: [u8; 8], vector: &V, buffer: &mut [u8]) -> usize
+    requires { V.version.front vector.now ≡ piece ∷ [] }
+    ensures { IsWritten (canonical_text V.version vector.now) buffer.old buffer.new result }
+{
+    write(text_after(piece, vector, &mut TextBuffer::new()), buffer)
+}
+
+/// Writes the canonical text of a vector of any minor version.
+fn write_by_page(cvss: &Cvss, buffer: &mut [u8]) -> usize
     ensures { IsWritten (text_of cvss.now) buffer.old buffer.new result }
 {
     let mut page = Page::new();

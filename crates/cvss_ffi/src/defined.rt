@@ -2,12 +2,10 @@
 
 ghost use Rattle.std.specs.Prelude.{◌≡◌, ◌↔◌, IsTrue, None, codes};
 ghost use Rattle.std.specs.Option.{option_copied};
-ghost use Rattle.cvss_any.specs.Answers.{text_of};
-ghost use Rattle.cvss_any.specs.declared.vector.Cvss.{Cvss};
 ghost use Rattle.cvss_text.specs.private.Walk.{HasNoValue};
 ghost use Rattle.cvss_v3.specs.Vector.{v3};
-ghost use Rattle.cvss_ffi.specs.Buffer.{IsWritten};
 ghost use Rattle.cvss_ffi.specs.Defined.{HasNoneDefined, IsWithout, IsWithoutUndefined, defined_in};
+ghost use Rattle.cvss_ffi.specs.Setting.{WritesVector};
 ghost use Rattle.cvss_ffi.specs.private.Steps.{IsCopiedIfDefined};
 
 use crate::canonical::write_canonical;
@@ -23,11 +21,9 @@ const NOT_DEFINED_V2: [u8; 2] = *b"ND";
 /// How a metric of CVSS v3 and v4.0 is spelled that is not defined.
 const NOT_DEFINED: [u8; 1] = *b"X";
 
-/// Writes the canonical text of a vector without its undefined metrics at the beginning of a buffer where
-/// it fits, and returns its length.
+/// Writes the canonical text of a vector without its undefined metrics.
 pub fn put_without_undefined(cvss: &Cvss, buffer: &mut [u8]) -> usize
-    ensures { (new : Cvss) × IsWithoutUndefined cvss.now new
-        × IsWritten (text_of new) buffer.old buffer.new result }
+    ensures { WritesVector (IsWithoutUndefined cvss.now) buffer.old buffer.new result }
 {
     write_canonical(&without_undefined(cvss), buffer)
 }

@@ -10,8 +10,9 @@ ghost use Rattle.cvss_v3.specs.Vector.{v3};
 ghost use Rattle.cvss_ffi.specs.Exact.{AnswersNumbers, AnswersPartial, AnswersRounded, AnswersTemporal, AreNumbersV2, AreNumbersV3, IsBeforeV4, IsKept, IsNoPartial, IsNumber, IsPartial, IsRoundedFor, count_in, front_v3};
 
 use crate::empty::{empty_v2, empty_v3};
-use crate::scores::{tenths_of_v2, tenths_of_v3};
+use crate::scores::tenths_of as scores_of;
 use crate::{v2, v3};
+use cvss_any::Cvss;
 use cvss_base::TENTH;
 use cvss_text::print::Printed;
 use cvss_text::setting::set;
@@ -52,7 +53,7 @@ const TRILLION: i128 = 1_000_000_000_000;
 const MILLION: i64 = 1_000_000_000_000_000_000;
 
 /// Whether the version is CVSS v2 or v3 and the components make a vector of it, which may lack any
-/// metric; then its numbers are written. Else they are left as they were.
+/// metric; then its numbers are written.
 pub fn put_numbers(version: i32, metrics: &[u8], numbers: &mut CvssNumbers) -> bool
     ensures { AnswersNumbers version metrics.now numbers.old numbers.new result }
 {
@@ -69,13 +70,11 @@ fn write_v2(metrics: &[u8], numbers: &mut CvssNumbers) -> bool
         (λ vector. (result ≡ true) × AreNumbersV2 vector numbers.new)
         (IsKept numbers.old numbers.new result) }
 {
-    match partial(empty_v2(), metrics) {
-        Some(vector) => {
-            *numbers = numbers_of_v2(&vector);
-            true
-        }
-        None => false,
-    }
+    let Some(vector) = partial(empty_v2(), metrics) else {
+        return false;
+    };
+    *numbers = numbers_of_v2(&vector);
+    true
 }
 
 fn write_v3(minor_version: usize, metrics: &[u8], numbers: &mut CvssNumbers) -> bool
@@ -83,17 +82,15 @@ fn write_v3(minor_version: usize, metrics: &[u8], numbers: &mut CvssNumbers) -> 
         (λ vector. (result ≡ true) × AreNumbersV3 vector numbers.new)
         (IsKept numbers.old numbers.new result) }
 {
-    match partial(empty_v3(minor_version), metrics) {
-        Some(vector) => {
-            *numbers = numbers_of_v3(&vector);
-            true
-        }
-        None => false,
-    }
+    let Some(vector) = partial(empty_v3(minor_version), metrics) else {
+        return false;
+    };
+    *numbers = numbers_of_v3(&vector);
+    true
 }
 
 /// Whether the version is CVSS v2 or v3 and the number less than a million from 0; then the tenths of the
-/// number are written, rounded as the version rounds scores. Else they are left as they were.
+/// number are written, rounded as the version rounds scores.
 pub fn put_rounded(version: i32, number: &CvssNumber, tenths: &mut i32) -> bool
     ensures { AnswersRounded version number.now tenths.old tenths.new result }
 {
@@ -126,8 +123,7 @@ fn rounded(version: i32, count: i128) -> Option<i128>
 }
 
 /// Whether the components make a vector of CVSS v2, which may lack any metric, and the impact is less
-/// than a million from 0; then the tenths of the temporal score with this impact are written. Else they
-/// are left as they were.
+/// than a million from 0; then the tenths of the temporal score with this impact are written.
 pub fn put_temporal(metrics: &[u8], impact: &CvssNumber, tenths: &mut i32) -> bool
     ensures { AnswersTemporal metrics.now impact.now tenths.old tenths.new result }
 {
@@ -163,7 +159,7 @@ fn partial<V: Printed>(empty: V, metrics: &[u8]) -> Option<V>
 fn numbers_of_v2(vector: &v2::Vector) -> CvssNumbers
     ensures { AreNumbersV2 vector.now result }
 {
-    let (base, temporal, environmental) = tenths_of_v2(vector);
+    let (base, temporal, environmental) = scores_of(&Cvss::CvssV20(*vector));
     CvssNumbers {
         base,
         temporal,
@@ -178,7 +174,7 @@ fn numbers_of_v2(vector: &v2::Vector) -> CvssNumbers
 fn numbers_of_v3(vector: &v3::Vector) -> CvssNumbers
     ensures { AreNumbersV3 vector.now result }
 {
-    let (base, temporal, environmental) = tenths_of_v3(vector);
+    let (base, temporal, environmental) = scores_of(&Cvss::CvssV31(*vector));
     CvssNumbers {
         base,
         temporal,

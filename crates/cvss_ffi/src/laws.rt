@@ -28,6 +28,7 @@ pub fn undefined_metrics_change_no_score()
 {
     spellings_differ::<v2::Vector>();
     spellings_differ::<v3::Vector>();
+    spellings_differ::<v4::Vector>();
     cvss_laws::v2::not_defined_weighs_as_absent();
     cvss_laws::v3::not_defined_weighs_as_absent();
     cvss_laws::v4::not_defined_scores_as_absent();

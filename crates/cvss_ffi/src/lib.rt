@@ -1,6 +1,9 @@
 //! What is reported of a text, as bytes in a buffer of the caller and as plain numbers.
 //!
-//! A result goes into a buffer, which is left as it was where it is too small. Nothing takes memory.
+//! A function that writes something writes it at the beginning of a buffer where it fits, and
+//! returns its length, or the number of its items. A buffer that is too small is left as it was.
+//! Where there is nothing to write, what would be written is left as it was, and 0 or false is
+//! returned. Nothing takes memory.
 #![tactic(auto)]
 
 pub mod answer;

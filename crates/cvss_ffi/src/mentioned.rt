@@ -5,7 +5,7 @@ ghost use Rattle.cvss_ffi.specs.Mentioned.{AnswersMention};
 use cvss_scan::Mentions;
 
 /// Whether a mention is found in a text from a byte on; then where the first begins in the text, and
-/// its length. Where none is, the numbers are left as they were.
+/// its length are written.
 pub fn put_mention(text: &[u8], from: usize, start: &mut usize, found_length: &mut usize) -> bool
     ensures { AnswersMention text.now from start.old found_length.old start.new found_length.new
         result }

@@ -9,15 +9,14 @@ ghost use Rattle.cvss_ffi.specs.Buffer.{IsWritten};
 use crate::buffer::write_segments;
 use cvss_any::{Message, ReadError, Refusal, Segment};
 
-/// Writes what an error says at the beginning of a buffer where it fits, and returns its length.
+/// Writes what an error says.
 pub(crate) fn write_error(error: ReadError<'_>, buffer: &mut [u8]) -> usize
     ensures { IsWritten (error_message error.entry) buffer.old buffer.new result }
 {
     write_message(&[], Message::of(error).segments, &[], buffer)
 }
 
-/// Writes words and, after them, what a reason says at the beginning of a buffer where both fit, and
-/// returns their length.
+/// Writes words and, after them, what a reason says.
 pub(crate) fn write_refusal(words: &[u8], refusal: Refusal<'_>, buffer: &mut [u8]) -> usize
     requires { length words.now ≤ 32 }
     ensures { IsWritten (words.now ++ reason_text (refusal_of refusal.entry)) buffer.old
@@ -26,8 +25,7 @@ pub(crate) fn write_refusal(words: &[u8], refusal: Refusal<'_>, buffer: &mut [u8
     write_message(words, Message::of_refusal(refusal).segments, &[], buffer)
 }
 
-/// Writes words, the segments of a message and an end at the beginning of a buffer where all fit, and
-/// returns their length.
+/// Writes words, the segments of a message and an end.
 pub(crate) fn write_message<'a>(
     words: &[u8],
     segments: [Segment<'a>; 5],

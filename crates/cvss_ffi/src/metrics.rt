@@ -40,8 +40,7 @@ pub(crate) fn padded(text: &[u8]) -> [u8; 8]
     field
 }
 
-/// Writes the metrics that a vector has, in the order of its canonical text, at the beginning of an
-/// array where they fit, and says how many they are.
+/// Writes the metrics that a vector has, in the order of its canonical text.
 pub fn put_metrics(cvss: &Cvss, metrics: &mut [CvssMetric]) -> usize
     ensures { IsWritten (metrics_in_order cvss.now) metrics.old metrics.new result }
 {
@@ -52,8 +51,7 @@ pub fn put_metrics(cvss: &Cvss, metrics: &mut [CvssMetric]) -> usize
     }
 }
 
-/// Writes the metrics that a vector of some version has, in printing order, at the beginning of an
-/// array where they fit, and says how many they are.
+/// Writes the metrics that a vector of some version has, in printing order.
 fn write_metrics<V: Printed>(vector: &V, metrics: &mut [CvssMetric]) -> usize
     requires { length V.version.printed ≤ 32 }
     ensures { IsWritten (metrics_at V.version vector.now V.version.printed) metrics.old metrics.new

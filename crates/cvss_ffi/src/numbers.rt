@@ -1,6 +1,7 @@
 //! Numbers for versions, ratings and nomenclatures.
 
-ghost use Rattle.std.specs.Prelude.{◌≡◌};
+ghost use Rattle.std.specs.Prelude.{◌≡◌, ◌≤◌, pos};
+ghost use Rattle.cvss_score.specs.v2.Rating.{rating_of};
 ghost use Rattle.cvss_ffi.specs.Scores.{IsRatingNumber, nomenclature_of_any, severity_number as number_of_severity, version_number as number_of_version};
 
 use crate::v2;
@@ -28,15 +29,28 @@ pub fn version_number(cvss: &Cvss) -> i32
 pub fn rating_number(version: i32, tenths: i32) -> i32
     ensures { IsRatingNumber version tenths result }
 {
-    if tenths < 0 || tenths > 100 {
-        return NOTHING;
+    match u8::try_from(tenths) {
+        Ok(tenths) if tenths <= 100 => rating_of_tenths(version, tenths),
+        _ => NOTHING,
     }
+}
+
+fn rating_of_tenths(version: i32, tenths: u8) -> i32
+    requires { tenths ≤ 100 }
+    ensures { IsRatingNumber version (pos tenths) result }
+{
     let score = i128::from(tenths) * TENTH;
     match version {
-        20 => severity_number(v2::Score::new(score).severity()),
+        20 => severity_number(severity_of_v2(score)),
         30 | 31 | 40 => severity_number(severity_of_score(score)),
         _ => NOTHING,
     }
+}
+
+fn severity_of_v2(score: i128) -> Severity
+    ensures { result ≡ rating_of score }
+{
+    v2::Score::new(score).severity()
 }
 
 /// 0 for none, to 4 for critical.

@@ -1,58 +1,63 @@
 //! An organisation's own environmental metrics in place of those of a vector of CVSS v4.0.
 
-ghost use Rattle.std.specs.Prelude.{◌≡◌, ◌≤◌, ◌++◌, ℕ, List, IfOk, IfErr, IsOk, map, take};
+ghost use Rattle.std.specs.Prelude.{◌≡◌, ◌≤◌, ◌++◌, IfOk, IfErr, IsOk, map, take};
 ghost use Rattle.cvss_v4.specs.Overriding.{AreOverrides, IsFirstObjection};
 ghost use Rattle.cvss_v4.specs.private.OverridingSteps.{objection_of};
 ghost use Rattle.cvss_v4.specs.declared.vector.Vector.{Vector};
-ghost use Rattle.cvss_any.specs.Answers.{text_of};
-ghost use Rattle.cvss_any.specs.Reasons.{IsReason};
-ghost use Rattle.cvss_ffi.specs.Answers.{Answers};
-ghost use Rattle.cvss_ffi.specs.Buffer.{IsLeft, IsWritten};
+ghost use Rattle.cvss_any.specs.declared.vector.Cvss.{Cvss};
+ghost use Rattle.cvss_ffi.specs.Answers.{WritesOrWhy};
 ghost use Rattle.cvss_ffi.specs.Overriding.{IsOverrideReason, IsWithOverrides, objection_text, override_words, overrides_in};
-ghost use Rattle.cvss_ffi.specs.Setting.{AnswersNew};
-ghost use Rattle.cvss_ffi.specs.private.Rejection.{IsNew, rejection_text};
+ghost use Rattle.cvss_ffi.specs.Setting.{WritesNew, WritesWhyNot};
+ghost use Rattle.cvss_ffi.specs.private.Rejection.{rejection_text};
 
+use crate::canonical::write_canonical;
 use crate::message::write_error;
 use crate::refusal::read;
-use crate::rejection::{Rejection, write_new, write_rejection};
+use crate::rejection::{Rejection, write_rejection};
 use crate::v4;
 use cvss_any::{Cvss, Refusal};
 use cvss_v4::overrides::{OverrideFault, read_overrides};
 
-/// One override more than a vector has environmental metrics is too many.
-const TOO_MANY: usize = 15;
+/// One override more than a vector has metrics is too many.
+const TOO_MANY: usize = 33;
 
-/// Writes the canonical text of a vector with overrides in place at the beginning of a buffer where
-/// it fits, and returns its length; 0 where they cannot be put into it.
+/// Writes the canonical text of a vector with overrides in place.
 pub fn put_overridden(cvss: &Cvss, overrides: &[u8], buffer: &mut [u8]) -> usize
-    ensures { AnswersNew (IsWithOverrides cvss.now overrides.now)
-        (λ new. IsWritten (text_of new) buffer.old buffer.new result)
-        (IsLeft buffer.old buffer.new result) }
+    ensures { WritesNew (IsWithOverrides cvss.now overrides.now) buffer.old buffer.new result }
 {
-    write_new(overridden(cvss, overrides), buffer)
+    match overridden(cvss, overrides) {
+        Ok(new) => write_canonical(&new, buffer),
+        Err(_) => 0,
+    }
 }
 
-/// Writes why a text denotes no vector, or why overrides cannot be put into its vector, at the
-/// beginning of a buffer where it fits, and returns its length; 0 where they can.
+/// Writes why a text denotes no vector, or why overrides cannot be put into its vector.
 pub fn put_override_reason(text: &[u8], overrides: &[u8], buffer: &mut [u8]) -> usize
-    ensures { Answers text.now
-        (λ cvss. AnswersNew (IsWithOverrides cvss overrides.now)
-        (λ _. IsLeft buffer.old buffer.new result)
-        ((reason : List ℕ) × IsOverrideReason cvss overrides.now reason
-        × IsWritten reason buffer.old buffer.new result))
-        ((reason : List ℕ) × IsReason text.now reason
-        × IsWritten reason buffer.old buffer.new result) }
+    ensures { WritesOrWhy text.now (λ cvss. WritesWhyNot (IsWithOverrides cvss overrides.now)
+        (IsOverrideReason cvss overrides.now)) buffer.old buffer.new result }
 {
     match read(text) {
-        Ok(cvss) => write_rejection(overridden(&cvss, overrides), buffer),
+        Ok(cvss) => write_why_not(&cvss, overrides, buffer),
         Err(error) => write_error(error, buffer),
+    }
+}
+
+fn write_why_not(cvss: &Cvss, overrides: &[u8], buffer: &mut [u8]) -> usize
+    ensures { WritesWhyNot (IsWithOverrides cvss.now overrides.now)
+        (IsOverrideReason cvss.now overrides.now) buffer.old buffer.new result }
+{
+    match overridden(cvss, overrides) {
+        Ok(_) => 0,
+        Err(rejection) => write_rejection(rejection, buffer),
     }
 }
 
 /// The vector with overrides in place.
 fn overridden<'a>(cvss: &Cvss, overrides: &'a [u8]) -> Result<Cvss, Rejection<'a>>
-    ensures { IsNew (IsWithOverrides cvss.now overrides.now)
-        (IsOverrideReason cvss.now overrides.now) result }
+    ensures is { IfOk result (IsWithOverrides cvss.now overrides.now) }
+    ensures accepts { (new : Cvss) → IsWithOverrides cvss.now overrides.now new → IsOk result }
+    ensures why { IfErr result (λ rejection.
+        IsOverrideReason cvss.now overrides.now (rejection_text rejection)) }
 {
     let Cvss::CvssV40(vector) = cvss else {
         return Err(Rejection::OtherVersion);
@@ -91,8 +96,8 @@ fn overrides_of(text: &str) -> Result<v4::Vector, (usize, OverrideFault<'_>)>
 /// The first overrides of a text, no more than `TOO_MANY`, and how many they are; none of an empty text.
 fn first_texts(text: &str) -> ([&str; TOO_MANY], usize)
     ensures texts { map (λ text. text.now) (take result.1 result.0)
-        ≡ take 15 (overrides_in text.now) }
-    ensures room { result.1 ≤ 15 }
+        ≡ take 33 (overrides_in text.now) }
+    ensures room { result.1 ≤ 33 }
 {
     let mut texts = [""; TOO_MANY];
     let mut count = 0;

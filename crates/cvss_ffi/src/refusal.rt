@@ -1,13 +1,13 @@
 //! Why a text is refused: the reason in words, its kind, the metric that it names, and the part of the
 //! text that it quotes. It takes no memory.
 
-ghost use Rattle.std.specs.Prelude.{◌≡◌, ℕ, List, [], IfOk, IfErr, pos};
+ghost use Rattle.std.specs.Prelude.{◌≡◌, [], IfOk, IfErr, pos};
 ghost use Rattle.cvss_any.specs.Answers.{HasScore};
 ghost use Rattle.cvss_any.specs.Dispatch.{DenotesCvss};
 ghost use Rattle.cvss_any.specs.Reasons.{IsReason, said_of};
 ghost use Rattle.cvss_any.specs.Segments.{segment_text};
-ghost use Rattle.cvss_ffi.specs.Answers.{Answers};
-ghost use Rattle.cvss_ffi.specs.Buffer.{IsLeft, IsWritten};
+ghost use Rattle.cvss_ffi.specs.Answers.{Answers, WritesRefusal};
+ghost use Rattle.cvss_ffi.specs.Buffer.{IsWritten};
 ghost use Rattle.cvss_ffi.specs.Refusals.{IsReportedKind, IsKind, IsQuoted, reported_name as reported_kind_name, kind_number as number_of_kind, not_utf8, quoted_part as part_quoted};
 ghost use Rattle.cvss_ffi.specs.private.Steps.{IsRefusedBy, IsWrittenAt};
 
@@ -20,12 +20,9 @@ const ACCEPTED: i32 = 0;
 
 const NOT_UTF8: i32 = 8;
 
-/// Writes why a text is refused at the beginning of a buffer where it fits, and returns its length; 0
-/// where the text denotes a vector.
+/// Writes why a text is refused.
 pub fn put_reason(text: &[u8], buffer: &mut [u8]) -> usize
-    ensures { Answers text.now (λ _. IsLeft buffer.old buffer.new result)
-        ((reason : List ℕ) × IsReason text.now reason
-        × IsWritten reason buffer.old buffer.new result) }
+    ensures { WritesRefusal text.now (IsReason text.now) buffer.old buffer.new result }
 {
     match read(text) {
         Ok(_) => 0,
@@ -43,11 +40,9 @@ pub fn kind_of(text: &[u8]) -> i32
     }
 }
 
-/// Writes the abbreviation of the metric that a refusal names at the beginning of a buffer where it
-/// fits, and returns its length; 0 where the refusal names none, and where the text denotes a vector.
+/// Writes the abbreviation of the metric that a refusal names, if it names one.
 pub fn put_reported_kind(text: &[u8], buffer: &mut [u8]) -> usize
-    ensures { Answers text.now (λ _. IsLeft buffer.old buffer.new result)
-        ((name : List ℕ) × IsReportedKind text.now name × IsWritten name buffer.old buffer.new result) }
+    ensures { WritesRefusal text.now (IsReportedKind text.now) buffer.old buffer.new result }
 {
     match read(text) {
         Ok(_) => 0,
@@ -55,11 +50,9 @@ pub fn put_reported_kind(text: &[u8], buffer: &mut [u8]) -> usize
     }
 }
 
-/// Writes the part of the text that a refusal quotes at the beginning of a buffer where it fits, and
-/// returns its length; 0 where the refusal quotes none, and where the text denotes a vector.
+/// Writes the part of the text that a refusal quotes, if it quotes one.
 pub fn put_quoted(text: &[u8], buffer: &mut [u8]) -> usize
-    ensures { Answers text.now (λ _. IsLeft buffer.old buffer.new result)
-        ((part : List ℕ) × IsQuoted text.now part × IsWritten part buffer.old buffer.new result) }
+    ensures { WritesRefusal text.now (IsQuoted text.now) buffer.old buffer.new result }
 {
     match read(text) {
         Ok(_) => 0,
@@ -102,8 +95,7 @@ fn reported_name(error: ReadError<'_>) -> &'static [u8]
     }
 }
 
-/// Writes the part of the text that an error quotes at the beginning of a buffer where it fits, and
-/// returns its length.
+/// Writes the part of the text that an error quotes, if it quotes one.
 fn write_quoted(error: ReadError<'_>, buffer: &mut [u8]) -> usize
     ensures { IsWritten (said_of part_quoted [] error.entry) buffer.old buffer.new result }
 {

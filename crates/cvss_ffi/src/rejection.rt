@@ -1,14 +1,12 @@
-//! A new vector, or why there is none, in a buffer of the caller.
+//! Why there is no new vector, in a buffer of the caller.
 
-ghost use Rattle.std.specs.Prelude.{◌≡◌, ◌≤◌, ◌++◌, MatchResult, codes, decimal, length};
-ghost use Rattle.cvss_any.specs.Answers.{text_of};
-ghost use Rattle.cvss_ffi.specs.Buffer.{IsLeft, IsWritten};
+ghost use Rattle.std.specs.Prelude.{◌≡◌, ◌≤◌, ◌++◌, codes, decimal, length};
+ghost use Rattle.cvss_ffi.specs.Buffer.{IsWritten};
 ghost use Rattle.cvss_ffi.specs.private.Rejection.{rejection_text};
 
 use crate::buffer::write;
-use crate::canonical::write_canonical;
 use crate::message::write_refusal;
-use cvss_any::{Cvss, Refusal};
+use cvss_any::Refusal;
 use cvss_json_write::Page;
 
 /// Why there is no new vector.
@@ -16,8 +14,6 @@ use cvss_json_write::Page;
 pub(crate) enum Rejection<'a> {
     /// The metrics are not UTF-8.
     NotUtf8,
-    /// No version has the number.
-    NoVersion,
     /// The vector is not of CVSS v4.0.
     OtherVersion,
     /// The metrics make no vector.
@@ -30,37 +26,12 @@ pub(crate) enum Rejection<'a> {
     OtherGroup(usize),
 }
 
-/// Writes the canonical text of a new vector at the beginning of a buffer where it fits, and returns its
-/// length; 0 where there is none.
-pub(crate) fn write_new(new: Result<Cvss, Rejection<'_>>, buffer: &mut [u8]) -> usize
-    ensures { MatchResult new.entry (λ new. IsWritten (text_of new) buffer.old buffer.new result)
-        (λ _. IsLeft buffer.old buffer.new result) }
-{
-    match new {
-        Ok(new) => write_canonical(&new, buffer),
-        Err(_) => 0,
-    }
-}
-
-/// Writes why there is no new vector at the beginning of a buffer where it fits, and returns its length;
-/// 0 where there is one.
-pub(crate) fn write_rejection(new: Result<Cvss, Rejection<'_>>, buffer: &mut [u8]) -> usize
-    ensures { MatchResult new.entry (λ _. IsLeft buffer.old buffer.new result)
-        (λ rejection. IsWritten (rejection_text rejection) buffer.old buffer.new result) }
-{
-    match new {
-        Ok(_) => 0,
-        Err(rejection) => write_words(rejection, buffer),
-    }
-}
-
-/// Writes what a rejection says at the beginning of a buffer where it fits, and returns its length.
-fn write_words(rejection: Rejection<'_>, buffer: &mut [u8]) -> usize
+/// Writes what a rejection says.
+pub(crate) fn write_rejection(rejection: Rejection<'_>, buffer: &mut [u8]) -> usize
     ensures { IsWritten (rejection_text rejection.entry) buffer.old buffer.new result }
 {
     match rejection {
         Rejection::NotUtf8 => write(b"not UTF-8", buffer),
-        Rejection::NoVersion => write(b"unsupported CVSS version", buffer),
         Rejection::OtherVersion => write(b"no CVSSv4 vector", buffer),
         Rejection::Vector(reason) => write_refusal(&[], reason, buffer),
         Rejection::Metric(index, reason) => {

@@ -1,21 +1,20 @@
 //! The scores of a vector, as C sees them.
 
 ghost use Rattle.std.specs.Prelude.{◌≡◌};
-ghost use Rattle.cvss_any.specs.Answers.{HasScore, IsScoreOf};
+ghost use Rattle.cvss_any.specs.Answers.{HasScore};
 ghost use Rattle.cvss_base.specs.Tenths.{IsInTenths};
 ghost use Rattle.cvss_base.specs.Version.{IsComplete};
-ghost use Rattle.cvss_any.specs.declared.vector.Cvss.TheVariants.{CvssV20, CvssV31};
+ghost use Rattle.cvss_any.specs.declared.vector.Cvss.TheVariants.{CvssV31};
 ghost use Rattle.cvss_json_record.specs.declared.group.Group.TheVariants.{Base, Temporal, Environmental};
 ghost use Rattle.cvss_score.specs.declared.v4.nomenclature.Nomenclature.TheVariants.{CvssBTE};
 ghost use Rattle.cvss_score.specs.v4.Scores.{IsScore};
 ghost use Rattle.cvss_v4.specs.Merging.{effective_of};
 ghost use Rattle.cvss_v4.specs.Parts.{IsScoreBy};
 ghost use Rattle.cvss_v4.specs.Vector.{v4};
-ghost use Rattle.cvss_ffi.specs.Answers.{Answers};
-ghost use Rattle.cvss_ffi.specs.Scores.{AnswersScoresBy, AreScoresBy, AreScoresOf, IsReportedScore, IsScoreInTenths, nothing};
+ghost use Rattle.cvss_ffi.specs.Scores.{AnswersScoresBy, AreScoresBy, AreScoresOf, IsReportedScore, IsScoreInTenths};
 
 use crate::numbers::{NOTHING, nomenclature_of, rating_number, version_number};
-use crate::{v2, v3, v4};
+use crate::{v3, v4};
 use cvss_any::Cvss;
 use cvss_score::v4::Nomenclature;
 
@@ -86,58 +85,38 @@ impl CvssScores {
 
 /// The tenths of the base score, the temporal and the environmental one; `NOTHING` for one that the
 /// version lacks.
-fn tenths_of(cvss: &Cvss) -> (i32, i32, i32)
+pub(crate) fn tenths_of(cvss: &Cvss) -> (i32, i32, i32)
     requires { HasScore cvss.now }
     ensures base { IsReportedScore cvss.now Base result.0 }
     ensures temporal { IsReportedScore cvss.now Temporal result.1 }
     ensures environmental { IsReportedScore cvss.now Environmental result.2 }
 {
     match cvss {
-        Cvss::CvssV20(vector) => tenths_of_v2(vector),
+        Cvss::CvssV20(vector) => (
+            i32::from(vector.tenths()),
+            i32::from(vector.temporal_tenths()),
+            i32::from(vector.environmental_tenths()),
+        ),
         Cvss::CvssV30(vector) => tenths_of_v3(vector),
         Cvss::CvssV31(vector) => tenths_of_v3(vector),
         Cvss::CvssV40(vector) => (i32::from(vector.tenths()), NOTHING, NOTHING),
     }
 }
 
-pub(crate) fn tenths_of_v2(vector: &v2::Vector) -> (i32, i32, i32)
-    ensures base { IsReportedScore (CvssV20 vector.now) Base result.0 }
-    ensures temporal { IsReportedScore (CvssV20 vector.now) Temporal result.1 }
-    ensures environmental { IsReportedScore (CvssV20 vector.now) Environmental result.2 }
-{
-    let base = i32::from(vector.tenths());
-    let temporal = i32::from(vector.temporal_tenths());
-    let environmental = i32::from(vector.environmental_tenths());
-    (base, temporal, environmental)
-}
-
-/// The same of CVSS v3, by the vector's minor version.
-pub(crate) fn tenths_of_v3(vector: &v3::Vector) -> (i32, i32, i32)
+/// Those of CVSS v3, by the vector's minor version.
+fn tenths_of_v3(vector: &v3::Vector) -> (i32, i32, i32)
     ensures base { IsReportedScore (CvssV31 vector.now) Base result.0 }
     ensures temporal { IsReportedScore (CvssV31 vector.now) Temporal result.1 }
     ensures environmental { IsReportedScore (CvssV31 vector.now) Environmental result.2 }
 {
-    let base = i32::from(vector.tenths());
-    let temporal = i32::from(vector.temporal_tenths());
-    let environmental = i32::from(vector.environmental_tenths());
-    (base, temporal, environmental)
+    (
+        i32::from(vector.tenths()),
+        i32::from(vector.temporal_tenths()),
+        i32::from(vector.environmental_tenths()),
+    )
 }
 
-/// The tenths of the published score of the vector that a text denotes; `NOTHING` where it denotes none.
-pub fn score_of(text: &[u8]) -> i32
-    ensures { Answers text.now (λ cvss. IsScoreInTenths (IsScoreOf cvss) result) (result ≡ nothing) }
-{
-    match Cvss::published_on_fast_path(text) {
-        Some(published) => i32::from(published.tenths),
-        None => match Cvss::read_in_any_order(text) {
-            Some(cvss) => i32::from(cvss.tenths()),
-            None => NOTHING,
-        },
-    }
-}
-
-/// Whether a vector is of CVSS v4.0; then its scores by nomenclature are written. Else they are left as
-/// they were.
+/// Whether a vector is of CVSS v4.0; then its scores by nomenclature are written.
 pub fn put_scores_by(cvss: &Cvss, scores: &mut CvssScoresBy) -> bool
     requires { HasScore cvss.now }
     ensures { AnswersScoresBy cvss.now scores.old scores.new result }

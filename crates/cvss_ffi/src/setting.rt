@@ -1,72 +1,85 @@
 //! Metrics that are set in a vector, and vectors that are built from metrics. It takes no memory.
 
-ghost use Rattle.std.specs.Prelude.{◌≡◌, ℕ, List, IfSome, IfNone};
-ghost use Rattle.cvss_any.specs.Answers.{text_of};
-ghost use Rattle.cvss_any.specs.Reasons.{IsReason};
+ghost use Rattle.std.specs.Prelude.{◌≡◌, IfErr, IfNone, IfOk, IfSome, IsOk};
 ghost use Rattle.cvss_any.specs.Refusals.{refusal_of};
+ghost use Rattle.cvss_any.specs.Setting.{IsBuiltAs, IsBuiltReason, IsWithReason};
 ghost use Rattle.cvss_any.specs.declared.setting.Version as version;
-ghost use Rattle.cvss_ffi.specs.Answers.{Answers};
-ghost use Rattle.cvss_ffi.specs.Buffer.{IsLeft, IsWritten};
-ghost use Rattle.cvss_ffi.specs.Setting.{AnswersNew, IsBuildReasonText, IsBuiltFrom, IsWithMetrics, IsWithReasonText, number_of, set_reason_text};
-ghost use Rattle.cvss_ffi.specs.private.Rejection.{IsNew, rejection_text};
+ghost use Rattle.cvss_any.specs.declared.vector.Cvss.{Cvss};
+ghost use Rattle.cvss_ffi.specs.Answers.{WritesOrWhy};
+ghost use Rattle.cvss_ffi.specs.Setting.{IsBuildReasonText, IsBuiltFrom, IsFromUtf8, IsWhyNot, IsWithMetrics, IsWithReasonText, WritesNew, WritesWhyNot, number_of, set_reason_text};
+ghost use Rattle.cvss_ffi.specs.private.Rejection.{rejection_text};
 
+use crate::buffer::write;
+use crate::canonical::write_canonical;
 use crate::message::write_error;
 use crate::refusal::read;
-use crate::rejection::{Rejection, write_new, write_rejection};
+use crate::rejection::{Rejection, write_rejection};
 use cvss_any::{Cvss, SetError, Version};
 
-/// Writes the canonical text of a vector with metrics set at the beginning of a buffer where it fits,
-/// and returns its length; 0 where they are rejected.
+/// Writes the canonical text of a vector with metrics set.
 pub fn put_with(cvss: &Cvss, metrics: &[u8], buffer: &mut [u8]) -> usize
-    ensures { AnswersNew (IsWithMetrics cvss.now metrics.now)
-        (λ new. IsWritten (text_of new) buffer.old buffer.new result)
-        (IsLeft buffer.old buffer.new result) }
+    ensures { WritesNew (IsWithMetrics cvss.now metrics.now) buffer.old buffer.new result }
 {
-    write_new(with_metrics(cvss, metrics), buffer)
+    match with_metrics(cvss, metrics) {
+        Ok(new) => write_canonical(&new, buffer),
+        Err(_) => 0,
+    }
 }
 
-/// Writes why a text denotes no vector, or why metrics are not set in its vector, at the beginning of a
-/// buffer where it fits, and returns its length; 0 where they are.
+/// Writes why a text denotes no vector, or why metrics are not set in its vector.
 pub fn put_with_reason(text: &[u8], metrics: &[u8], buffer: &mut [u8]) -> usize
-    ensures { Answers text.now
-        (λ cvss. AnswersNew (IsWithMetrics cvss metrics.now)
-        (λ _. IsLeft buffer.old buffer.new result)
-        ((reason : List ℕ) × IsWithReasonText cvss metrics.now reason
-        × IsWritten reason buffer.old buffer.new result))
-        ((reason : List ℕ) × IsReason text.now reason
-        × IsWritten reason buffer.old buffer.new result) }
+    ensures { WritesOrWhy text.now (λ cvss. WritesWhyNot (IsWithMetrics cvss metrics.now)
+        (IsWithReasonText cvss metrics.now)) buffer.old buffer.new result }
 {
     match read(text) {
-        Ok(cvss) => write_rejection(with_metrics(&cvss, metrics), buffer),
+        Ok(cvss) => write_why_not(&cvss, metrics, buffer),
         Err(error) => write_error(error, buffer),
     }
 }
 
-/// Writes the canonical text of the vector of a version that metrics make at the beginning of a buffer
-/// where it fits, and returns its length; 0 where they make none.
-pub fn put_build(version: i32, metrics: &[u8], buffer: &mut [u8]) -> usize
-    ensures { AnswersNew (IsBuiltFrom version metrics.now)
-        (λ new. IsWritten (text_of new) buffer.old buffer.new result)
-        (IsLeft buffer.old buffer.new result) }
+fn write_why_not(cvss: &Cvss, metrics: &[u8], buffer: &mut [u8]) -> usize
+    ensures { WritesWhyNot (IsWithMetrics cvss.now metrics.now)
+        (IsWithReasonText cvss.now metrics.now) buffer.old buffer.new result }
 {
-    write_new(built(version, metrics), buffer)
+    match with_metrics(cvss, metrics) {
+        Ok(_) => 0,
+        Err(rejection) => write_rejection(rejection, buffer),
+    }
 }
 
-/// Writes why metrics make no vector of a version at the beginning of a buffer where it fits, and
-/// returns its length; 0 where they make one.
-pub fn put_build_reason(version: i32, metrics: &[u8], buffer: &mut [u8]) -> usize
-    ensures { AnswersNew (IsBuiltFrom version metrics.now)
-        (λ _. IsLeft buffer.old buffer.new result)
-        ((reason : List ℕ) × IsBuildReasonText version metrics.now reason
-        × IsWritten reason buffer.old buffer.new result) }
+/// Writes the canonical text of the vector of a version that metrics make.
+pub fn put_build(version: i32, metrics: &[u8], buffer: &mut [u8]) -> usize
+    ensures { WritesNew (IsBuiltFrom version metrics.now) buffer.old buffer.new result }
 {
-    write_rejection(built(version, metrics), buffer)
+    let Some(version) = version_of(version) else {
+        return 0;
+    };
+    match built(version, metrics) {
+        Ok(new) => write_canonical(&new, buffer),
+        Err(_) => 0,
+    }
+}
+
+/// Writes why metrics make no vector of a version.
+pub fn put_build_reason(version: i32, metrics: &[u8], buffer: &mut [u8]) -> usize
+    ensures { WritesWhyNot (IsBuiltFrom version metrics.now)
+        (IsBuildReasonText version metrics.now) buffer.old buffer.new result }
+{
+    let Some(version) = version_of(version) else {
+        return write(b"unsupported CVSS version", buffer);
+    };
+    match built(version, metrics) {
+        Ok(_) => 0,
+        Err(rejection) => write_rejection(rejection, buffer),
+    }
 }
 
 /// The vector with metrics set.
 fn with_metrics<'a>(cvss: &Cvss, metrics: &'a [u8]) -> Result<Cvss, Rejection<'a>>
-    ensures { IsNew (IsWithMetrics cvss.now metrics.now) (IsWithReasonText cvss.now metrics.now)
-        result }
+    ensures is { IfOk result (IsWithMetrics cvss.now metrics.now) }
+    ensures accepts { (new : Cvss) → IsWithMetrics cvss.now metrics.now new → IsOk result }
+    ensures why { IfErr result (λ rejection.
+        IsWhyNot (IsWithReason cvss.now metrics.now) metrics.now (rejection_text rejection)) }
 {
     let Ok(metrics) = str::from_utf8(metrics) else {
         return Err(Rejection::NotUtf8);
@@ -77,13 +90,14 @@ fn with_metrics<'a>(cvss: &Cvss, metrics: &'a [u8]) -> Result<Cvss, Rejection<'a
     }
 }
 
-/// The vector of the version with this number that metrics make.
-fn built(number: i32, metrics: &[u8]) -> Result<Cvss, Rejection<'_>>
-    ensures { IsNew (IsBuiltFrom number metrics.now) (IsBuildReasonText number metrics.now) result }
+/// The vector of a version that metrics make.
+fn built(version: Version, metrics: &[u8]) -> Result<Cvss, Rejection<'_>>
+    ensures is { IfOk result (IsFromUtf8 metrics.now (IsBuiltAs version metrics.now)) }
+    ensures accepts { (new : Cvss) → IsFromUtf8 metrics.now (IsBuiltAs version metrics.now) new
+        → IsOk result }
+    ensures why { IfErr result (λ rejection.
+        IsWhyNot (IsBuiltReason version metrics.now) metrics.now (rejection_text rejection)) }
 {
-    let Some(version) = version_of(number) else {
-        return Err(Rejection::NoVersion);
-    };
     let Ok(metrics) = str::from_utf8(metrics) else {
         return Err(Rejection::NotUtf8);
     };

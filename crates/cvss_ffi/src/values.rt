@@ -55,6 +55,14 @@ impl CvssValues {
     }
 }
 
+/// The field of each of these metrics.
+// Each metric by its name, and no loop: a metric that is constant is a jump less.
+macro_rules! fields {
+    ($vector:ident, $version:ident: $($kind:ident)*) => {
+        [$(field_at($vector, $version::$kind)),*]
+    };
+}
+
 fn fields_of(cvss: &Cvss) -> [[u8; 8]; 32]
     ensures { result ≡ fields_of_cvss cvss.now }
 {
@@ -66,7 +74,6 @@ fn fields_of(cvss: &Cvss) -> [[u8; 8]; 32]
 }
 
 /// These fields and, up to the number of metrics of CVSS v4.0, fields of bytes 0.
-// A field for each metric by its name, and no loop: a metric that is constant is a jump less.
 fn filled_up(fields: &[[u8; 8]]) -> [[u8; 8]; 32]
     requires { length fields.now ≤ 32 }
     ensures { result ≡ begun fields.now (repeat 32 (padded_text [] ∷ [])) }
@@ -79,90 +86,20 @@ fn filled_up(fields: &[[u8; 8]]) -> [[u8; 8]; 32]
 fn fields_v2(vector: &v2::Vector) -> [[u8; 8]; 14]
     ensures { result ≡ fields_in v2 vector.now }
 {
-    [
-        field_at(vector, V2::AV),
-        field_at(vector, V2::AC),
-        field_at(vector, V2::Au),
-        field_at(vector, V2::C),
-        field_at(vector, V2::I),
-        field_at(vector, V2::A),
-        field_at(vector, V2::E),
-        field_at(vector, V2::RL),
-        field_at(vector, V2::RC),
-        field_at(vector, V2::CDP),
-        field_at(vector, V2::TD),
-        field_at(vector, V2::CR),
-        field_at(vector, V2::IR),
-        field_at(vector, V2::AR),
-    ]
+    fields!(vector, V2: AV AC Au C I A E RL RC CDP TD CR IR AR)
 }
 
 fn fields_v3(vector: &v3::Vector) -> [[u8; 8]; 22]
     ensures { result ≡ fields_in v3 vector.now }
 {
-    [
-        field_at(vector, V3::AV),
-        field_at(vector, V3::AC),
-        field_at(vector, V3::PR),
-        field_at(vector, V3::UI),
-        field_at(vector, V3::S),
-        field_at(vector, V3::C),
-        field_at(vector, V3::I),
-        field_at(vector, V3::A),
-        field_at(vector, V3::E),
-        field_at(vector, V3::RL),
-        field_at(vector, V3::RC),
-        field_at(vector, V3::CR),
-        field_at(vector, V3::IR),
-        field_at(vector, V3::AR),
-        field_at(vector, V3::MAV),
-        field_at(vector, V3::MAC),
-        field_at(vector, V3::MPR),
-        field_at(vector, V3::MUI),
-        field_at(vector, V3::MS),
-        field_at(vector, V3::MC),
-        field_at(vector, V3::MI),
-        field_at(vector, V3::MA),
-    ]
+    fields!(vector, V3: AV AC PR UI S C I A E RL RC CR IR AR MAV MAC MPR MUI MS MC MI MA)
 }
 
 fn fields_v4(vector: &v4::Vector) -> [[u8; 8]; 32]
     ensures { result ≡ fields_in v4 vector.now }
 {
-    [
-        field_at(vector, V4::AV),
-        field_at(vector, V4::AC),
-        field_at(vector, V4::AT),
-        field_at(vector, V4::PR),
-        field_at(vector, V4::UI),
-        field_at(vector, V4::VC),
-        field_at(vector, V4::VI),
-        field_at(vector, V4::VA),
-        field_at(vector, V4::SC),
-        field_at(vector, V4::SI),
-        field_at(vector, V4::SA),
-        field_at(vector, V4::E),
-        field_at(vector, V4::CR),
-        field_at(vector, V4::IR),
-        field_at(vector, V4::AR),
-        field_at(vector, V4::MAV),
-        field_at(vector, V4::MAC),
-        field_at(vector, V4::MAT),
-        field_at(vector, V4::MPR),
-        field_at(vector, V4::MUI),
-        field_at(vector, V4::MVC),
-        field_at(vector, V4::MVI),
-        field_at(vector, V4::MVA),
-        field_at(vector, V4::MSC),
-        field_at(vector, V4::MSI),
-        field_at(vector, V4::MSA),
-        field_at(vector, V4::S),
-        field_at(vector, V4::AU),
-        field_at(vector, V4::R),
-        field_at(vector, V4::V),
-        field_at(vector, V4::RE),
-        field_at(vector, V4::U),
-    ]
+    fields!(vector, V4: AV AC AT PR UI VC VI VA SC SI SA E CR IR AR MAV MAC MAT MPR MUI MVC MVI MVA
+        MSC MSI MSA S AU R V RE U)
 }
 
 /// The spelling of the value that a vector has for a metric, filled up with bytes 0.

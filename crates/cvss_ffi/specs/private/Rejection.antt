@@ -1,25 +1,17 @@
--- A new vector, or why there is none.
-use Rattle.std.specs.Prelude.{ℕ, List, ◌++◌, Result, IfOk, IfErr, IsOk}
+-- Why there is no new vector.
+use Rattle.std.specs.Prelude.{ℕ, List, ◌++◌}
 use Rattle.cvss_any.specs.Reasons.{not_utf8_text, reason_text}
 use Rattle.cvss_any.specs.Refusals.{refusal_of}
-use Rattle.cvss_any.specs.declared.vector.Cvss.{Cvss}
 use Rattle.cvss_ffi.specs.Overriding.{no_v4_text, other_group_text, override_words}
-use Rattle.cvss_ffi.specs.Setting.{metric_words, no_version_text}
+use Rattle.cvss_ffi.specs.Setting.{metric_words}
 use Rattle.cvss_ffi.specs.declared.rejection.Rejection.{Rejection}
-use Rattle.cvss_ffi.specs.declared.rejection.Rejection.TheVariants.{NotUtf8, NoVersion, OtherVersion, Vector, Metric, Override, OtherGroup}
+use Rattle.cvss_ffi.specs.declared.rejection.Rejection.TheVariants.{NotUtf8, OtherVersion, Vector, Metric, Override, OtherGroup}
 
 -- what a rejection says
 abbrev pub rejection_text : Rejection → List ℕ
 rejection_text NotUtf8 = not_utf8_text
-rejection_text NoVersion = no_version_text
 rejection_text OtherVersion = no_v4_text
 rejection_text (Vector reason) = reason_text (refusal_of reason)
 rejection_text (Metric index reason) = metric_words index ++ reason_text (refusal_of reason)
 rejection_text (Override index reason) = override_words index ++ reason_text (refusal_of reason)
 rejection_text (OtherGroup index) = override_words index ++ other_group_text
-
--- what is answered of a new vector, and what is said where there is none
-pub record IsNew (IsIt : Cvss → Type 0) (IsWhy : List ℕ → Type 0) (answer : Result Cvss Rejection) : Type 0 where
-  pub is : IfOk answer IsIt
-  pub accepts : (new : Cvss) → IsIt new → IsOk answer
-  pub why : IfErr answer (λ rejection. IsWhy (rejection_text rejection))

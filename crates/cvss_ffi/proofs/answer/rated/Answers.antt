@@ -1,8 +1,5 @@
-use Rattle.std.proofs.Common.{◌≤◌, ◌/◌, ◌%◌, ℕ, length, rules, ap, ◌∙◌, arith, length-append, subst}
+use Rattle.std.proofs.Common.{◌≤◌, ◌/◌, ◌%◌, ℕ, length, ap, arith, length-append}
 use Rattle.std.proofs.lemmas.Fmt.{decimal_digit, length-decimal-le}
-use Rattle.std.proofs.lemmas.Int.{to_z-of_z}
-use mir.Syntax.{w128}
-use Rattle.cvss_any.specs.Answers.{IsScoreOf, rating_by}
 use Rattle.cvss_base.specs.SeverityText.{text_of as severity_text}
 use Rattle.cvss_base.specs.Tenths.{tenths_text}
 use Rattle.cvss_base.specs.declared.severity.Severity.{Severity}
@@ -20,17 +17,6 @@ word_short : (severity : Severity) → length (severity_text severity) ≤ 8
 word_short Critical = omega arith
 word_short _ = omega arith
 
-pub returns-clause-rated : goal.returns-clause-rated
-returns-clause-rated c =
-    let in_tenths = simp (to_z-of_z w128 c.score-score.result (search rules)) at c.tenths_of.ensures.count in
-    let severity = simp (to_z-of_z w128 c.score-score.result (search rules)) at c.severity_of.ensures in
-    record {
-      tenths = c.tenths_of.result;
-      scored = subst (IsScoreOf c.args.cvss.now) in_tenths c.score-score.ensures.value;
-      score_is = c.text_of.ensures;
-      rating_is = c.as_str.ensures ∙ ap severity_text (severity ∙ ap (rating_by c.args.cvss.now) in_tenths);
-    }
-
 pub returns-clause-bound : goal.returns-clause-bound
 returns-clause-bound c =
-    omega (arith, score_short c.tenths_of.result c.tenths_of.ensures.bound, word_short c.severity_of.result, ap length c.as_str.ensures, ap length c.text_of.ensures)
+    omega (arith, score_short c.tenths-tenths.result c.tenths-tenths.ensures.bound, word_short c.severity_of.result, ap length c.as_str.ensures, ap length c.text_of.ensures)

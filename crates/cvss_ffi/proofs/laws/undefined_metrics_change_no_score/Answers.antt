@@ -15,4 +15,4 @@ returns-clause-v3 c = λ v w part. c.not_defined_weighs_as_absent-2.ensures v w
 
 pub returns-clause-v4 : goal.returns-clause-v4
 returns-clause-v4 c = λ v w part. c.not_defined_scores_as_absent.ensures v w
-    (λ kind. same_letter (v4.spelling kind) (v4.value_of v kind) (v4.value_of w kind) (part.held_is kind))
+    (λ kind. same_letter (v4.spelling kind) (c.spellings_differ-3.ensures kind) (v4.value_of v kind) (v4.value_of w kind) (part.held_is kind))

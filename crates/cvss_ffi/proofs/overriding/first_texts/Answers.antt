@@ -8,5 +8,5 @@ use Rattle.cvss_ffi.proofs.overriding.first_texts.Goals as goal
 
 pub returns-clause-texts : goal.returns-clause-texts
 returns-clause-texts c =
-    let all = YieldsList-end (YieldsList-from_take 15 (YieldsList-from_str_split 47 c.args.text.now (omega arith) (cc) (cc) (cc)) (cc)) c.loop-each.yielded _ c.loop-each.yielded_by _ _ c.in-None.is c.next.ensures.steps in
-    ap (map (λ text. text.now)) c.loop-each.invariant.0 ∙ all.0 ∙ ap (take 15) (overrides_in-some c.args.text.now (grind (arith, nat_tests)))
+    let all = YieldsList-end (YieldsList-from_take 33 (YieldsList-from_str_split 47 c.args.text.now (omega arith) (cc) (cc) (cc)) (cc)) c.loop-each.yielded _ c.loop-each.yielded_by _ _ c.in-None.is c.next.ensures.steps in
+    ap (map (λ text. text.now)) c.loop-each.invariant.0 ∙ all.0 ∙ ap (take 33) (overrides_in-some c.args.text.now (grind (arith, nat_tests)))

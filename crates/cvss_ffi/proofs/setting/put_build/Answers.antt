@@ -1,9 +1,0 @@
-use Rattle.std.proofs.Common.{rules, w32}
-use Rattle.std.proofs.lemmas.Int.{to_z-of_z}
-use Rattle.cvss_ffi.proofs.RejectionLemmas.{new_written}
-use Rattle.cvss_ffi.proofs.setting.put_build.Goals as goal
-
-pub returns : goal.returns
-returns c =
-    let new = simp (to_z-of_z w32 c.args.version (search rules)) at c.built.ensures in
-    new_written _ _ _ new c.write_new.ensures
