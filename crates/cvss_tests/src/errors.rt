@@ -4,7 +4,7 @@ use crate::values::{Tried, are_printed};
 use cvss::{BytesError, Error, LIMIT, ONE, PREFIX, Severity, v4};
 
 #[test]
-fn errors_are_printed_and_copied(rt: HostRuntime) -> Tried {
+fn errors_are_printed(rt: HostRuntime) -> Tried {
     let alloc = rt.alloc();
     let name = String::from_str(alloc, "lowest")?;
     let nomenclature = String::from_str(alloc, "cvss-b")?;
@@ -23,7 +23,7 @@ fn errors_are_printed_and_copied(rt: HostRuntime) -> Tried {
 }
 
 #[test]
-fn errors_of_bytes_are_printed_and_copied(rt: HostRuntime) -> Tried {
+fn errors_of_bytes_are_printed(rt: HostRuntime) -> Tried {
     let alloc = rt.alloc();
     let component = String::from_str(alloc, "AV")?;
     let metric_type = v4::MetricType::AV;

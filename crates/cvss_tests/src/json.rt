@@ -50,7 +50,7 @@ fn lacks_memory(error: &JsonError) -> bool {
 }
 
 #[test]
-fn errors_are_printed_and_copied(rt: HostRuntime) -> Tried {
+fn errors_are_printed(rt: HostRuntime) -> Tried {
     let alloc = rt.alloc();
     let name = String::from_str(alloc, "lowest")?;
     let other = String::from_str(alloc, "")?;

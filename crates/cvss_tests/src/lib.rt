@@ -1,12 +1,10 @@
 //! Tests of what no stored line shows: types and their traits, values that no text denotes, JSON
-//! values that are no strings, and callers. Texts, scores and refusals are lines of `test_vectors`;
-//! runs over readers and writers that no file is are tests of `cvss_tool`.
+//! values that are no strings, runs over readers and writers that no file is, and callers. Texts,
+//! scores and refusals are lines of `test_vectors`.
 #![tactic(auto)]
 
 #[cfg(test)]
 mod arguments;
-#[cfg(test)]
-mod equality;
 #[cfg(test)]
 mod errors;
 #[cfg(test)]
@@ -19,6 +17,8 @@ mod lines;
 mod metrics;
 #[cfg(test)]
 mod paths;
+#[cfg(test)]
+mod runs;
 #[cfg(test)]
 mod scores;
 #[cfg(test)]

@@ -1,28 +1,8 @@
-//! Tests of summaries and faults of runs, and of the cutting of lines.
+//! Tests of the faults of runs, and of the cutting of lines.
 
-use crate::values::{Tried, are_copied, are_printed};
-use cvss_lines::{RunFault, Summary, first_line};
+use crate::values::{Tried, are_printed};
+use cvss_lines::{RunFault, first_line};
 use std::process::Abort;
-
-const ACCEPTED: Summary = Summary {
-    accepted: 2,
-    refused: 0,
-};
-
-const REFUSED: Summary = Summary {
-    refused: 1,
-    ..ACCEPTED
-};
-
-const FEWER: Summary = Summary {
-    accepted: 1,
-    ..ACCEPTED
-};
-
-#[test]
-fn summaries_differ_by_each_count(rt: HostRuntime) -> Tried {
-    are_copied(&rt, &[("2 0", ACCEPTED), ("2 1", REFUSED), ("1 0", FEWER)])
-}
 
 /// The faults and their texts.
 const FAULTS: [(&str, RunFault); 3] = [

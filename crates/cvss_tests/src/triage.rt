@@ -1,4 +1,4 @@
-//! Tests of triage: how refusals are distinguished.
+//! Tests of triage: how refusals are printed.
 
 use crate::values::{Tried, are_printed};
 use cvss::Error;
@@ -11,7 +11,7 @@ const INCOMPLETE: Error = Error::MissingMandatoryMetricV4 {
 };
 
 #[test]
-fn refusals_of_triage_are_printed_and_copied(rt: HostRuntime) -> Tried {
+fn refusals_of_triage_are_printed(rt: HostRuntime) -> Tried {
     let rows = [
         (
             "override 0: no environmental CVSSv4 metric",
@@ -41,7 +41,7 @@ fn refusals_of_triage_are_printed_and_copied(rt: HostRuntime) -> Tried {
 }
 
 #[test]
-fn refusals_of_overrides_are_printed_and_copied(rt: HostRuntime) -> Tried {
+fn refusals_of_overrides_are_printed(rt: HostRuntime) -> Tried {
     let rows = [
         (
             "override 0: no environmental CVSSv4 metric",

@@ -1,4 +1,4 @@
-//! What is asked of the values of every public type: that they are distinguished, copied and printed.
+//! What is asked of values: that they are equal, and that they are printed.
 
 use std::alloc::{AllocError, Global};
 use std::fmt;
@@ -15,33 +15,11 @@ pub(crate) fn are_equal<T: PartialEq>(rt: &impl Abort, rows: &[(T, T)]) {
     }
 }
 
-/// Whether a value equals the one of its own text, and no other.
-fn is_distinguished<T: PartialEq>(rows: &[(&str, T)], text: &str, value: &T) -> bool {
-    let mut apart = true;
-    for (other_text, other) in rows {
-        let same = text == *other_text;
-        apart = apart && (value == other) == same && (value != other) != same;
-    }
-    apart
-}
-
-/// Copies each value, and compares the copy with each. Two are equal exactly where their texts are.
-pub(crate) fn are_copied<T>(rt: &impl Abort, rows: &[(&str, T)]) -> Tried
-where
-    T: Clone + PartialEq,
-{
-    for (text, value) in rows {
-        assert!(rt; is_distinguished(rows, text, &value.clone()?), "{text}");
-    }
-    Ok(())
-}
-
-/// Prints each value, which gives its text, and copies it.
+/// Prints each value, which gives its text.
 pub(crate) fn are_printed<T>(rt: &impl Abort, alloc: Global, rows: &[(&str, T)]) -> Tried
 where
-    T: fmt::Display + Clone + PartialEq,
+    T: fmt::Display,
 {
-    are_copied(rt, rows)?;
     for (text, value) in rows {
         prints(rt, alloc, value, text)?;
     }

@@ -88,3 +88,44 @@ fn a_vector_of_another_minor_version_is_read_back_as_of_that(rt: HostRuntime) ->
     assert!(rt; matches!(read, Some(Cvss::CvssV31(read)) if read == vector));
     Ok(())
 }
+
+/// The vector of v3 without metrics and with this minor version.
+fn empty_v3(minor_version: usize) -> v3::Vector {
+    v3::Vector {
+        minor_version,
+        ..v3::Vector::default()
+    }
+}
+
+#[test]
+fn vectors_of_v3_print_any_minor_version(rt: HostRuntime) -> Tried {
+    let rows = [
+        ("CVSS:3.0", empty_v3(0)),
+        ("CVSS:3.1", empty_v3(1)),
+        ("CVSS:3.7", empty_v3(7)),
+        ("CVSS:3.10", empty_v3(10)),
+        ("CVSS:3.18446744073709551615", empty_v3(usize::MAX)),
+    ];
+    are_printed(&rt, rt.alloc(), &rows)
+}
+
+/// The vector of v4 without metrics and with this minor version.
+fn empty_v4(minor_version: usize) -> v4::Vector {
+    let mut vector = v4::Vector::default();
+    vector.minor_version = minor_version;
+    vector
+}
+
+#[test]
+fn vectors_of_v4_print_any_minor_version(rt: HostRuntime) -> Tried {
+    let rows = [
+        ("CVSS:4.0", empty_v4(0)),
+        ("CVSS:4.1", empty_v4(1)),
+        ("CVSS:4.7", empty_v4(7)),
+        ("CVSS:4.10", empty_v4(10)),
+        ("CVSS:4.12", empty_v4(12)),
+        ("CVSS:4.18446744073709551615", empty_v4(usize::MAX)),
+    ];
+    assert!(rt; !empty_v4(12).same_text(&empty_v4(0)));
+    are_printed(&rt, rt.alloc(), &rows)
+}

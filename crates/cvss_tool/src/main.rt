@@ -3,8 +3,6 @@
 
 mod fault;
 mod run;
-#[cfg(test)]
-mod tests;
 pub mod triage;
 
 pub use cvss_lines::{RunFault, Summary, exit_status, laws};

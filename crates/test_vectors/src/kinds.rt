@@ -32,11 +32,10 @@ where
 /// Metrics beside each other.
 pub(crate) fn each_kind(rt: &HostRuntime, asked: &str) -> io::Result<()> {
     let (version, words) = first_word(asked);
-    let alloc = rt.alloc();
     match version {
-        "2" => show(rt, words, |word| v2::MetricType::from_str(alloc, word).ok()),
-        "3" => show(rt, words, |word| v3::MetricType::from_str(alloc, word).ok()),
-        "4" => show(rt, words, |word| v4::MetricType::from_str(alloc, word).ok()),
+        "2" => show(rt, words, v2::MetricType::from_str),
+        "3" => show(rt, words, v3::MetricType::from_str),
+        "4" => show(rt, words, v4::MetricType::from_str),
         _ => println!(rt; "{NO_VERSION}"),
     }
 }

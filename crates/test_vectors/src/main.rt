@@ -12,7 +12,6 @@
 //! - `parts TEXT`: counts of impact, exploitability and, for v2 (where they are rounded), adjusted
 //!   impact.
 //! - `metrics TEXT`: the metrics, as they are listed.
-//! - `fast_path TEXT`: what is known of a canonical text without a walk over its components.
 //! - `same TEXT TEXT`: whether two vectors of a version are equal, and whether their texts are.
 //! - `kind 2 NAME`: a metric's name, and what it stands for.
 //! - `value 2 AV TEXT`: a metric's value, its metric and its spelling, and the count of its
@@ -81,7 +80,6 @@ fn answer_marked(rt: &HostRuntime, line: &[u8], mark: &str, asked: &str) -> io::
         "scores" => scores::scores(rt, asked),
         "parts" => scores::parts(rt, asked),
         "metrics" => vectors::metrics(rt, asked),
-        "sight" => vectors::on_fast_path(rt, asked),
         "same" => vectors::same(rt, asked),
         _ => answer_otherwise(rt, line, mark, asked),
     }

@@ -3,7 +3,7 @@
 use crate::kinds::{each_kind, each_value};
 use crate::{first_word, v2, v3, v4};
 use cvss_any::Cvss;
-use cvss_base::Severity;
+use cvss_base::{Error, Severity};
 use cvss_score::v4::Nomenclature;
 use std::alloc::{AllocError, Global};
 use std::{fmt, io};
@@ -11,19 +11,23 @@ use std::{fmt, io};
 /// Of the words that are read, the values.
 pub(crate) fn each(rt: &HostRuntime, asked: &str) -> io::Result<()> {
     let (kind, words) = first_word(asked);
-    let alloc = rt.alloc();
     match kind {
         "kind" => each_kind(rt, words),
         "value" => each_value(rt, words),
-        "vector" => show(rt, words, |word| Cvss::read_bytes(word.as_bytes())),
-        "v2" => show(rt, words, |word| v2::Vector::read_bytes(word.as_bytes())),
-        "v3" => show(rt, words, |word| v3::Vector::read_bytes(word.as_bytes())),
-        "v4" => show(rt, words, |word| v4::Vector::read_bytes(word.as_bytes())),
-        "rating" => show(rt, words, |word| Severity::from_str(alloc, word).ok()),
-        "nomenclature" => show(rt, words, |word| Nomenclature::from_str(alloc, word).ok()),
-        "error" => show(rt, words, |word| Cvss::from_str(alloc, word).err()),
+        "vector" => show(rt, words, Cvss::from_str),
+        "v2" => show(rt, words, v2::Vector::from_str),
+        "v3" => show(rt, words, v3::Vector::from_str),
+        "v4" => show(rt, words, v4::Vector::from_str),
+        "rating" => show(rt, words, Severity::from_str),
+        "nomenclature" => show(rt, words, Nomenclature::from_str),
+        "error" => show(rt, words, refused),
         _ => println!(rt; "no such type"),
     }
+}
+
+/// The error of a refused text.
+fn refused(alloc: Global, text: &str) -> Result<Error, Error> {
+    Cvss::from_str(alloc, text).err().ok_or(Error::OutOfMemory)
 }
 
 /// Of the words that a function reads, a copy of each value, how many of them it equals, and how many
@@ -31,12 +35,12 @@ pub(crate) fn each(rt: &HostRuntime, asked: &str) -> io::Result<()> {
 pub(crate) fn show<T, F>(rt: &HostRuntime, words: &str, read: F) -> io::Result<()>
 where
     T: fmt::Display + Clone + PartialEq + Drop,
-    F: Fn(&str) -> Option<T>,
+    F: Fn(Global, &str) -> Result<T, Error>,
     requires { F.IsAlwaysCallable read }
 {
     let mut values = Vec::new(rt.alloc());
     for word in words.split(' ') {
-        if let Some(value) = read(word) {
+        if let Ok(value) = read(rt.alloc(), word) {
             values.push(value)?;
         }
     }

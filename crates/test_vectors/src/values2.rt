@@ -40,7 +40,7 @@ fn reported<M: Metric + Drop>(
     match asked {
         Asked::Name => print_with(rt, &kind, kind.name(), kind.description()),
         Asked::One(text) => one::<M>(rt, text),
-        Asked::Each(words) => show(rt, words, |word| M::read(word)),
+        Asked::Each(words) => show(rt, words, |alloc, word| M::from_str(alloc, word)),
     }
 }
 

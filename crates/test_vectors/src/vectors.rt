@@ -2,7 +2,7 @@
 
 use crate::shown::print_error;
 use crate::{v2, v3, v4};
-use cvss_any::{Bounds, Cvss, MetricType};
+use cvss_any::{Cvss, MetricType};
 use cvss_base::Severity;
 use std::{fmt, io};
 
@@ -97,44 +97,6 @@ fn version_of(kind: MetricType) -> &'static str {
         MetricType::V2(_) => "v2",
         MetricType::V3(_) => "v3",
         MetricType::V4(_) => "v4",
-    }
-}
-
-/// What is known of a canonical text on the fast path: its vector, the tenths of the score, and how it is
-/// rated.
-pub(crate) fn on_fast_path(rt: &HostRuntime, text: &str) -> io::Result<()> {
-    match seen(text.as_bytes()).zip(Cvss::published_on_fast_path(text.as_bytes())) {
-        Some((vector, published)) => {
-            println!(rt;
-                "{vector} {} {}",
-                published.tenths,
-                bounds_text(published.bounds)
-            )
-        }
-        None => println!(rt; "not at sight"),
-    }
-}
-
-/// The vector that each call gives that may decline a text.
-fn seen(text: &[u8]) -> Option<Cvss> {
-    let vector = Cvss::read_canonical(text)?;
-    let in_any_order = Cvss::read_in_any_order(text)?;
-    (in_any_order == vector && is_seen_by_version(text, &vector)).then_some(vector)
-}
-
-fn is_seen_by_version(text: &[u8], vector: &Cvss) -> bool {
-    match vector {
-        Cvss::CvssV20(vector) => v2::Vector::read_canonical(text).as_ref() == Some(vector),
-        Cvss::CvssV30(vector) | Cvss::CvssV31(vector) => v3::Vector::read_canonical(text).as_ref()
-            == Some(vector),
-        Cvss::CvssV40(vector) => v4::Vector::read_canonical(text).as_ref() == Some(vector),
-    }
-}
-
-fn bounds_text(bounds: Bounds) -> &'static str {
-    match bounds {
-        Bounds::OfV2 => "v2",
-        Bounds::SinceV3 => "v3",
     }
 }
 
