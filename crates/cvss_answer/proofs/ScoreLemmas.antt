@@ -10,9 +10,8 @@ use Rattle.cvss_any.specs.declared.published.Bounds.TheVariants.{OfV2, SinceV3}
 use Rattle.cvss_any.specs.declared.published.Published.{Published}
 use Rattle.cvss_base.specs.Rating.{rating_of_score}
 use Rattle.cvss_score.specs.v2.Rating.{rating_of}
-use Rattle.cvss_lines.specs.Answers.{Accepted, WritesAnswer, written_text}
-use Rattle.cvss_lines.proofs.TextsLemmas.{one_text}
-use Rattle.cvss_answer.specs.Answers.{IsAnswer, rated_line, score_line}
+use Rattle.cvss_lines.specs.Answers.{written_text}
+use Rattle.cvss_answer.specs.Answers.{rated_line, score_line}
 
 at_place : (n place : ℕ) → place < n → (from : ℕ) → slice_get (range_with_len from n) place ≡ Some (from + place)
 at_place zero place below from = absurd (omega arith)
@@ -52,21 +51,3 @@ canonical_answer line text published is =
     same
     ∙ sym (append_assoc own (codes " ") (reported ++ 10 ∷ []))
     ∙ sym (append_assoc (own ++ codes " ") reported (10 ∷ []))
-
--- a line is answered once both are written of its vector
-pub canonical_written : (number : ℕ) (line text : List ℕ) (published : Published) (old new : List ℕ) → IsPublishedAs line text published
-    → new ≡ old ++ (text ++ score_line published) → WritesAnswer IsAnswer number line old new true
-unfolding IsAnswer
-canonical_written number line text published old new of written = record {
-  answer = Accepted (vector_answer of.cvss published.tenths ∷ []);
-  answers = record {
-    utf8 = of.utf8;
-    vector = of.cvss;
-    denoted = of.denoted;
-    tenths = published.tenths;
-    scored = of.is.scored;
-    is = refl;
-  };
-  reported = refl;
-  written = one_text _ _ _ (written ∙ ap (λ text. old ++ text) (canonical_answer line text published of));
-}

@@ -2,7 +2,7 @@
 use Rattle.std.proofs.Common.{◌≡◌, ℕ, Bool, true, false, List, [], ◌∷◌, ◌++◌, codes, None, inl, inr, refl, ap, ◌∙◌}
 use Rattle.cvss_any.proofs.ErrorLemmas.{said_of_bytes}
 use Rattle.cvss_any.specs.Answers.{vector_answer}
-use Rattle.cvss_any.specs.Complete.{IsMissingError, IsPublishedBy, IsPublishedOfComplete, IsReadErrorBy, missing_by}
+use Rattle.cvss_any.specs.Complete.{IsMissingError, IsPublishedOfComplete, IsPublishedTo, IsReadErrorBy, missing_by}
 use Rattle.cvss_any.specs.Reasons.{error_message, not_utf8_text, reason_text}
 use Rattle.cvss_any.specs.declared.published.Published.{Published}
 use Rattle.cvss_any.specs.declared.refusal.ReadError.{ReadError}
@@ -10,7 +10,7 @@ use Rattle.cvss_any.specs.declared.refusal.ReadError.TheVariants.{NotUtf8, Inval
 use Rattle.cvss_base.specs.Refusal.{Missing}
 use Rattle.cvss_lines.specs.Answers.{Accepted, Refused, WritesAnswer}
 use Rattle.cvss_lines.proofs.TextsLemmas.{one_text}
-use Rattle.cvss_answer.specs.Answers.{IsAcceptance, IsAnswer, IsCompleteAnswer, score_line, score_rule}
+use Rattle.cvss_answer.specs.Answers.{IsAcceptance, IsAnswer, IsCompleteAnswer, error_line, score_line, score_rule, vector_line}
 use Rattle.cvss_answer.proofs.ScoreLemmas.{canonical_answer}
 
 -- a vector is accepted, where none of its base metrics may be missing or none is
@@ -19,27 +19,6 @@ accepted : (allow : Bool) (number : ℕ) (line text : List ℕ) → (is : IsAcce
 unfolding IsAnswer IsCompleteAnswer
 accepted true number line text is complete = is
 accepted false number line text is complete = record { accepted = is; complete = complete }
-
--- a line is answered once its vector's canonical text and the line of its score are written
-pub published_written : (allow : Bool) (number : ℕ) (line canonical : List ℕ) (published : Published) (old new : List ℕ)
-    → IsPublishedBy allow line canonical published → new ≡ old ++ (canonical ++ score_line published) → WritesAnswer (score_rule allow) number line old new true
-published_written allow number line canonical published old new is written =
-    let of = is.of in
-    let text = vector_answer of.cvss published.tenths in
-    record {
-      answer = Accepted (text ∷ []);
-      answers = accepted allow number line text
-          (record { utf8 = of.utf8; vector = of.cvss; denoted = of.denoted; tenths = published.tenths; scored = of.is.scored; is = refl })
-          is.complete;
-      reported = refl;
-      written = one_text _ _ _ (written ∙ ap (λ text. old ++ text) (canonical_answer line canonical published of));
-    }
-
--- a vector that lacks no base metric is answered by either rule
-pub complete_written : (allow : Bool) (number : ℕ) (line : List ℕ) (published : Published) (old new : List ℕ) → IsPublishedOfComplete line published
-    → new ≡ old ++ (line ++ score_line published) → WritesAnswer (score_rule allow) number line old new true
-complete_written true number line published old new is = published_written true number line line published old new (record { of = is.of; complete = refl })
-complete_written false number line published old new is = published_written false number line line published old new is
 
 -- what is said of an error is what is said of its reason
 said_of_missing : (line : List ℕ) (error : ReadError) → (is : IsMissingError false line error) → error_message error ≡ reason_text (Missing is.metric)
@@ -62,11 +41,31 @@ rejected false number line error (inr is) = inr (record {
   is = ap (λ reason. codes "error: " ++ reason) (said_of_missing line error is);
 })
 
-pub error_written : (allow : Bool) (number : ℕ) (line old new : List ℕ) (error : ReadError) → IsReadErrorBy allow line error
-    → new ≡ old ++ (codes "error: " ++ (error_message error ++ 10 ∷ [])) → WritesAnswer (score_rule allow) number line old new false
-error_written allow number line old new error is written = record {
-  answer = Refused ((codes "error: " ++ error_message error) ∷ []);
-  answers = rejected allow number line error is;
+-- a line is answered once it is published
+pub published_written : (allow : Bool) (number : ℕ) (line old : List ℕ) (is_accepted : Bool) (new : List ℕ)
+    → IsPublishedTo vector_line error_line allow line old is_accepted new → WritesAnswer (score_rule allow) number line old new is_accepted
+published_written allow number line old true new published =
+    let of = published.is.of in
+    let text = vector_answer of.cvss published.published.tenths in
+    record {
+      answer = Accepted (text ∷ []);
+      answers = accepted allow number line text
+          (record { utf8 = of.utf8; vector = of.cvss; denoted = of.denoted; tenths = published.published.tenths; scored = of.is.scored; is = refl })
+          published.is.complete;
+      reported = refl;
+      written = one_text _ _ _ (published.appended ∙ ap (λ text. old ++ text) (canonical_answer line published.canonical published.published of));
+    }
+published_written allow number line old false new rejects = record {
+  answer = Refused ((codes "error: " ++ error_message rejects.error) ∷ []);
+  answers = rejected allow number line rejects.error rejects.is;
   reported = refl;
-  written = one_text _ (codes "error: " ++ error_message error) _ written;
+  written = one_text _ (codes "error: " ++ error_message rejects.error) _ rejects.appended;
 }
+
+-- a canonical text whose vector lacks no base metric is answered by either rule
+pub complete_written : (allow : Bool) (number : ℕ) (line : List ℕ) (published : Published) (old new : List ℕ) → IsPublishedOfComplete line published
+    → new ≡ old ++ (line ++ score_line published) → WritesAnswer (score_rule allow) number line old new true
+complete_written true number line published old new is written =
+    published_written true number line old true new (record { canonical = line; published = published; is = record { of = is.of; complete = refl }; appended = written })
+complete_written false number line published old new is written =
+    published_written false number line old true new (record { canonical = line; published = published; is = is; appended = written })

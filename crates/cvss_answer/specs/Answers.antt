@@ -6,7 +6,8 @@ use Rattle.cvss_any.specs.Answers.{IsScoreOf, rating_text, score_of_tenths, vect
 use Rattle.cvss_any.specs.Complete.{first_missing}
 use Rattle.cvss_any.specs.Dispatch.{DenotesCvss}
 use Rattle.cvss_any.specs.Published.{rating_within}
-use Rattle.cvss_any.specs.Reasons.{IsErrorAnswer, reason_text}
+use Rattle.cvss_any.specs.Reasons.{IsErrorAnswer, error_message, reason_text}
+use Rattle.cvss_any.specs.declared.refusal.ReadError.{ReadError}
 use Rattle.cvss_base.specs.Refusal.{Missing}
 use Rattle.cvss_any.specs.declared.metric_type.MetricType.{MetricType}
 use Rattle.cvss_any.specs.declared.published.Bounds.{Bounds}
@@ -67,3 +68,10 @@ rated_line bounds tenths =
 
 abbrev pub score_line : Published → List ℕ
 score_line published = rated_line published.bounds published.tenths
+
+-- what is written of a canonical text with what is published of its vector, and of an error
+abbrev pub vector_line : List ℕ → Published → List ℕ
+vector_line text published = text ++ score_line published
+
+abbrev pub error_line : ReadError → List ℕ
+error_line error = codes "error: " ++ (error_message error ++ 10 ∷ [])

@@ -1,14 +1,13 @@
 //! The answer to one line.
 
-ghost use Rattle.std.specs.Prelude.{◌≡◌, ℕ, ◌++◌, [], ◌∷◌, ◌≤◌, codes, IfOk, OnOk};
+ghost use Rattle.std.specs.Prelude.{◌≡◌, ℕ, ◌++◌, ◌≤◌, IfOk, OnOk};
 ghost use Rattle.cvss_any.specs.Answers.{HasScore, text_of};
-ghost use Rattle.cvss_any.specs.Reasons.{error_message};
 ghost use Rattle.cvss_lines.specs.Answers.{WritesAnswer};
-ghost use Rattle.cvss_answer.specs.Answers.{IsAnswer, WritesVector, score_line, score_rule};
+ghost use Rattle.cvss_answer.specs.Answers.{IsAnswer, WritesVector, error_line, score_line, score_rule, vector_line};
 
 use crate::score_line::score_line;
 use crate::segments::push_segments;
-use cvss_any::{Cvss, Message, Published, ReadError, TextBuffer};
+use cvss_any::{Cvss, Message, Published, Publishing, ReadError};
 use cvss_lines::{Answering, OutputBuffer};
 use std::alloc::{AllocError, Global};
 use std::fmt::{self, Write};
@@ -25,18 +24,18 @@ impl Answering for Vectors {
         line: &[u8],
         answers: &mut OutputBuffer,
     ) -> Result<bool, AllocError> {
-        if let Some(published) = Cvss::published_on_fast_path(line) {
-            write_canonical(line, published, answers)?;
-            return Ok(true);
-        }
-        answer_other_line(line, true, answers)
+        answer_score(line, true, answers)
     }
 }
 
-/// The answer to a line that is not seen at once to be canonical.
-// A call of its own keeps the buffer out of the frame of a canonical line.
-#[inline(never)]
-pub(crate) fn answer_other_line(
+/// Answers a line as [`Vectors`] does, but a vector of CVSS v3 that lacks base metrics by the first of
+/// them, unless they may be missing.
+///
+/// # Errors
+///
+/// Out of memory.
+#[inline(always)]
+pub fn answer_score(
     line: &[u8],
     allow_incomplete: bool,
     answers: &mut OutputBuffer,
@@ -44,16 +43,26 @@ pub(crate) fn answer_other_line(
     ensures { (number : ℕ) → IfOk result (WritesAnswer (score_rule allow_incomplete) number line.now
         answers.old.bytes.items answers.new.bytes.items) }
 {
-    let mut buffer = TextBuffer::new();
-    match Cvss::publish(line, allow_incomplete, &mut buffer) {
-        Ok((text, published)) => {
-            write_canonical(text, published, answers)?;
-            Ok(true)
-        }
-        Err(error) => {
-            write_error(error, answers)?;
-            Ok(false)
-        }
+    Cvss::publish::<Vectors>(line, allow_incomplete, &mut answers.bytes)
+}
+
+impl Publishing for Vectors {
+    ghost accepted = { vector_line };
+
+    ghost rejected = { error_line };
+
+    #[inline(always)]
+    fn accept(text: &[u8], published: Published, out: &mut Vec<u8>) -> Result<(), AllocError> {
+        out.extend_from_slice(text)?;
+        out.extend_from_slice(score_line(published).as_bytes())
+    }
+
+    // A call of its own keeps the segments out of the frame of an accepted line.
+    #[inline(never)]
+    fn reject(error: ReadError<'_>, out: &mut Vec<u8>) -> Result<(), AllocError> {
+        out.extend_from_slice("error: ".as_bytes())?;
+        push_segments(&Message::of(error).segments, out)?;
+        out.extend_from_slice(&[b'\n'])
     }
 }
 
@@ -62,15 +71,11 @@ pub(crate) fn answer_other_line(
 /// # Errors
 ///
 /// Out of memory. A beginning of the answer may be written then.
-// A call of its own keeps the segments out of the frame of an accepted line.
-#[inline(never)]
 pub fn write_error(error: ReadError<'_>, answers: &mut OutputBuffer) -> Result<(), AllocError>
-    ensures { OnOk result (answers.new.bytes.items ≡ answers.old.bytes.items
-        ++ (codes "error: " ++ (error_message error.entry ++ 10 ∷ []))) }
+    ensures { OnOk result (answers.new.bytes.items
+        ≡ answers.old.bytes.items ++ error_line error.entry) }
 {
-    answers.push("error: ".as_bytes())?;
-    push_segments(&Message::of(error).segments, answers)?;
-    answers.push(&[b'\n'])
+    Vectors::reject(error, &mut answers.bytes)
 }
 
 /// Writes a canonical text with what is published of its vector, and a byte 10: the answer to it.
@@ -88,8 +93,7 @@ pub fn write_canonical(
     ensures { OnOk result (answers.new.bytes.items
         ≡ answers.old.bytes.items ++ (text.now ++ score_line published)) }
 {
-    answers.push(text)?;
-    answers.push(score_line(published).as_bytes())
+    Vectors::accept(text, published, &mut answers.bytes)
 }
 
 /// Writes the answer of a vector, and a byte 10.

@@ -4,10 +4,8 @@
 
 mod answer;
 mod score_line;
-mod scoring;
 mod segments;
 mod setting;
 
-pub use answer::{Vectors, write_canonical, write_error};
-pub use scoring::answer_score;
+pub use answer::{Vectors, answer_score, write_canonical, write_error};
 pub use setting::answer_with_metrics;

@@ -7,14 +7,14 @@ use Rattle.cvss_any.specs.Answers.{HasScore}
 use Rattle.cvss_text.specs.Route.{NoVersion, Route, ToV20, ToV30, ToV31, ToV40, ToNoVersion, route_of}
 use Rattle.cvss_any.specs.Dispatch.{DenotesCvss, IsFirstRefusalCvss, IsFirstReasonAt, IsReasonOf, wrapped, without_version}
 use Rattle.cvss_any.specs.Setting.{IsOf}
-use Rattle.cvss_any.specs.private.Steps.{IsRead, IsPrintableFault, reason_read}
+use Rattle.cvss_any.specs.private.Steps.{IsRead, IsPrintableFault, read_as, reason_read}
 use Rattle.cvss_any.specs.private.Versions.{IsRouted, IsRoutedV3, front_of, wrapped_v3}
 use Rattle.cvss_any.specs.declared.metric_type.MetricType.{MetricType}
 use Rattle.cvss_any.specs.declared.metric_type.MetricType.TheVariants.{V2, V3, V4}
 use Rattle.cvss_any.specs.declared.reading.ReadFault.{ReadFault}
 use Rattle.cvss_any.specs.declared.vector.Cvss.{Cvss}
 use Rattle.cvss_any.specs.declared.vector.Cvss.TheVariants.{CvssV20, CvssV30, CvssV31, CvssV40}
-use Rattle.cvss_text.specs.private.Walk.{HasNoValue, IsAnswer, IsBare, IsPrintable, IsStarted, reason_of}
+use Rattle.cvss_text.specs.private.Walk.{HasNoValue, IsAnswer, IsBare, IsPrintable, IsStarted, filled, reason_of}
 use Rattle.cvss_text.specs.declared.walk.Fault.{Fault}
 use Rattle.cvss_v2.specs.Vector.{v2}
 use Rattle.cvss_v3.specs.Vector.{v3}
@@ -32,7 +32,7 @@ ok_same : {X E : Type 0} (x y : X) → ◌≡◌ {A = Result X E} (Ok x) (Ok y) 
 ok_same x y same = cc
 
 module _ {V K : Type 0} {version : Version V K} {wrap : V → Cvss} {of_any : K → MetricType} {IsFormed : V → Type 0} {IsReason : Refusal K → Type 0} {text : List ℕ} (by : IsReadBy version wrap of_any IsFormed IsReason text) where
-  pub read_ok : (v : V) → IsAnswer version IsFormed IsReason text (Ok v) → IsRead text (Ok (wrap v))
+  read_ok : (v : V) → IsAnswer version IsFormed IsReason text (Ok v) → IsRead text (Ok (wrap v))
   read_ok v read = record {
     denoted = (by.denotes v read.denoted read.well_formed).0;
     accepts = λ cvss denotes.
@@ -45,7 +45,7 @@ module _ {V K : Type 0} {version : Version V K} {wrap : V → Cvss} {of_any : K 
     printable = λ is. tt;
   }
 
-  pub read_err : (fault : Fault K) (reported : ReadFault) → reason_read reported ≡ wrapped of_any (reason_of version fault) → (IsPrintable version fault → IsPrintableFault reported) → IsAnswer version IsFormed IsReason text (Err fault) → IsRead text (Err reported)
+  read_err : (fault : Fault K) (reported : ReadFault) → reason_read reported ≡ wrapped of_any (reason_of version fault) → (IsPrintable version fault → IsPrintableFault reported) → IsAnswer version IsFormed IsReason text (Err fault) → IsRead text (Err reported)
   read_err fault reported says printable read = record {
     denoted = tt;
     accepts = λ cvss denotes. absurd (let of = by.own cvss denotes in let no = read.accepts of.own of.holds.0 of.holds.1 in cc);
@@ -57,6 +57,11 @@ module _ {V K : Type 0} {version : Version V K} {wrap : V → Cvss} {of_any : K 
         says ∙ (ap (wrapped of_any) (read.refuses of.own of.first) ∙ sym of.is);
     printable = λ utf8. printable (read.printable utf8);
   }
+
+  -- what is answered of a version is answered of any, where each fault is reported as one of any version
+  pub read_any : (reported : Fault K → ReadFault) → ((fault : Fault K) → reason_read (reported fault) ≡ wrapped of_any (reason_of version fault)) → ((fault : Fault K) → IsPrintable version fault → IsPrintableFault (reported fault)) → (answer : Result (Unit {0}) (Fault K)) (v : V) → IsAnswer version IsFormed IsReason text (filled answer v) → IsRead text (read_as wrap reported answer v)
+  read_any reported says printable (Ok _) v is = read_ok v is
+  read_any reported says printable (Err fault) v is = read_err fault (reported fault) (says fault) (printable fault) is
 
 -- the first reasons of a text are those of the version by which it is read, and so are the vectors that it denotes
 module _ (text : List ℕ) (to : Route) (route : route_of text ≡ to) where

@@ -1,6 +1,6 @@
 -- The base metrics that a vector lacks. Only CVSS v3 has texts that lack some, though each base metric has to be in
 -- its vector: v3.1 specification, section 6, and Table 15.
-use Rattle.std.specs.Prelude.{◌≡◌, ◌⊎◌, ℕ, not, Bool, true, false, List, [], ◌∷◌, find, Option, Some, None, is_some}
+use Rattle.std.specs.Prelude.{◌≡◌, ◌⊎◌, ℕ, not, Bool, true, false, List, [], ◌∷◌, ◌++◌, find, Option, Some, None, is_some}
 use Rattle.std.specs.Option.{option_map}
 use Rattle.std.specs.Str.{IsUtf8}
 use Rattle.cvss_base.specs.Refusal.{Missing}
@@ -60,3 +60,21 @@ pub record IsMissingError (allow_incomplete : Bool) (text : List ℕ) (error : R
 -- the error is right: the bytes are the text of no vector for this reason, or of one that lacks base metrics and may not
 abbrev pub IsReadErrorBy : Bool → List ℕ → ReadError → Type 0
 IsReadErrorBy allow_incomplete text error = IsReadError text error ⊎ IsMissingError allow_incomplete text error
+
+-- what is published of the vector that a text denotes is appended, where this is what is written of a canonical text
+pub record IsPublishedOnto (accepted : List ℕ → Published → List ℕ) (allow_incomplete : Bool) (text old new : List ℕ) : Type 0 where
+  pub canonical : List ℕ
+  pub published : Published
+  pub is : IsPublishedBy allow_incomplete text canonical published
+  pub appended : new ≡ old ++ accepted canonical published
+
+-- an error that is right is appended, where this is what is written of an error
+pub record IsRejectedOnto (rejected : ReadError → List ℕ) (allow_incomplete : Bool) (text old new : List ℕ) : Type 0 where
+  pub error : ReadError
+  pub is : IsReadErrorBy allow_incomplete text error
+  pub appended : new ≡ old ++ rejected error
+
+-- what is appended where a text is published, and where it is rejected
+abbrev pub IsPublishedTo : (List ℕ → Published → List ℕ) → (ReadError → List ℕ) → Bool → List ℕ → List ℕ → Bool → List ℕ → Type 0
+IsPublishedTo accepted rejected allow_incomplete text old true new = IsPublishedOnto accepted allow_incomplete text old new
+IsPublishedTo accepted rejected allow_incomplete text old false new = IsRejectedOnto rejected allow_incomplete text old new

@@ -29,7 +29,3 @@ pub record IsPublishedAs (text canonical : List ℕ) (published : Published) : T
   pub denoted : DenotesCvss text cvss
   pub utf8 : IsUtf8 text
   pub is : IsPublished cvss published
-
--- the same, of a text that is its vector's canonical one
-abbrev pub IsPublishedOf : List ℕ → Published → Type 0
-IsPublishedOf text published = IsPublishedAs text text published

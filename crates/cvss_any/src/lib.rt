@@ -3,12 +3,12 @@
 
 mod bytes_error;
 mod complete;
-mod fast_path;
 mod message;
 mod metric_type;
 mod metrics;
 mod one_version;
 mod published;
+mod publishing;
 mod reading;
 mod refusal;
 mod segment;
@@ -24,6 +24,7 @@ pub use message::Message;
 pub use metric_type::MetricType;
 pub use metrics::Metrics;
 pub use published::{Bounds, Published};
+pub use publishing::Publishing;
 pub use refusal::{ReadError, Refusal};
 pub use segment::Segment;
 pub use setting::{SetError, Version};

@@ -1,30 +1,33 @@
 //! What each version brings to a vector of any version. CVSS v3.0 and v3.1 are one version here, with
 //! two minor versions.
 
-ghost use Rattle.std.specs.Prelude.{◌≡◌, [], ℕ, List, IfSome, IsSome, IsUtf8, codes};
-ghost use Rattle.cvss_text.specs.private.Pieces.{pieces_left};
-ghost use Rattle.cvss_text.specs.private.Walk.{HasNoValue};
-ghost use Rattle.cvss_any.specs.Answers.{HasScore, text_of};
-ghost use Rattle.cvss_any.specs.Dispatch.{DenotesCvss};
+ghost use Rattle.std.specs.Prelude.{◌≡◌, ◌≤◌, ◌++◌, [], ℕ, List, Result, codes, ⊤};
+ghost use Rattle.cvss_base.specs.Text.{pieces};
+ghost use Rattle.cvss_base.specs.Version.{canonical_text};
 ghost use Rattle.cvss_text.specs.Route.{ToV20, ToV40, route_of};
+ghost use Rattle.cvss_text.specs.declared.walk.Fault.{Fault};
+ghost use Rattle.cvss_text.specs.private.Walk.{HasNoValue, IsReadLeft};
+ghost use Rattle.cvss_any.specs.Answers.{HasScore, text_of};
+ghost use Rattle.cvss_any.specs.Complete.{missing_by};
+ghost use Rattle.cvss_any.specs.Published.{IsPublished};
 ghost use Rattle.cvss_any.specs.declared.metric_type.MetricType.{MetricType};
 ghost use Rattle.cvss_any.specs.declared.metric_type.MetricType.TheVariants as of;
+ghost use Rattle.cvss_any.specs.declared.reading.ReadFault.{ReadFault};
+ghost use Rattle.cvss_any.specs.declared.reading.ReadFault.TheVariants as read;
 ghost use Rattle.cvss_any.specs.declared.vector.Cvss.{Cvss};
 ghost use Rattle.cvss_any.specs.declared.vector.Cvss.TheVariants as wrapped;
-ghost use Rattle.cvss_any.specs.private.Steps.{IsRead};
+ghost use Rattle.cvss_any.specs.private.Steps.{IsRead, read_as};
 ghost use Rattle.cvss_any.specs.private.Versions.{IsRouted, IsRoutedV3, front_of, wrapped_v3};
 
+use crate::complete::missing_of_v3;
 use crate::metric_type::MetricType;
+use crate::published::{Bounds, Published};
 use crate::reading::ReadFault;
 use crate::vector::Cvss;
 use crate::{v2, v3, v4};
-use cvss_text::front::read_started;
-use cvss_text::pieces::Pieces;
-use cvss_text::print::Printed;
-use cvss_text::walk::fill_vector;
-
-/// The bytes of `CVSS:3.0` or `CVSS:3.1`, which alone are no vector.
-const VERSION_PIECE_LENGTH: usize = 8;
+use cvss_text::buffer::TextBuffer;
+use cvss_text::print::{Printed, text_after};
+use cvss_text::walk::Fault;
 
 /// A version, whose metrics and vectors are also those of any version.
 pub(crate) trait OneVersion: Printed {
@@ -34,7 +37,11 @@ pub(crate) trait OneVersion: Printed {
 
     ghost front: { ℕ → List (List ℕ) };
 
-    ghost is_routed: { List ℕ → List (List ℕ) → ℕ → Type 0 };
+    ghost is_routed: { List ℕ → List ℕ → ℕ → Type 0 };
+
+    ghost has_minor: { ℕ → Type 0 };
+
+    ghost reported: { Fault Self.Kind → ReadFault };
 
     /// The metric as one of any version.
     fn of_any(kind: Self::Kind) -> MetricType
@@ -49,22 +56,38 @@ pub(crate) trait OneVersion: Printed {
         ensures front { Self.version.front result ≡ front minor_version }
         ensures valueless { HasNoValue Self.version result };
 
-    /// The vector that a text denotes which says this version, from the pieces after the one that
-    /// says it; or the first reason why there is none.
-    fn read_said<'a>(
-        text: &'a [u8],
-        left: Pieces<'a>,
-        minor_version: usize,
-    ) -> Result<Cvss, ReadFault<'a>>
-        requires { is_routed text.now (pieces_left left) minor_version }
-        ensures { IsRead text.now result };
+    /// The fault as one that any version may have found.
+    fn reported<'a>(fault: Fault<'a, Self::Kind>) -> ReadFault<'a>
+        ensures { result ≡ reported fault.entry };
 
-    /// The vector whose canonical text this is, where that is seen at once.
-    fn on_fast_path(text: &[u8]) -> Option<Cvss>
-        ensures canonical { IfSome result (λ cvss. text.now ≡ text_of cvss) }
-        ensures denoted { IfSome result (λ cvss. DenotesCvss text.now cvss) }
-        ensures scored { IfSome result (λ cvss. HasScore cvss) }
-        ensures utf8 { IsSome result → IsUtf8 text.now };
+    /// What the rules of this version read of the components of a text that says it, is what the text
+    /// denotes. A law: it does nothing.
+    fn reads_by_its_rules(text: &[u8], components: &[u8], minor_version: usize, empty: Self)
+        requires routed { is_routed text.now components.now minor_version }
+        requires front { Self.version.front empty ≡ front minor_version }
+        requires valueless { HasNoValue Self.version empty }
+        ensures read { (answer : Result (Unit {0}) (Fault Self.Kind)) (v : Self)
+            → IsReadLeft Self.version (pieces components.now) empty answer v
+            → IsRead text.now (read_as (joined minor_version) reported answer v) }
+        ensures minor { has_minor minor_version }
+        ensures cut { pieces text.now ≡ front minor_version ++ pieces components.now }
+        ensures text { (v : Self) → text_of (joined minor_version v) ≡ canonical_text Self.version v };
+
+    /// The first base metric that the vector lacks, unless it may lack some.
+    fn missing_by(&self, allow_incomplete: bool) -> Option<MetricType>
+        ensures { (minor : ℕ) → result ≡ missing_by allow_incomplete (joined minor self.now) };
+
+    /// What is published of a vector of the minor version that is said.
+    fn published_as(&self, minor_version: usize) -> Published
+        requires { HasScore (joined minor_version self.now) }
+        ensures { IsPublished (joined minor_version self.now) result };
+
+    /// Writes the vector's canonical text into an empty buffer, and gives it.
+    fn canonical<'a>(&self, minor_version: usize, buffer: &'a mut TextBuffer) -> &'a [u8]
+        requires minor { has_minor minor_version }
+        requires front { Self.version.front self.now ≡ front minor_version }
+        requires empty { buffer.old ≡ [] }
+        ensures { result.now ≡ canonical_text Self.version self.now };
 }
 
 impl OneVersion for v2::Vector {
@@ -74,7 +97,11 @@ impl OneVersion for v2::Vector {
 
     ghost front = { λ _. [] };
 
-    ghost is_routed = { λ text _ _. route_of text ≡ ToV20 };
+    ghost is_routed = { λ text components _. (route_of text ≡ ToV20) × (components ≡ text) };
+
+    ghost has_minor = { λ _. ⊤ };
+
+    ghost reported = { read.V2 };
 
     fn of_any(kind: cvss_base::v2::MetricType) -> MetricType {
         MetricType::V2(kind)
@@ -89,22 +116,36 @@ impl OneVersion for v2::Vector {
     }
 
     #[inline(always)]
-    fn read_said<'a>(
-        text: &'a [u8],
-        _left: Pieces<'a>,
-        minor_version: usize,
-    ) -> Result<Cvss, ReadFault<'a>> {
-        let mut vector = v2::Vector::without_metrics(minor_version);
-        match fill_vector(text, &mut vector) {
-            Ok(()) => Ok(Cvss::CvssV20(vector)),
-            Err(fault) => Err(ReadFault::V2(fault)),
+    fn reported<'a>(fault: Fault<'a, cvss_base::v2::MetricType>) -> ReadFault<'a>
+        ensures { result ≡ read.V2 fault.entry }
+    {
+        ReadFault::V2(fault)
+    }
+
+    #[inline(always)]
+    fn reads_by_its_rules(
+        _text: &[u8],
+        _components: &[u8],
+        _minor_version: usize,
+        _empty: v2::Vector,
+    ) {}
+
+    #[inline(always)]
+    fn missing_by(&self, _allow_incomplete: bool) -> Option<MetricType> {
+        None
+    }
+
+    #[inline(always)]
+    fn published_as(&self, _minor_version: usize) -> Published {
+        Published {
+            tenths: self.tenths(),
+            bounds: Bounds::OfV2,
         }
     }
 
     #[inline(always)]
-    fn on_fast_path(text: &[u8]) -> Option<Cvss> {
-        let vector = v2::Vector::read_canonical(text)?;
-        Some(Cvss::CvssV20(vector))
+    fn canonical<'a>(&self, _minor_version: usize, buffer: &'a mut TextBuffer) -> &'a [u8] {
+        self.text(buffer)
     }
 }
 
@@ -115,7 +156,11 @@ impl OneVersion for v3::Vector {
 
     ghost front = { front_of (codes "3.") };
 
-    ghost is_routed = { IsRoutedV3 };
+    ghost is_routed = { λ text components. IsRoutedV3 text (pieces components) };
+
+    ghost has_minor = { λ minor. minor ≤ 1 };
+
+    ghost reported = { read.V3 };
 
     fn of_any(kind: cvss_base::v3::MetricType) -> MetricType {
         MetricType::V3(kind)
@@ -137,28 +182,42 @@ impl OneVersion for v3::Vector {
     }
 
     #[inline(always)]
-    fn read_said<'a>(
-        text: &'a [u8],
-        left: Pieces<'a>,
-        minor_version: usize,
-    ) -> Result<Cvss, ReadFault<'a>> {
-        let mut vector = v3::Vector::without_metrics(minor_version);
-        match read_started(text, left, &mut vector) {
-            Ok(()) => Ok(vector.join(minor_version)),
-            Err(fault) => Err(ReadFault::V3(fault)),
+    fn reported<'a>(fault: Fault<'a, cvss_base::v3::MetricType>) -> ReadFault<'a>
+        ensures { result ≡ read.V3 fault.entry }
+    {
+        ReadFault::V3(fault)
+    }
+
+    #[inline(always)]
+    fn reads_by_its_rules(
+        _text: &[u8],
+        _components: &[u8],
+        _minor_version: usize,
+        _empty: v3::Vector,
+    ) {}
+
+    #[inline(always)]
+    fn missing_by(&self, allow_incomplete: bool) -> Option<MetricType> {
+        if allow_incomplete {
+            None
+        } else {
+            missing_of_v3(self)
         }
     }
 
     #[inline(always)]
-    fn on_fast_path(text: &[u8]) -> Option<Cvss> {
-        let vector = v3::Vector::read_canonical(text)?;
-        if text.len() == VERSION_PIECE_LENGTH {
-            return None;
+    fn published_as(&self, _minor_version: usize) -> Published {
+        Published {
+            tenths: self.tenths(),
+            bounds: Bounds::SinceV3,
         }
-        match vector.minor_version {
-            0 => Some(Cvss::CvssV30(vector)),
-            1 => Some(Cvss::CvssV31(vector)),
-            _ => None,
+    }
+
+    #[inline(always)]
+    fn canonical<'a>(&self, minor_version: usize, buffer: &'a mut TextBuffer) -> &'a [u8] {
+        match minor_version {
+            0 => text_after(*b"CVSS:3.0", self, buffer),
+            _ => text_after(*b"CVSS:3.1", self, buffer),
         }
     }
 }
@@ -170,7 +229,12 @@ impl OneVersion for v4::Vector {
 
     ghost front = { front_of (codes "4.") };
 
-    ghost is_routed = { λ text left _. IsRouted ToV40 (codes "4.0") text left };
+    ghost is_routed = { λ text components minor. (minor ≡ 0)
+        × IsRouted ToV40 (codes "4.0") text (pieces components) };
+
+    ghost has_minor = { λ minor. minor ≡ 0 };
+
+    ghost reported = { read.V4 };
 
     fn of_any(kind: cvss_base::v4::MetricType) -> MetricType {
         MetricType::V4(kind)
@@ -189,21 +253,35 @@ impl OneVersion for v4::Vector {
     }
 
     #[inline(always)]
-    fn read_said<'a>(
-        text: &'a [u8],
-        left: Pieces<'a>,
+    fn reported<'a>(fault: Fault<'a, cvss_base::v4::MetricType>) -> ReadFault<'a>
+        ensures { result ≡ read.V4 fault.entry }
+    {
+        ReadFault::V4(fault)
+    }
+
+    #[inline(always)]
+    fn reads_by_its_rules(
+        _text: &[u8],
+        _components: &[u8],
         _minor_version: usize,
-    ) -> Result<Cvss, ReadFault<'a>> {
-        let mut vector = v4::Vector::without_metrics(0);
-        match read_started(text, left, &mut vector) {
-            Ok(()) => Ok(Cvss::CvssV40(vector)),
-            Err(fault) => Err(ReadFault::V4(fault)),
+        _empty: v4::Vector,
+    ) {}
+
+    #[inline(always)]
+    fn missing_by(&self, _allow_incomplete: bool) -> Option<MetricType> {
+        None
+    }
+
+    #[inline(always)]
+    fn published_as(&self, _minor_version: usize) -> Published {
+        Published {
+            tenths: self.tenths(),
+            bounds: Bounds::SinceV3,
         }
     }
 
     #[inline(always)]
-    fn on_fast_path(text: &[u8]) -> Option<Cvss> {
-        let vector = v4::Vector::read_canonical(text)?;
-        Some(Cvss::CvssV40(vector))
+    fn canonical<'a>(&self, _minor_version: usize, buffer: &'a mut TextBuffer) -> &'a [u8] {
+        text_after(*b"CVSS:4.0", self, buffer)
     }
 }

@@ -5,13 +5,11 @@ ghost use Rattle.cvss_any.specs.Answers.{text_of};
 
 use crate::bytes_error::BytesError;
 use crate::metrics::Metrics;
-use crate::published::Published;
-use crate::reading::{bytes_error_of, error_of, publish, read, read_error_of};
+use crate::reading::{bytes_error_of, error_of, read, read_error_of};
 use crate::refusal::{ReadError, Refusal as BorrowedRefusal};
 use crate::{v2, v3, v4};
 use cvss_base::tenths::text_of as text_of_tenths;
 use cvss_base::{Error, Severity, TENTH, severity_of_score};
-use cvss_text::buffer::TextBuffer;
 use std::alloc::Global;
 use std::fmt;
 
@@ -37,7 +35,6 @@ impl Cvss {
     ghost use Rattle.cvss_any.specs.Bytes.{IsRefusedAs, ReportsWhyNot};
     ghost use Rattle.cvss_any.specs.Dispatch.{DenotesCvss, IsFirstRefusalCvss, cvss_reason};
     ghost use Rattle.cvss_any.specs.MetricsLeft.{metrics_left};
-    ghost use Rattle.cvss_any.specs.Complete.{IsPublishedBy, IsReadErrorBy};
     ghost use Rattle.cvss_any.specs.Refusals.{IsReadError, IsReadErrorFor};
     ghost use Rattle.cvss_any.specs.declared.bytes_error.BytesError.TheVariants.{NotUtf8};
     ghost use Rattle.cvss_any.specs.declared.refusal.ReadError.TheVariants as read_error;
@@ -99,7 +96,7 @@ impl Cvss {
     }
 
     /// The vector that bytes denote, as `from_bytes` gives it, but without memory: an error borrows
-    /// the part of the text that it names. Canonical texts are read faster by `read_canonical`.
+    /// the part of the text that it names.
     ///
     /// # Errors
     ///
@@ -124,46 +121,8 @@ impl Cvss {
         }
     }
 
-    /// The canonical text of the vector that a text denotes, written into an empty buffer, and what is
-    /// published of it. It is faster than `read`, and slower than `published_on_fast_path`, where that
-    /// gives an answer.
-    ///
-    /// # Errors
-    ///
-    /// Those of `read`, and unless it is allowed, that a vector of CVSS v3 lacks base metrics: the
-    /// first of them.
-    pub fn publish<'a, 'b>(
-        text: &'a [u8],
-        allow_incomplete: bool,
-        buffer: &'b mut TextBuffer,
-    ) -> Result<(&'b [u8], Published), ReadError<'a>>
-        requires { buffer.old ≡ [] }
-        ensures published { IfOk result
-            (λ given. IsPublishedBy allow_incomplete text.now given.0.now given.1) }
-        ensures refused { IfErr result (IsReadErrorBy allow_incomplete text.now) }
-    {
-        match publish(text, allow_incomplete, buffer) {
-            Ok(given) => Ok(given),
-            Err(refusal) => Err(read_error_of(text, refusal)),
-        }
-    }
-
     /// The vector that a text denotes, if there is one. It takes no memory.
     pub fn read_bytes(text: &[u8]) -> Option<Cvss>
-        ensures denoted { IfSome result (λ cvss. DenotesCvss text.now cvss) }
-        ensures accepts { (cvss : Cvss) → DenotesCvss text.now cvss → result ≡ Some cvss }
-        ensures scored { IfSome result (λ cvss. HasScore cvss) }
-        ensures utf8 { IsSome result → IsUtf8 text.now }
-    {
-        match Cvss::read_canonical(text) {
-            Some(cvss) => Some(cvss),
-            None => Cvss::read_in_any_order(text),
-        }
-    }
-
-    /// The vector that a text denotes, if there is one, without looking first whether the text is a
-    /// canonical one: for a text of which `read_canonical` reported nothing. It takes no memory.
-    pub fn read_in_any_order(text: &[u8]) -> Option<Cvss>
         ensures denoted { IfSome result (λ cvss. DenotesCvss text.now cvss) }
         ensures accepts { (cvss : Cvss) → DenotesCvss text.now cvss → result ≡ Some cvss }
         ensures scored { IfSome result (λ cvss. HasScore cvss) }

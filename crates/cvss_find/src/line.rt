@@ -42,7 +42,7 @@ impl Line<'_> {
             answers.old.bytes.items answers.new.bytes.items) }
     {
         match self.form {
-            Form::Located => match Cvss::complete_on_fast_path(self.bytes) {
+            Form::Located => match Cvss::published_of_canonical(self.bytes) {
                 Some(published) => self.report_canonical(published, answers),
                 None => self.report_mentions(alloc, answers),
             },

@@ -62,10 +62,7 @@ fn read(text: &[u8], allow_incomplete: bool) -> Result<Cvss, ReadError<'_>>
     ensures error { IfErr result (λ error. IsReadError text.now error
         ⊎ IsIncomplete allow_incomplete text.now error) }
 {
-    let cvss = match Cvss::read_canonical(text) {
-        Some(cvss) => cvss,
-        None => Cvss::read(text)?,
-    };
+    let cvss = Cvss::read(text)?;
     match cvss.missing_by(allow_incomplete) {
         Some(metric) => Err(ReadError::Invalid(Refusal::Missing(metric))),
         None => Ok(cvss),

@@ -37,7 +37,7 @@ cancel_front [] xs ys same = same
 cancel_front (first ∷ front) xs ys same = cancel_front front xs ys (cancel_first first (front ++ xs) (front ++ ys) same)
 
 module _ {V K : Type 0} (version : Version V K) (version_laws : VersionLaws version) where
-  own_components : (v : V) → AreComponentsOf version (components_of version v) v
+  pub own_components : (v : V) → AreComponentsOf version (components_of version v) v
   own_components v = record { each_once = IsPermutation-refl _ }
 
   pub canonical_text-denotes : (v : V) → Denotes version (canonical_text version v) v

@@ -1,6 +1,6 @@
 -- How a text is cut at its first slash, and its first piece at its first colon.
-use Rattle.std.proofs.Common.{◌≡◌, ◌≢◌, ℕ, ◌<◌, ◌-◌, suc, true, false, eqb, ◌||◌, List, [], ◌∷◌, ◌++◌, codes, length, get_or, take, drop, refl, sym, ap, ◌∙◌, subst, arith, All, IsUtf8}
-use Rattle.std.proofs.lemmas.Bool.{false_from_ne_true}
+use Rattle.std.proofs.Common.{◌≡◌, ◌≢◌, ℕ, ◌<◌, ◌≤◌, ◌-◌, suc, true, false, eqb, ◌||◌, List, [], ◌∷◌, ◌++◌, codes, length, get_or, take, drop, refl, sym, ap, ◌∙◌, subst, arith, All, IsUtf8}
+use Rattle.std.proofs.lemmas.Bool.{false_from_ne_true, ne_eqb}
 use Rattle.std.proofs.lemmas.List.Folds.{list_any_at}
 use Rattle.std.proofs.Math.Bool.{or-true}
 use Rattle.std.proofs.lemmas.List.Elements.{All-head}
@@ -8,10 +8,10 @@ use Rattle.std.proofs.lemmas.List.Splits.{length-slice_split, slice_split_at}
 use Rattle.std.proofs.lemmas.List.{take_rest}
 use Rattle.std.proofs.Math.Seq.{split_at}
 use Rattle.cvss_base.specs.Version.{version_piece}
-use Rattle.cvss_base.specs.Text.{pieces, component, has, colon, slash}
+use Rattle.cvss_base.specs.Text.{pieces, component, has, colon, dot, slash}
 use Rattle.cvss_text.specs.private.Pieces.{AreParts}
-use Rattle.cvss_text.proofs.PieceLemmas.{IsUtf8-pieces}
-use Rattle.cvss_text.specs.Route.{Route, route_of, route_of_pieces, route_of_parts}
+use Rattle.cvss_text.proofs.PieceLemmas.{AreParts-first, IsUtf8-pieces}
+use Rattle.cvss_text.specs.Route.{Route, ToV20, route_of, route_of_pieces, route_of_parts}
 
 -- a piece with a name and a value has a colon
 has_colon : (name value : List ℕ) → has colon (component name value) ≡ true
@@ -50,3 +50,24 @@ version_first text reported rest left is none left_is = ap pieces is ∙ (pieces
 -- a text is cut at a slash that is in it
 pub cut_at_slash : (text : List ℕ) (at : ℕ) → at < length text → get_or text at 0 ≡ slash → text ≡ take at text ++ (slash ∷ take (length text - suc at) (drop (suc at) text))
 cut_at_slash text at within is = split_at text at 0 within ∙ rw (is, take_rest text (suc at)) refl
+
+-- a text that begins with a component, a name of two letters and a value of one, says no version
+another : (byte other : ℕ) → other < byte → eqb byte other ≡ false
+another byte other below = ne_eqb byte other (λ same. omega (arith, below, same))
+
+short_parts : (a b c : ℕ) → colon < a → colon < b → AreParts (component (a ∷ b ∷ []) (c ∷ [])) (a ∷ b ∷ []) (c ∷ [])
+short_parts a b c above_a above_b =
+    AreParts-first (component (a ∷ b ∷ []) (c ∷ [])) 2 (rw (another a colon above_a, another b colon above_b) refl)
+
+pub short_routed : (text : List ℕ) → 5 ≤ length text → 65 ≤ get_or text 0 0 → 65 ≤ get_or text 1 0 → get_or text 2 0 ≡ colon → 65 ≤ get_or text 3 0 → get_or text 4 0 ≡ slash → route_of text ≡ ToV20
+short_routed (a ∷ b ∷ x ∷ c ∷ y ∷ rest) some letter_a letter_b is_colon letter_c is_slash =
+    let piece = component (a ∷ b ∷ []) (c ∷ []) in
+    let none : has slash piece ≡ false = rw (another a slash (omega (arith, letter_a)), another b slash (omega (arith, letter_b)), another c slash (omega (arith, letter_c))) refl in
+    let cut : pieces (a ∷ b ∷ x ∷ c ∷ y ∷ rest) ≡ piece ∷ pieces rest = rw (is_colon, is_slash) (pieces_after piece rest none) in
+    sym (cut_routed (a ∷ b ∷ x ∷ c ∷ y ∷ rest) piece (a ∷ b ∷ []) (c ∷ []) (pieces rest) ToV20 cut (some_piece rest) (short_parts a b c (omega (arith, letter_a)) (omega (arith, letter_b))) (rw (another c dot (omega (arith, letter_c))) refl))
+short_routed text some letter_a letter_b is_colon letter_c is_slash = absurd (omega (arith, some))
+
+-- a text that says its version after the prefix is read by the rules of that
+pub said_routed : (text reported rest : List ℕ) (to : Route) → text ≡ version_piece reported ++ (slash ∷ rest) → has slash reported ≡ false → to ≡ route_of_parts (codes "CVSS") reported → to ≡ route_of text
+said_routed text reported rest to is none routed =
+    cut_routed text (version_piece reported) (codes "CVSS") reported (pieces rest) to (version_first text reported rest (pieces rest) is none refl) (some_piece rest) (version_parts reported) routed

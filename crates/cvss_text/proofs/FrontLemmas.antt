@@ -1,18 +1,18 @@
 -- What a reader of a whole text answers, whether a version piece is before the components or not;
 -- and texts after a version piece.
-use Rattle.std.proofs.Common.{◌≡◌, ℕ, List, [], ◌++◌, length, take, drop, Result, Ok, Err, IfOk, IfErr, sym, ap, ◌∙◌, subst, zero, suc, ◌∷◌, get_or, codes, refl, arith, All, Contains, IsUtf8}
+use Rattle.std.proofs.Common.{[], ◌≡◌, ℕ, List, [], ◌++◌, length, take, drop, Result, Ok, Err, sym, ap, ◌∙◌, subst, zero, suc, ◌∷◌, get_or, codes, refl, arith, All, Contains, IsUtf8}
 use Rattle.std.proofs.lemmas.List.{take-append-drop, take_at, drop_at, get_or-map, get_or-take}
-use Rattle.std.proofs.lemmas.List.Elements.{All-append, All-nil, All-cons}
+use Rattle.std.proofs.lemmas.List.Elements.{All-append, All-nil, All-cons, All-tail}
 use Rattle.std.proofs.lemmas.List.Splits.{join_with_byte-slice_split}
 use Rattle.cvss_text.specs.declared.walk.Fault.{Fault}
 use Rattle.cvss_base.specs.Text.{slash, pieces, joined, value_part, IsComponent}
 use Rattle.cvss_base.specs.Version.{Version, Denotes, IsComplete, AreComponentsOf, version_piece, IsWellFormed}
-use Rattle.cvss_base.specs.Refusal.{Refusal, BadComponent, BadPiecesFirst, WrongPrefix, WrongVersion, AreComponentsBefore, IsFirstBadPiece, piece_at, IsReasonAfter, IsFirstRefusalAfter, ReportsVersion}
+use Rattle.cvss_base.specs.Refusal.{Refusal, BadComponent, BadPiecesFirst, WrongPrefix, WrongVersion, AreComponentsBefore, IsFirstBadPiece, IsFirstReason, piece_at, IsReasonAfter, IsFirstRefusalAfter, ReportsVersion}
 use Rattle.cvss_base.specs.private.Component.{delimiter_bytes}
-use Rattle.cvss_text.specs.private.Walk.{VersionLaws, IsFirstOfPieces, HasRead, reason_of, FrontLaws, IsAnswer, IsFrontFault, IsStarted, IsPrintable}
+use Rattle.cvss_text.specs.private.Walk.{VersionLaws, IsFirstOfPieces, IsAnswerAfter, IsAnswerBare, IsBare, IsReadLeft, filled, reason_of, FrontLaws, IsAnswer, IsFrontFault, IsStarted, IsPrintable}
 use Rattle.cvss_text.proofs.DenotesLemmas.{vectors_same, pieces_of_complete, no_reason, pieces_of_denoted}
 use Rattle.cvss_text.proofs.JoinLemmas.{are_parts, IsUtf8-parts}
-use Rattle.cvss_text.proofs.RefusalLemmas.{refusals_same, reasons_after_same}
+use Rattle.cvss_text.proofs.RefusalLemmas.{refusals_same, reasons_same, reasons_after_same}
 use Rattle.cvss_text.proofs.TextLemmas.{IsPart, IsPart-component, name_part-component, value_part-component}
 use Rattle.cvss_text.proofs.WalkLemmas.{AreComponentsOf-all}
 use Rattle.cvss_text.proofs.CanonicalLemmas.{denoted_once}
@@ -71,13 +71,13 @@ module _ {V K : Type 0} {version : Version V K} (version_laws : VersionLaws vers
     printable = printable;
   }
 
-  pub IsAnswer-read : {left : List (List ℕ)} {empty : V} → IsBegun version IsFormed size text IsReason left empty → (answer : Result V (Fault K)) → IfOk answer (λ v. HasRead version left (length left) v) → IfOk answer (λ v. version.front v ≡ version.front empty) → IfOk answer (λ v. IsComplete version v) → IfErr answer (λ fault. IsFirstOfPieces version left (reason_of version fault)) → (IsUtf8 text → IfErr answer (IsPrintable version)) → IsAnswer version IsFormed IsReason text answer
-  IsAnswer-read {left = left} begun (Ok v) all front complete refused printable =
+  pub IsAnswer-read : {left : List (List ℕ)} {empty : V} → IsBegun version IsFormed size text IsReason left empty → (IsUtf8 text → All IsUtf8 left) → (answer : Result (Unit {0}) (Fault K)) (v : V) → IsReadLeft version left empty answer v → IsAnswer version IsFormed IsReason text (filled answer v)
+  IsAnswer-read {left = left} begun utf8_left (Ok _) v all =
       let joined_are = join_with_byte-slice_split slash text in
       let is : IsText version IsFormed size text v = record {
-        formed = begun.formed v front complete;
-        cut = begun.taken ∙ sym front;
-        components = subst (λ list. AreComponentsOf version list v) begun.left_is (AreComponentsOf-all version version_laws left v all);
+        formed = begun.formed v all.front all.complete;
+        cut = begun.taken ∙ sym all.front;
+        components = subst (λ list. AreComponentsOf version list v) begun.left_is (AreComponentsOf-all version version_laws left v all.read);
       } in
       record {
         denoted = record { parts = drop size (pieces text); text_is = sym joined_are ∙ ap joined (pieces_are v is); components = is.components };
@@ -86,9 +86,10 @@ module _ {V K : Type 0} {version : Version V K} (version_laws : VersionLaws vers
         utf8 = subst IsUtf8 joined_are (IsUtf8-parts (pieces text) (all_parts v is));
         refused = tt;
         refuses = λ reason first. absurd (no_refusal v is reason first);
-        printable = printable;
+        printable = λ utf8. tt;
       }
-  IsAnswer-read begun (Err fault) all front complete refused printable = IsAnswer-refused fault (begun.reasons (reason_of version fault) refused) printable
+  IsAnswer-read begun utf8_left (Err fault) v none =
+      IsAnswer-refused fault (begun.reasons (reason_of version fault) none.refused) (λ utf8. none.printable (utf8_left utf8))
 
 module _ {V K : Type 0} (version : Version V K) where
   front_parts : (v : V) (reported : List ℕ) → version.front v ≡ version_piece reported ∷ [] → delimiter_bytes reported ≡ 0 → All IsPart (version.front v)
@@ -197,3 +198,28 @@ module _ {V K : Type 0} (version : Version V K) (plain : FrontLaws version) (tex
         left_is = sym (ap (drop 1) cut);
         reasons = reason_after version text (version_piece reported) left cut is_component (piece_reports version reported starts.supported);
       }
+
+-- what is read of all pieces of a text without a version piece is what the text is answered by
+module _ {V K : Type 0} (version : Version V K) (version_laws : VersionLaws version) (text : List ℕ) where
+  bare : AreFormed version (IsBare version) 0 text (IsFirstReason version (pieces text))
+  bare = record {
+    complete = λ v is. is.complete;
+    parts = λ v is. subst (All IsPart) (sym is.frontless) (All-nil IsPart);
+    sizes = λ v is. ap length is.frontless;
+    one_reason = reasons_same version version_laws (pieces text);
+    no_reason = λ v is. no_reason version version_laws v (pieces text) is.components is.formed.complete;
+  }
+
+  pub IsAnswerBare-read : (empty : V) → version.front empty ≡ [] → (answer : Result (Unit {0}) (Fault K)) (v : V) → IsReadLeft version (pieces text) empty answer v → IsAnswerBare version text (filled answer v)
+  IsAnswerBare-read empty none = IsAnswer-read version_laws bare (record {
+    formed = λ v same complete. record { frontless = same ∙ none; complete = complete };
+    taken = sym none;
+    left_is = refl;
+    reasons = λ reason first. first;
+  }) (IsUtf8-pieces text)
+
+  -- and of all that follow a version piece
+  pub IsAnswerAfter-read : FrontLaws version → (left : List (List ℕ)) (empty : V) → IsStarted version text left empty → (answer : Result (Unit {0}) (Fault K)) (v : V) → IsReadLeft version left empty answer v → IsAnswerAfter version text (filled answer v)
+  IsAnswerAfter-read plain left empty started =
+      IsAnswer-read version_laws (are_formed version version_laws plain text) (begun_after version plain text left empty started)
+      (λ utf8. All-tail IsUtf8 _ _ (IsUtf8-cut text _ _ started.cut utf8))

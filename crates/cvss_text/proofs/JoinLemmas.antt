@@ -1,8 +1,8 @@
 -- The pieces of a join, and of the components of a vector.
-use Rattle.std.proofs.Common.{◌≡◌, ℕ, ◌<◌, false, ltb, List, [], ◌∷◌, ◌++◌, length, refl, ap, ◌∙◌, arith, All, count_by, IsAscii, IsUtf8, ltb-false}
+use Rattle.std.proofs.Common.{◌≡◌, ℕ, ◌<◌, false, ltb, List, [], ◌∷◌, ◌++◌, length, refl, sym, ap, ◌∙◌, append_assoc, append-nil, arith, All, count_by, IsAscii, IsUtf8, ltb-false}
 use Rattle.std.proofs.lemmas.Str.{IsUtf8-nil, IsUtf8-append, IsUtf8-from_ascii}
 use Rattle.std.proofs.lemmas.Str.Ascii.{IsAscii-from_all}
-use Rattle.std.proofs.lemmas.List.Elements.{All-append, All-head, All-tail, All-weaker, All-from_get_or}
+use Rattle.std.proofs.lemmas.List.Elements.{All-head, All-tail, All-weaker, All-from_get_or}
 use Rattle.std.proofs.lemmas.List.Splits.{slice_split_none, slice_split_at}
 use Rattle.cvss_base.specs.Text.{slash, pieces, joined, IsComponent}
 use Rattle.cvss_base.specs.Version.{Version, AreComponentsOf}
@@ -16,12 +16,36 @@ use Rattle.cvss_text.proofs.ComponentLemmas.{piece_held}
 uncut : (part : List ℕ) → IsPart part → All (λ byte. is_slash byte ≡ false) part
 uncut part is = All-from_count is_slash part (omega (arith, delimiter_sorts part, is.one_colon, is.one_delimiter))
 
+-- no slash is in the part
+abbrev pub IsUncut : List ℕ → Type 0
+IsUncut part = All (λ byte. is_slash byte ≡ false) part
+
+-- parts that are joined, and go on with a text before which a part is one piece
+joined_then : (tail : List ℕ) (left : List (List ℕ)) → ((part : List ℕ) → IsUncut part → pieces (part ++ tail) ≡ part ∷ left) → (part : List ℕ) (parts : List (List ℕ)) → All IsUncut (part ∷ parts) → pieces (joined (part ∷ parts) ++ tail) ≡ part ∷ (parts ++ left)
+joined_then tail left ends part [] are = ends part (All-head IsUncut part [] are)
+joined_then tail left ends part (next ∷ parts) are =
+    ap pieces (append_assoc part (slash ∷ joined (next ∷ parts)) tail)
+    ∙ slice_split_at is_slash part slash (joined (next ∷ parts) ++ tail) (All-head IsUncut part (next ∷ parts) are) refl
+    ∙ ap (λ rest. part ∷ rest) (joined_then tail left ends next parts (All-tail IsUncut part (next ∷ parts) are))
+
+-- parts that are joined, and nothing after them
+pub pieces-all : (part : List ℕ) (parts : List (List ℕ)) → All IsUncut (part ∷ parts) → pieces (joined (part ∷ parts)) ≡ part ∷ parts
+pieces-all part parts are =
+    ap pieces (sym (append-nil (joined (part ∷ parts))))
+    ∙ joined_then [] [] (λ each uncut. ap pieces (append-nil each) ∙ slice_split_none is_slash each uncut) part parts are
+    ∙ append-nil (part ∷ parts)
+
+-- parts that are joined, and a text after one more slash
+pub pieces-then : (part : List ℕ) (parts : List (List ℕ)) (rest : List ℕ) → All IsUncut (part ∷ parts) → pieces (joined (part ∷ parts) ++ slash ∷ rest) ≡ part ∷ (parts ++ pieces rest)
+pieces-then part parts rest are =
+    joined_then (slash ∷ rest) (pieces rest) (λ each uncut. slice_split_at is_slash each slash rest uncut refl) part parts are
+
+pub are_uncut : (parts : List (List ℕ)) → All IsPart parts → All IsUncut parts
+are_uncut parts are = All-weaker IsPart IsUncut uncut parts are
+
 pub pieces-joined : (parts : List (List ℕ)) → 0 < length parts → All IsPart parts → pieces (joined parts) ≡ parts
 pieces-joined [] some are = absurd (omega arith)
-pieces-joined (part ∷ []) some are = slice_split_none is_slash part (uncut part (All-head IsPart part [] are))
-pieces-joined (part ∷ next ∷ parts) some are =
-    slice_split_at is_slash part slash (joined (next ∷ parts)) (uncut part (All-head IsPart part (next ∷ parts) are)) refl
-    ∙ ap (λ rest. part ∷ rest) (pieces-joined (next ∷ parts) (omega arith) (All-tail IsPart part (next ∷ parts) are))
+pieces-joined (part ∷ parts) some are = pieces-all part parts (are_uncut (part ∷ parts) are)
 
 -- a text without a byte beyond ASCII
 pub none_beyond : (text : List ℕ) → count_by (ltb 127) text ≡ 0 → IsAscii text
@@ -50,7 +74,3 @@ module _ {V K : Type 0} (version : Version V K) (version_laws : VersionLaws vers
 
   pub piece_is_component : (place : ℕ) → place < length parts → IsComponent (piece_at parts place)
   piece_is_component place within = record { one_colon = (are_parts place [] within).one_colon }
-
-  -- the text of some first parts and of the vector's components
-  pub IsUtf8-denoting : (front : List (List ℕ)) → All IsPart front → IsUtf8 (joined (front ++ parts))
-  IsUtf8-denoting front are = IsUtf8-parts (front ++ parts) (All-append IsPart front parts are are_parts)

@@ -4,8 +4,8 @@ pub mod ComponentLemmas
 pub mod CutLemmas
 pub mod DenotesLemmas
 pub mod EqualLemmas
-pub mod FilledLemmas
 pub mod FrontLemmas
+pub mod InOrderLemmas
 pub mod JoinLemmas
 pub mod LawLemmas
 pub mod MissingLemmas
@@ -15,6 +15,5 @@ pub mod PrintLemmas
 pub mod PutLemmas
 pub mod RefusalLemmas
 pub mod SettingLemmas
-pub mod FastPathLemmas
 pub mod TextLemmas
 pub mod WalkLemmas

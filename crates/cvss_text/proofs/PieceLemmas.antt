@@ -1,13 +1,13 @@
 -- How pieces come off a text, and that those of a text in UTF-8 are UTF-8.
-use Rattle.std.proofs.Common.{append_assoc, IfSome, get_or, ◌-◌, ◌≡◌, ◌↔◌, IsTrue, not, ℕ, ◌+◌, ◌<◌, ◌≤◌, Bool, true, false, cond, ltb, List, [], ◌∷◌, inl, inr, length, take, drop, Option, Some, None, refl, sym, ap, ◌∙◌, Bor, arith, ◌++◌, subst, ltb-true, ltb-false, IsUtf8}
+use Rattle.std.proofs.Common.{append_assoc, IfSome, get_or, ◌-◌, ◌≡◌, ℕ, ◌+◌, ◌<◌, ◌≤◌, Bool, false, cond, ltb, List, [], ◌∷◌, inl, inr, length, take, drop, Option, Some, None, refl, sym, ap, ◌∙◌, Bor, arith, ◌++◌, subst, ltb-true, ltb-false, IsUtf8}
 use Rattle.std.specs.List.{position, position_or_len, All, onto_first}
-use Rattle.std.specs.Option.{option_map_or, unwrap_or, is_some}
+use Rattle.std.specs.Option.{option_map_or, unwrap_or}
 use Rattle.std.specs.Slice.{IsGetRangeResult}
 use Rattle.std.proofs.lemmas.Bool.{false_from_ne_true}
 use Rattle.std.proofs.lemmas.Bool.Decides.{nat_tests}
 use Rattle.std.proofs.lemmas.List.Folds.{list_any_none}
 use Rattle.std.proofs.lemmas.List.{take_all, take_rest, length-append, get_or_append_left, get_or_at, take_at, drop_at, drop-drop}
-use Rattle.std.proofs.lemmas.List.Splits.{slice_split_none, slice_split-cons_no, slice_split_first, length-slice_split, join_with_byte-slice_split}
+use Rattle.std.proofs.lemmas.List.Splits.{slice_split_none, slice_split-cons_no, slice_split_first, join_with_byte-slice_split}
 use Rattle.std.proofs.lemmas.List.Sums.{fails_before_first}
 use Rattle.std.proofs.lemmas.Option.{cond_some, none-some}
 use Rattle.cvss_text.specs.private.Pieces.{AreParts, IsAfterComponent, IsAfterComponents, IsWithoutColon}
@@ -57,12 +57,6 @@ without_colon piece none = record {
   colonless = list_any_none is_colon piece (λ place d inside. fails_before_first is_colon piece place d (omega (arith, first_nowhere is_colon piece none)));
   no_component = λ is. omega (arith, first_nowhere is_colon piece none, position-within is_colon piece is.one_colon);
 }
-
--- a text has a first piece, so that none is left where no text is
-pub none_left : (rest : Option (Bor (List ℕ))) (none : Bool) → is_some rest ≡ not none → IsTrue none ↔ (option_map_or (λ text. pieces text.now) rest [] ≡ [])
-none_left None true is = (λ _. refl, λ _. refl)
-none_left None false is = (λ _. refl, λ _. is)
-none_left (Some text) none is = (λ holds. let same = ap not holds in absurd cc, λ empty. absurd (omega (arith, ap length empty, length-slice_split is_slash text.now)))
 
 -- a text cut at an ASCII byte
 cut_at_ascii : (front rest : List ℕ) (byte : ℕ) → byte < 128 → IsUtf8 (front ++ byte ∷ rest) → IsUtf8 front × IsUtf8 rest

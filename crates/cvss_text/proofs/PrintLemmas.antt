@@ -1,7 +1,6 @@
 -- The text of a vector's components, joined by slashes.
-use Rattle.std.proofs.Common.{◌≡◌, ℕ, ◌≤◌, List, [], ◌∷◌, ◌++◌, ◌-◌, length, get_or, take, drop, Option, Some, None, unwrap_or, refl, sym, ap, ◌∙◌, append_assoc, append-nil, filter_map, arith}
+use Rattle.std.proofs.Common.{◌≡◌, ℕ, List, [], ◌∷◌, ◌++◌, drop, Option, Some, None, unwrap_or, refl, sym, ap, ◌∙◌, append_assoc, append-nil, filter_map}
 use Rattle.std.specs.List.{cons_option}
-use Rattle.std.proofs.lemmas.List.{drop_more, take_rest}
 use Rattle.cvss_base.specs.Text.{joined, slash}
 use Rattle.cvss_base.specs.Version.{Version, component_of}
 use Rattle.cvss_text.specs.private.Printing.{with_slash, text_with_slash, texts_with_slash}
@@ -19,19 +18,6 @@ module _ {V K : Type 0} (version : Version V K) (v : V) where
       joined-cons_option first (component_of version v kind) (filter_map (component_of version v) kinds)
       ∙ joined-with_slash (first ++ text_with_slash version v kind) kinds
       ∙ append_assoc first (text_with_slash version v kind) (texts_with_slash version v kinds)
-
-  -- the first component without its slash, and the others after slashes
-  joined_from : (text : List ℕ) (part : Option (List ℕ)) (kinds : List K) → Some text ≡ with_slash part
-      → drop 1 text ++ texts_with_slash version v kinds ≡ joined (cons_option part (filter_map (component_of version v) kinds))
-  joined_from text None kinds is = absurd (let no : Some text ≡ None = is in cc)
-  joined_from text (Some piece) kinds is = let text_is : text ≡ slash ∷ piece = cc in rw text_is (sym (joined-with_slash piece kinds))
-
-  pub joined_first : (kinds : List K) (kind : K) (text : List ℕ) → 1 ≤ length kinds → kind ≡ get_or kinds 0 kind → Some text ≡ with_slash (component_of version v kind)
-      → drop 1 text ++ texts_with_slash version v (take (length kinds - 1) (drop 1 kinds)) ≡ joined (filter_map (component_of version v) kinds)
-  joined_first kinds kind text some first is =
-      let kinds_are : kinds ≡ kind ∷ drop 1 kinds = drop_more kinds 0 kind (omega arith) ∙ ap (λ each. each ∷ drop 1 kinds) (sym first) in
-      rw (take_rest kinds 1) (joined_from text (component_of version v kind) (drop 1 kinds) is)
-      ∙ ap (λ all. joined (filter_map (component_of version v) all)) (sym kinds_are)
 
   -- all components after slashes, without the first slash
   pub joined_after_first : (kinds : List K) → drop 1 (texts_with_slash version v kinds) ≡ joined (filter_map (component_of version v) kinds)

@@ -11,7 +11,7 @@ use Rattle.cvss_base.specs.Text.{colon, pieces, IsComponent, name_part, value_pa
 use Rattle.cvss_base.specs.Version.{Version, read, component_of, AreComponentsOf, reading}
 use Rattle.cvss_base.specs.Refusal.{Refusal, AreComponentsBefore, BadComponent, UnknownName, BadValue, Repeated, Missing, Spells, piece_at, FaultAt, IsNamedBefore, IsFirstBadPiece, IsFirstMissing}
 use Rattle.cvss_base.specs.private.Component.{delimiter_bytes}
-use Rattle.cvss_text.specs.private.Walk.{VersionLaws, IsCut, IsCutFirst, IsReadFirst, IsFirstOfPieces, HasNoValue, Puts, Adds, HasRead, IsFaultOf, LacksFirst}
+use Rattle.cvss_text.specs.private.Walk.{VersionLaws, IsCut, IsCutFirst, IsReadFirst, IsFirstOfPieces, HasNoValue, Puts, Adds, HasRead, HasReadTo, IsFaultOf, LacksFirst}
 use Rattle.cvss_text.proofs.TextLemmas.{is_slash, All-from_count, name_part-read, value_part-read, name_part-component, value_part-component, delimiter_bytes-read, delimiter_sorts, IsPart-component}
 use Rattle.cvss_text.proofs.LawLemmas.{name_plain, names_differ, IsCut_named}
 use Rattle.cvss_text.proofs.ComponentLemmas.{adds_component, held_stands, piece_held}
@@ -35,14 +35,6 @@ pieces-after : (name rest value : List ℕ) (after : List (List ℕ)) → delimi
 pieces-after name rest value after plain found =
     onto_first_piece name (colon ∷ rest) (colon ∷ value) after (All-from_count is_slash name (omega (arith, delimiter_sorts name, plain)))
     (slice_split-cons_no is_slash colon rest refl ∙ ap (onto_first colon) found)
-
--- the vector holds the components before those that are left, none of which has a fault
-pub record HasReadTo {V K : Type 0} (version : Version V K) (parts left : List (List ℕ)) (v : V) : Type 0 where
-  pub place : ℕ
-  pub within : place ≤ length parts
-  pub left_is : left ≡ drop place parts
-  pub components : AreComponentsBefore parts place
-  pub read : HasRead version parts place v
 
 module _ {V K : Type 0} (version : Version V K) (version_laws : VersionLaws version) where
   -- the name and the value of a piece that stands for a component

@@ -25,7 +25,7 @@ pub fn read_after<'a, V: Prefixed>(text: &'a [u8]) -> Result<V, Fault<'a, V::Kin
 {
     let (front, left) = front_of(text);
     match start(front) {
-        Ok(mut vector) => match read_started(text, left, &mut vector) {
+        Ok(mut vector) => match read_left(text, left, &mut vector) {
             Ok(()) => Ok(vector),
             Err(fault) => Err(fault),
         },
@@ -39,7 +39,7 @@ pub fn read_after<'a, V: Prefixed>(text: &'a [u8]) -> Result<V, Fault<'a, V::Kin
 /// Reads a text whose version piece is read already, from the pieces after that, into the vector that
 /// it starts, or finds the first reason why it is refused.
 #[inline(always)]
-pub fn read_started<'a, V: Prefixed>(
+fn read_left<'a, V: Prefixed>(
     text: &'a [u8],
     left: Pieces<'a>,
     vector: &mut V,

@@ -12,6 +12,14 @@ pub struct Pieces<'a> {
 }
 
 impl<'a> Pieces<'a> {
+    /// No pieces.
+    #[inline(always)]
+    pub(crate) fn none() -> Pieces<'a>
+        ensures { pieces_left result ≡ [] }
+    {
+        Pieces { rest: None }
+    }
+
     /// The text that the pieces left are cut from, if there are some.
     #[inline(always)]
     pub(crate) fn text(&self) -> Option<&'a [u8]>
@@ -19,13 +27,6 @@ impl<'a> Pieces<'a> {
             (λ text. pieces_left self.now ≡ pieces text.now) }
     {
         self.rest
-    }
-
-    /// Whether no piece is left.
-    pub fn is_empty(&self) -> bool
-        ensures { IsTrue result ↔ (pieces_left self.now ≡ []) }
-    {
-        self.rest.is_none()
     }
 }
 

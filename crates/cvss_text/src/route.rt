@@ -1,14 +1,13 @@
 //! By the rules of which version a text is read.
 
-ghost use Rattle.std.specs.Prelude.{◌≡◌, ◌∷◌, ◌++◌, IfSome, codes, true, false, IsUtf8};
-ghost use Rattle.cvss_base.specs.Text.{component, dot, has, pieces, slash};
+ghost use Rattle.std.specs.Prelude.{◌≡◌, ◌∷◌, ◌++◌, ℕ, List, IfSome, codes, true, IsUtf8};
+ghost use Rattle.cvss_base.specs.Text.{component, dot, has, pieces};
 ghost use Rattle.cvss_base.specs.Version.{version_piece};
-ghost use Rattle.cvss_text.specs.private.Pieces.{pieces_left};
-ghost use Rattle.cvss_text.specs.Route.{route_of, route_of_parts};
+ghost use Rattle.cvss_text.specs.Route.{ToV20, route_of, route_of_parts};
 ghost use Rattle.cvss_text.specs.private.Routing.{IsAfterVersion, IsPrintableRoute, as_route};
 
-use crate::fast_path::after_five;
-use crate::pieces::{Pieces, front_of, parts_of, pieces_of};
+use crate::fast_path::{after_five, after_four};
+use crate::pieces::{front_of, parts_of};
 use cvss_base::PREFIX;
 
 /// By the rules of which version a text is read.
@@ -16,10 +15,10 @@ use cvss_base::PREFIX;
 pub enum Route<'a> {
     /// All of the text is read.
     V20,
-    /// Each of these with the pieces after the one that says the version.
-    V30(Pieces<'a>),
-    V31(Pieces<'a>),
-    V40(Pieces<'a>),
+    /// Each of these with the text of the components, after the piece that says the version.
+    V30(&'a [u8]),
+    V31(&'a [u8]),
+    V40(&'a [u8]),
     /// No version is reported, so no rules apply.
     Unversioned(NoVersion<'a>),
 }
@@ -43,24 +42,57 @@ pub fn route_of_text(text: &[u8]) -> Route<'_>
     ensures after { IsAfterVersion (pieces text.now) result }
     ensures printable { IsUtf8 text.now → IsPrintableRoute result }
 {
-    match reported_on_fast_path(text) {
-        Some((reported, rest)) => route_by_version(reported, pieces_of(rest)),
+    match route_at_once(text) {
+        Some(route) => route,
         None => route_by_front(text),
     }
 }
 
-/// The version of two digits that a text says after `CVSS`, and what follows the slash after
-/// it. `None` says nothing of the text.
+/// The same, where that is seen in the first bytes: `None` says nothing of the text.
 #[inline(always)]
-fn reported_on_fast_path(text: &[u8]) -> Option<(&[u8], &[u8])>
-    ensures text { IfSome result
-        (λ cut. text.now ≡ version_piece cut.0.now ++ (slash ∷ cut.1.now)) }
-    ensures slash { IfSome result (λ cut. has slash cut.0.now ≡ false) }
-    ensures dot { IfSome result (λ cut. has dot cut.0.now ≡ true) }
+pub fn route_at_once(text: &[u8]) -> Option<Route<'_>>
+    ensures route { IfSome result (λ route. as_route route ≡ route_of text.now) }
+    ensures after { IfSome result (IsAfterVersion (pieces text.now)) }
+    ensures printable { IfSome result IsPrintableRoute }
 {
-    let rest = after_five(text, *b"CVSS:")?;
-    match rest {
-        [b'0'..=b'9', b'.', b'0'..=b'9', b'/', after @ ..] => Some((&rest[..3], after)),
+    match after_four(text, *b"CVSS") {
+        Some(rest) => route_after_prefix(rest),
+        None => match after_short_component(text) {
+            Some(_) => Some(Route::V20),
+            None => None,
+        },
+    }
+}
+
+/// The same of a text that begins with `CVSS`, from what follows that.
+#[inline(always)]
+fn route_after_prefix(rest: &[u8]) -> Option<Route<'_>>
+    ensures route { (text : List ℕ) → text ≡ codes "CVSS" ++ rest.now
+        → IfSome result (λ route. as_route route ≡ route_of text) }
+    ensures after { (text : List ℕ) → text ≡ codes "CVSS" ++ rest.now
+        → IfSome result (IsAfterVersion (pieces text)) }
+    ensures printable { IfSome result IsPrintableRoute }
+{
+    if let Some(components) = after_five(rest, *b":3.1/") {
+        return Some(Route::V31(components));
+    }
+    if let Some(components) = after_five(rest, *b":4.0/") {
+        return Some(Route::V40(components));
+    }
+    match after_five(rest, *b":3.0/") {
+        Some(components) => Some(Route::V30(components)),
+        None => None,
+    }
+}
+
+/// What follows a component with a name of two letters and a value of one, and a slash: so begin most
+/// vectors of CVSS v2. `None` says nothing of the text.
+#[inline(always)]
+fn after_short_component(text: &[u8]) -> Option<&[u8]>
+    ensures { IfSome result (λ rest. route_of text.now ≡ ToV20) }
+{
+    match text {
+        [(b'A'..), (b'A'..), b':', (b'A'..), b'/', rest @ ..] => Some(rest),
         _ => None,
     }
 }
@@ -71,10 +103,10 @@ fn route_by_front(text: &[u8]) -> Route<'_>
     ensures after { IsAfterVersion (pieces text.now) result }
     ensures printable { IsUtf8 text.now → IsPrintableRoute result }
 {
-    let (front, after) = front_of(text);
-    if after.is_empty() {
+    let (front, left) = front_of(text);
+    let Some(after) = left.text() else {
         return Route::Unversioned(NoVersion::InvalidComponent(front));
-    }
+    };
     match parts_of(front) {
         Some((prefix, reported)) => route_by(prefix, reported, after),
         None => Route::Unversioned(NoVersion::InvalidComponent(front)),
@@ -82,9 +114,9 @@ fn route_by_front(text: &[u8]) -> Route<'_>
 }
 
 /// By which rules a text is read whose first piece has this prefix and says this version.
-fn route_by<'a>(prefix: &'a [u8], reported: &'a [u8], after: Pieces<'a>) -> Route<'a>
+fn route_by<'a>(prefix: &'a [u8], reported: &'a [u8], after: &'a [u8]) -> Route<'a>
     ensures route { as_route result ≡ route_of_parts prefix.now reported.now }
-    ensures after { IsAfterVersion (component prefix.now reported.now ∷ pieces_left after.entry) result }
+    ensures after { IsAfterVersion (component prefix.now reported.now ∷ pieces after.now) result }
     ensures printable { IsUtf8 prefix.now → IsUtf8 reported.now → IsPrintableRoute result }
 {
     if !reported.contains(&b'.') {
@@ -99,10 +131,10 @@ fn route_by<'a>(prefix: &'a [u8], reported: &'a [u8], after: Pieces<'a>) -> Rout
 /// By which rules a text is read whose first piece has the prefix `CVSS` and says this version, which
 /// has a dot.
 #[inline(always)]
-fn route_by_version<'a>(reported: &'a [u8], after: Pieces<'a>) -> Route<'a>
+fn route_by_version<'a>(reported: &'a [u8], after: &'a [u8]) -> Route<'a>
     requires { has dot reported.now ≡ true }
     ensures route { as_route result ≡ route_of_parts (codes "CVSS") reported.now }
-    ensures after { IsAfterVersion (version_piece reported.now ∷ pieces_left after.entry) result }
+    ensures after { IsAfterVersion (version_piece reported.now ∷ pieces after.now) result }
     ensures printable { IsUtf8 reported.now → IsPrintableRoute result }
 {
     if reported == "3.1".as_bytes() {

@@ -1,12 +1,12 @@
 //! The walk over a vector's components, once for all versions. It takes no memory: a fault borrows
 //! the part of the text that it names.
 
-ghost use Rattle.std.specs.Prelude.{◌≡◌, ℕ, List, IfSome, IfOk, IfErr, OnOk, Some, length, All, IsUtf8};
+ghost use Rattle.std.specs.Prelude.{◌≡◌, ◌∷◌, ℕ, List, IfSome, IfOk, IfErr, OnOk, Some, None, length, All, IsUtf8};
 ghost use Rattle.cvss_text.specs.private.Pieces.{pieces_left};
-ghost use Rattle.cvss_base.specs.Text.{IsComponent, pieces};
-ghost use Rattle.cvss_base.specs.Version.{Version, read, IsComplete};
+ghost use Rattle.cvss_base.specs.Text.{IsComponent, pieces, slash};
+ghost use Rattle.cvss_base.specs.Version.{Version, read};
 ghost use Rattle.cvss_base.specs.Refusal.{AreComponentsBefore, piece_at};
-ghost use Rattle.cvss_text.specs.private.Walk.{HasNoValue, IsAnswerBare, IsEmpty, IsFilled, IsPut, IsCut, IsReadFirst, VersionLaws, Puts, Adds, HasRead, IsFaultOf, IsFirstOfPieces, filled, first_missing, IsPrintable, reason_of};
+ghost use Rattle.cvss_text.specs.private.Walk.{HasNoValue, HasReadTo, IsAnswerBare, IsEmpty, IsFilled, IsInOrderTo, IsPut, IsCut, IsReadFirst, IsReadLeft, IsMissingFault, IsWhole, VersionLaws, Puts, Adds, HasRead, IsFaultOf, IsFirstOfPieces, filled, first_missing, IsPrintable, reason_of};
 
 use crate::cutting::{cut_component, cut_first};
 use crate::pieces::{Pieces, first_bad_piece, pieces_of};
@@ -61,6 +61,19 @@ pub trait Components: Copy {
     /// be `None` for any piece, which is then cut the longer way.
     fn cut(piece: &[u8]) -> Option<(Self::Kind, &[u8])>
         ensures { IfSome result (λ cut. IsCut version piece.now cut.0 cut.1.now) };
+
+    /// This vector without values with the components of a text, if all of it is in printing order and
+    /// no mandatory metric is missing. It may be `None` for any text, which is then read the longer way.
+    fn whole_in_order(self, text: &[u8]) -> Option<Self>
+        requires { HasNoValue version self }
+        ensures { IfSome result (IsWhole version (version.front self) text.now) };
+
+    /// This vector without values with the components with which a text begins in printing order, and
+    /// what follows them. How many these are is for speed alone.
+    fn begun_in_order<'a>(self, text: &'a [u8]) -> Option<(Self, &'a [u8])>
+        requires { HasNoValue version self }
+        ensures { IfSome result
+            (λ begun. IsInOrderTo version (version.front self) text.now begun.0 begun.1.now) };
 
     /// The metric that a refused value is reported under.
     fn reported_kind(kind: Self::Kind) -> Self::Kind
@@ -149,29 +162,81 @@ fn read_first<'a, V: Components>(
     Ok(left)
 }
 
-/// Reads the components that are left of a text into the vector.
+/// Begins to read a text of components: the vector gets those with which it begins in printing order.
+/// The pieces after them are left.
+#[inline(always)]
+fn begin<'a, V: Components>(text: &'a [u8], vector: &mut V) -> Pieces<'a>
+    requires { HasNoValue V.version vector.old }
+    ensures read { HasReadTo V.version (pieces text.now) (pieces_left result) vector.new }
+    ensures front { V.version.front vector.new ≡ V.version.front vector.old }
+{
+    match vector.begun_in_order(text) {
+        Some((begun, rest)) => begin_after(text, begun, rest, vector),
+        None => pieces_of(text),
+    }
+}
+
+/// The same after the components of a vector, with which the text begins in printing order.
+#[inline(always)]
+fn begin_after<'a, V: Components>(
+    text: &'a [u8],
+    begun: V,
+    rest: &'a [u8],
+    vector: &mut V,
+) -> Pieces<'a>
+    requires valueless { HasNoValue V.version vector.old }
+    requires in_order { IsInOrderTo V.version (V.version.front vector.old) text.now begun rest.now }
+    ensures read { HasReadTo V.version (pieces text.now) (pieces_left result) vector.new }
+    ensures front { V.version.front vector.new ≡ V.version.front vector.old }
+{
+    if rest.is_empty() {
+        *vector = begun;
+        return Pieces::none();
+    }
+    match after_slash(rest) {
+        Some(left) => {
+            *vector = begun;
+            pieces_of(left)
+        }
+        // What was read does not end where a component does.
+        None => pieces_of(text),
+    }
+}
+
+/// What follows the slash with which a text begins.
+#[inline(always)]
+fn after_slash(text: &[u8]) -> Option<&[u8]>
+    ensures { IfSome result (λ rest. text.now ≡ slash ∷ rest.now) }
+{
+    match text {
+        [b'/', rest @ ..] => Some(rest),
+        _ => None,
+    }
+}
+
+/// Reads a text of components into a vector without values.
 // A call of its own keeps the vector in memory, which is faster than a local for each field.
 #[inline(never)]
 fn read_components<'a, V: Components>(
-    left: Pieces<'a>,
+    text: &'a [u8],
     vector: &mut V,
 ) -> Result<(), Fault<'a, V::Kind>>
     requires { HasNoValue V.version vector.old }
-    ensures read { OnOk result (HasRead V.version (pieces_left left.entry)
-        (length (pieces_left left.entry)) vector.new) }
+    ensures read { OnOk result
+        (HasRead V.version (pieces text.now) (length (pieces text.now)) vector.new) }
     ensures components { OnOk result
-        (AreComponentsBefore (pieces_left left.entry) (length (pieces_left left.entry))) }
+        (AreComponentsBefore (pieces text.now) (length (pieces text.now))) }
     ensures front { OnOk result (V.version.front vector.new ≡ V.version.front vector.old) }
     ensures refused { IfErr result (λ fault.
-        IsFirstOfPieces V.version (pieces_left left.entry) (reason_of V.version fault)) }
-    ensures printable { All IsUtf8 (pieces_left left.entry) → IfErr result (IsPrintable V.version) }
+        IsFirstOfPieces V.version (pieces text.now) (reason_of V.version fault)) }
+    ensures printable { All IsUtf8 (pieces text.now) → IfErr result (IsPrintable V.version) }
 {
-    let mut rest = left;
-    while let Some(text) = rest.text() {
-        match read_first(text, vector) {
-            Ok(after) => rest = after,
+    let mut left = begin(text, vector);
+    while let Some(rest) = left.text() {
+        match read_first(rest, vector) {
+            Ok(after) => left = after,
             // The pieces before are components, so the first that is none is sought from here on.
-            Err(fault) => match first_bad_piece(text) {
+            Err(fault) => match first_bad_piece(rest) {
                 Some(piece) => return Err(Fault::InvalidComponent(piece)),
                 None => return Err(fault),
             },
@@ -180,39 +245,45 @@ fn read_components<'a, V: Components>(
     Ok(())
 }
 
-/// Reads the components that are left of a text into a vector without values, which then has to be
-/// complete. A piece that is no component goes before each other fault.
+/// Reads a text of components into a vector without values, which then has to be complete. A piece
+/// that is no component goes before each other fault.
 #[inline(always)]
-pub(crate) fn read_complete<'a, V: Components>(
-    left: Pieces<'a>,
+pub fn read_text<'a, V: Components>(
+    text: &'a [u8],
     vector: &mut V,
 ) -> Result<(), Fault<'a, V::Kind>>
     requires { HasNoValue V.version vector.old }
-    ensures read { OnOk result (HasRead V.version (pieces_left left.entry)
-        (length (pieces_left left.entry)) vector.new) }
-    ensures front { OnOk result (V.version.front vector.new ≡ V.version.front vector.old) }
-    ensures complete { OnOk result (IsComplete V.version vector.new) }
-    ensures refused { IfErr result (λ fault.
-        IsFirstOfPieces V.version (pieces_left left.entry) (reason_of V.version fault)) }
-    ensures printable { All IsUtf8 (pieces_left left.entry) → IfErr result (IsPrintable V.version) }
+    ensures { IsReadLeft V.version (pieces text.now) vector.old result vector.new }
 {
-    read_components(left, vector)?;
+    read_components(text, vector)?;
+    check_complete(vector)
+}
+
+/// Whether the vector has each metric that every vector has.
+#[inline(always)]
+fn check_complete<'a, V: Components>(vector: &V) -> Result<(), Fault<'a, V::Kind>>
+    ensures complete { OnOk result (first_missing V.version vector.now ≡ None) }
+    ensures missing { IfErr result (IsMissingFault V.version vector.now) }
+{
     match vector.first_missing() {
         Some(kind) => Err(Fault::MissingMandatoryMetric(kind)),
         None => Ok(()),
     }
 }
 
-/// Reads a text of components into an empty vector, or finds the first reason why it is refused.
+/// Reads the pieces that are left of a text into a vector without values, which then has to be complete.
 #[inline(always)]
-pub fn fill_vector<'a, V: Components>(
-    text: &'a [u8],
+pub(crate) fn read_complete<'a, V: Components>(
+    left: Pieces<'a>,
     vector: &mut V,
 ) -> Result<(), Fault<'a, V::Kind>>
-    requires { IsEmpty V.version vector.old }
-    ensures { IsAnswerBare V.version text.now (filled result vector.new) }
+    requires { HasNoValue V.version vector.old }
+    ensures { IsReadLeft V.version (pieces_left left.entry) vector.old result vector.new }
 {
-    read_complete(pieces_of(text), vector)
+    match left.text() {
+        Some(text) => read_text(text, vector),
+        None => check_complete(vector),
+    }
 }
 
 /// The vector that a text of components denotes, from an empty one, or the first reason why the text
@@ -222,7 +293,7 @@ pub fn read_vector<'a, V: Components>(text: &'a [u8], empty: V) -> Result<V, Fau
     ensures { IsAnswerBare V.version text.now result }
 {
     let mut vector = empty;
-    match fill_vector(text, &mut vector) {
+    match read_complete(pieces_of(text), &mut vector) {
         Ok(()) => Ok(vector),
         Err(fault) => Err(fault),
     }

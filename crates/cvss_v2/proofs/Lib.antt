@@ -1,2 +1,2 @@
+mod InOrderLemmas
 mod PrintingLemmas
-mod TextLemmas

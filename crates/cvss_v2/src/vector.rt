@@ -4,7 +4,7 @@ ghost use Rattle.std.specs.Prelude.{◌≡◌, ◌↔◌, IsTrue, IfSome, IsSome
 
 mod cutting;
 mod explanation;
-mod fast_path;
+mod in_order;
 mod listing;
 mod printing;
 mod reading;

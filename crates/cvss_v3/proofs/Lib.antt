@@ -1,4 +1,4 @@
-mod NameLemmas
+mod InOrderLemmas
 mod PrintingLemmas
 pub mod TableLemmas
 mod TextLemmas

@@ -1,12 +1,9 @@
--- Vectors of two minor versions have two texts, and a version piece with components after slashes is a canonical text.
-use Rattle.std.proofs.Common.{◌≡◌, ◌≢◌, ◌↔◌, ℕ, IsTrue, nat_eq, List, ◌++◌, codes, subst, sym, ap, ◌∙◌}
+-- Vectors of two minor versions have two texts.
+use Rattle.std.proofs.Common.{◌≡◌, ◌≢◌, ◌↔◌, IsTrue, nat_eq, subst}
 use Rattle.std.proofs.lemmas.Bool.Decides.{Decides-eqb}
-use Rattle.cvss_base.specs.Version.{numeral, canonical_text, version_piece, Denotes}
-use Rattle.cvss_text.specs.private.Printing.{texts_with_slash}
+use Rattle.cvss_base.specs.Version.{canonical_text, Denotes}
 use Rattle.cvss_text.proofs.CanonicalLemmas.{canonical_text-denotes}
 use Rattle.cvss_text.proofs.FrontLemmas.{fronts_same}
-use Rattle.cvss_text.proofs.PrintLemmas.{joined-with_slash}
-use Rattle.cvss_v3_metric.specs.Table.{printed}
 use Rattle.cvss_v3.specs.declared.vector.Vector.{Vector}
 use Rattle.cvss_v3.specs.Vector.{v3}
 use Rattle.cvss_v3.specs.private.VectorLaws.{v3_laws, v3_front_laws, one_minor_version}
@@ -24,13 +21,3 @@ versions_apart v w apart = (
       let fronts = fronts_same v3 v3_laws v3_front_laws (canonical_text v3 w) v w of_v (own_text w) in
       absurd (apart (one_minor_version v w fronts)),
 )
-
--- the piece that says a minor version
-abbrev front_of : ℕ → List ℕ
-front_of minor = version_piece (codes "3." ++ numeral minor)
-
--- a text that is a version piece and the vector's components, each after a slash
-pub text_after : (text rest : List ℕ) (vector : Vector) → text ≡ version_piece (codes "3." ++ numeral vector.minor_version) ++ rest → rest ≡ texts_with_slash v3 vector printed → text ≡ canonical_text v3 vector
-text_after text rest vector is components =
-    is ∙ ap (λ after. front_of vector.minor_version ++ after) components
-    ∙ sym (joined-with_slash v3 vector (front_of vector.minor_version) printed)

@@ -1,3 +1,2 @@
-pub mod MinorVersion
 pub mod Shown
 pub mod VectorLaws

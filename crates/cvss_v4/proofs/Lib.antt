@@ -1,4 +1,5 @@
 mod CompleteLemmas
+mod InOrderLemmas
 mod PrintingLemmas
 mod OverridingLemmas
 mod PartsLemmas

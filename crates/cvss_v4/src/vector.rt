@@ -2,8 +2,9 @@
 
 ghost use Rattle.std.specs.Prelude.{◌≡◌, ◌↔◌, IsTrue, IfSome, IsSome, IfOk, IfErr, IsErrAnd, Some, Ok};
 
-mod fast_path;
+mod cutting;
 mod groups;
+mod in_order;
 mod listing;
 mod merging;
 mod overriding;

@@ -11,6 +11,7 @@
 //!   temporal and environmental scores, and for v3 whether scores are certain.
 //! - `parts TEXT`: counts of impact, exploitability and, for v2 (where they are rounded), adjusted
 //!   impact.
+//! - `sight TEXT`: what is published of a canonical text that is seen to be one.
 //! - `metrics TEXT`: the metrics, as they are listed.
 //! - `same TEXT TEXT`: whether two vectors of a version are equal, and whether their texts are.
 //! - `kind 2 NAME`: a metric's name, and what it stands for.
@@ -79,6 +80,7 @@ fn answer_marked(rt: &HostRuntime, line: &[u8], mark: &str, asked: &str) -> io::
         "fault" => faults::fault(rt, asked),
         "scores" => scores::scores(rt, asked),
         "parts" => scores::parts(rt, asked),
+        "sight" => vectors::seen(rt, asked),
         "metrics" => vectors::metrics(rt, asked),
         "same" => vectors::same(rt, asked),
         _ => answer_otherwise(rt, line, mark, asked),

@@ -2,7 +2,7 @@
 
 use crate::shown::print_error;
 use crate::{v2, v3, v4};
-use cvss_any::{Cvss, MetricType};
+use cvss_any::{Bounds, Cvss, MetricType};
 use cvss_base::Severity;
 use std::{fmt, io};
 
@@ -97,6 +97,28 @@ fn version_of(kind: MetricType) -> &'static str {
         MetricType::V2(_) => "v2",
         MetricType::V3(_) => "v3",
         MetricType::V4(_) => "v4",
+    }
+}
+
+/// What is published of a canonical text that is seen to be one: the text, the tenths of the score, and
+/// how it is rated.
+pub(crate) fn seen(rt: &HostRuntime, text: &str) -> io::Result<()> {
+    match Cvss::published_of_canonical(text.as_bytes()) {
+        Some(published) => {
+            println!(rt;
+                "{text} {} {}",
+                published.tenths,
+                bounds_text(published.bounds)
+            )
+        }
+        None => println!(rt; "not at sight"),
+    }
+}
+
+fn bounds_text(bounds: Bounds) -> &'static str {
+    match bounds {
+        Bounds::OfV2 => "v2",
+        Bounds::SinceV3 => "v3",
     }
 }
 

@@ -1,6 +1,7 @@
 -- What the private code of the front door does.
-use Rattle.std.specs.Prelude.{◌≡◌, ◌⊎◌, ℕ, Bool, List, Some, Result, Ok, OnOk, IfOk, IfErr, IsErrAnd}
+use Rattle.std.specs.Prelude.{◌≡◌, ◌⊎◌, ℕ, Bool, List, Some, Result, Ok, Err, OnOk, IfOk, IfErr, IsErrAnd}
 use Rattle.std.specs.Str.{IsUtf8}
+use Rattle.cvss_text.specs.declared.walk.Fault.{Fault}
 use Rattle.cvss_text.specs.private.Walk as walk
 use Rattle.cvss_base.specs.Refusal.{Refusal, Missing}
 use Rattle.cvss_any.specs.Dispatch as spec
@@ -38,6 +39,11 @@ pub record IsRead (text : List ℕ) (answer : Result Cvss ReadFault) : Type 0 wh
   pub refused : IfErr answer (λ fault. spec.IsFirstRefusalCvss text (reason_read fault))
   pub refuses : (reason : Refusal MetricType) → spec.IsFirstRefusalCvss text reason → IsErrAnd answer (λ fault. reason_read fault ≡ reason)
   pub printable : IsUtf8 text → IfErr answer IsPrintableFault
+
+-- what reading a text into a vector of its version answers, as a vector of any version, or as the fault of one
+abbrev pub read_as : {V K : Type 0} → (V → Cvss) → (Fault K → ReadFault) → Result (Unit {0}) (Fault K) → V → Result Cvss ReadFault
+read_as wrap reported (Ok _) v = Ok (wrap v)
+read_as wrap reported (Err fault) v = Err (reported fault)
 
 -- the text denotes a vector that lacks base metrics and may not, and the reason says the first of them
 pub record IsMissingReason (allow_incomplete : Bool) (text : List ℕ) (reason : Refusal MetricType) : Type 0 where

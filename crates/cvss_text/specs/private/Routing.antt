@@ -1,8 +1,8 @@
 -- What the private code of routing holds, in the words of its page.
 use Rattle.std.specs.Prelude.{◌≡◌, ℕ, List, ◌∷◌, codes, ⊤}
 use Rattle.std.specs.Str.{IsUtf8}
+use Rattle.cvss_base.specs.Text.{pieces}
 use Rattle.cvss_base.specs.Version.{version_piece}
-use Rattle.cvss_text.specs.private.Pieces.{pieces_left}
 use Rattle.cvss_text.specs.Route as spec
 use Rattle.cvss_text.specs.declared.route.NoVersion.{NoVersion}
 use Rattle.cvss_text.specs.declared.route.NoVersion.TheVariants.{InvalidComponent, InvalidPrefix, UnsupportedVersion}
@@ -35,7 +35,7 @@ as_route (Unversioned fault) = spec.ToNoVersion (why_of fault)
 
 -- the pieces of a text that says its version are the one that says it, and those with which it is handed on
 abbrev pub IsAfterVersion : List (List ℕ) → Route → Type 0
-IsAfterVersion parts (V30 left) = parts ≡ version_piece (codes "3.0") ∷ pieces_left left
-IsAfterVersion parts (V31 left) = parts ≡ version_piece (codes "3.1") ∷ pieces_left left
-IsAfterVersion parts (V40 left) = parts ≡ version_piece (codes "4.0") ∷ pieces_left left
+IsAfterVersion parts (V30 left) = parts ≡ version_piece (codes "3.0") ∷ pieces left.now
+IsAfterVersion parts (V31 left) = parts ≡ version_piece (codes "3.1") ∷ pieces left.now
+IsAfterVersion parts (V40 left) = parts ≡ version_piece (codes "4.0") ∷ pieces left.now
 IsAfterVersion parts _ = ⊤

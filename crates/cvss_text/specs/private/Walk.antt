@@ -1,18 +1,19 @@
 -- What the private walk over the components does at each step. What callers rely on is in
 -- Version and Refusal.
-use Rattle.std.specs.Prelude.{◌≡◌, ◌≢◌, ℕ, ◌⊎◌, List, [], ◌∷◌, length, map, take, Option, Some, None, IsSome, Result, Ok, Err, IfOk, OnOk, IfErr, OnErr, IsErrAnd, Contains, slice_get, find, is_none, ◌<◌, ⊤}
-use Rattle.std.specs.List.{range_with_len}
+use Rattle.std.specs.Prelude.{◌≡◌, ◌≢◌, ℕ, ◌⊎◌, List, [], ◌∷◌, ◌++◌, length, map, take, drop, Option, Some, None, IsSome, Result, Ok, Err, IfOk, OnOk, IfErr, OnErr, IsErrAnd, Contains, slice_get, find, is_none, ◌<◌, ◌≤◌, ⊤}
+use Rattle.std.specs.List.{All, range_with_len}
 use Rattle.std.specs.Borrow.{Bor}
 use Rattle.std.specs.Str.{IsUtf8}
 use Rattle.cvss_text.specs.declared.walk.ComponentError.{ComponentError}
 use Rattle.cvss_text.specs.declared.walk.ComponentError.TheVariants.{Invalid, Repeated as Twice}
 use Rattle.cvss_text.specs.declared.walk.Fault.{Fault}
 use Rattle.cvss_text.specs.declared.walk.Fault.TheVariants.{InvalidComponent, InvalidPrefix, UnsupportedVersion, UnknownMetric, InvalidMetric, DuplicateMetric, MissingMandatoryMetric}
+use Rattle.cvss_text.specs.private.Printing.{texts_with_slash}
 use Rattle.cvss_base.specs.laws.Order.{place_in}
 use Rattle.cvss_base.specs.private.Component.{delimiter_bytes}
-use Rattle.cvss_base.specs.Text.{pieces, IsComponent, name_part, value_part, component}
+use Rattle.cvss_base.specs.Text.{slash, pieces, IsComponent, name_part, value_part, component}
 use Rattle.cvss_base.specs.Version.{Version, read, reading, version_piece, AreComponentsOf, Denotes, IsComplete, IsWellFormed}
-use Rattle.cvss_base.specs.Refusal.{Refusal, BadComponent, WrongPrefix, WrongVersion, UnknownName, BadValue, Repeated, Missing, Spells, HasNoFaultBefore, IsFirstReason, BadPiecesFirst, IsReasonAfter, IsWrongPrefix, IsWrongVersion}
+use Rattle.cvss_base.specs.Refusal.{Refusal, AreComponentsBefore, BadComponent, WrongPrefix, WrongVersion, UnknownName, BadValue, Repeated, Missing, Spells, HasNoFaultBefore, IsFirstReason, BadPiecesFirst, IsReasonAfter, IsWrongPrefix, IsWrongVersion}
 
 -- the place of a metric in the printing order, which its name says
 abbrev pub place_of : {V K : Type 0} → Version V K → K → ℕ
@@ -150,6 +151,24 @@ pub record HasRead {V K : Type 0} (version : Version V K) (parts : List (List �
   pub components : AreComponentsOf version (take place parts) v
   pub faultless : HasNoFaultBefore version parts place
 
+-- the vector holds the components before those that are left, none of which has a fault
+pub record HasReadTo {V K : Type 0} (version : Version V K) (parts left : List (List ℕ)) (v : V) : Type 0 where
+  pub place : ℕ
+  pub within : place ≤ length parts
+  pub left_is : left ≡ drop place parts
+  pub components : AreComponentsBefore parts place
+  pub read : HasRead version parts place v
+
+-- a text of components begins with those of the vector, in printing order, and goes on with this rest
+pub record IsInOrderTo {V K : Type 0} (version : Version V K) (front : List (List ℕ)) (text : List ℕ) (v : V) (rest : List ℕ) : Type 0 where
+  pub is : slash ∷ text ≡ texts_with_slash version v version.printed ++ rest
+  pub front_is : version.front v ≡ front
+
+-- all of the text is the components of the vector, in printing order, which lacks no mandatory metric
+pub record IsWhole {V K : Type 0} (version : Version V K) (front : List (List ℕ)) (text : List ℕ) (v : V) : Type 0 where
+  pub in_order : IsInOrderTo version front text v []
+  pub present : first_missing version v ≡ None
+
 -- the reason that a fault stands for, with its text as it is read
 abbrev pub reason_of : {V K : Type 0} → Version V K → Fault K → Refusal K
 reason_of version (InvalidComponent piece) = BadComponent piece.now
@@ -192,6 +211,20 @@ pub record IsCutAnswer {V K : Type 0} (version : Version V K) (piece : List ℕ)
   pub refused : IfErr answer (λ fault. (v : V) → IsComponent piece → IsFaultOf version v piece (reason_of version fault))
   pub unnamed : OnErr answer (IsComponent piece → (kind : K) → version.name kind ≢ read version (name_part piece))
   pub printable : IsUtf8 piece → IfErr answer (IsPrintable version)
+
+-- the fault that the vector lacks a mandatory metric, the first of them
+abbrev pub IsMissingFault : {V K : Type 0} → Version V K → V → Fault K → Type 0
+IsMissingFault version v (MissingMandatoryMetric kind) = first_missing version v ≡ Some kind
+IsMissingFault version v _ = ⊥
+
+-- what reading these pieces into a vector without values answers: all of them are read, and it is complete, or the first
+-- reason why they are refused
+pub record IsReadLeft {V K : Type 0} (version : Version V K) (left : List (List ℕ)) (empty : V) (answer : Result (Unit {0}) (Fault K)) (v : V) : Type 0 where
+  pub read : OnOk answer (HasRead version left (length left) v)
+  pub front : OnOk answer (version.front v ≡ version.front empty)
+  pub complete : OnOk answer (IsComplete version v)
+  pub refused : IfErr answer (λ fault. IsFirstOfPieces version left (reason_of version fault))
+  pub printable : All IsUtf8 left → IfErr answer (IsPrintable version)
 
 -- what filling a vector gives: the vector, where nothing is wrong
 abbrev pub filled : {V K : Type 0} → Result (Unit {0}) (Fault K) → V → Result V (Fault K)

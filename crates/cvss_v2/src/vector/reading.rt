@@ -6,6 +6,7 @@ ghost use Rattle.cvss_v2.specs.Vector.{v2};
 ghost use Rattle.cvss_v2.specs.private.VectorLaws.{v2_laws};
 
 use super::cutting::cut_named;
+use super::in_order::{begun_in_order, whole_in_order};
 use crate::vector::Vector;
 use MetricType::*;
 use cvss_text::walk::{ComponentError, Components, fill_place};
@@ -42,6 +43,16 @@ impl Components for Vector {
     fn cut(piece: &[u8]) -> Option<(MetricType, &[u8])> {
         let (kind, value) = cut_named(piece)?;
         Some((kind, value))
+    }
+
+    #[inline(always)]
+    fn whole_in_order(self, text: &[u8]) -> Option<Vector> {
+        whole_in_order(self, text)
+    }
+
+    #[inline(always)]
+    fn begun_in_order<'a>(self, text: &'a [u8]) -> Option<(Vector, &'a [u8])> {
+        begun_in_order(self, text)
     }
 
     #[inline(always)]

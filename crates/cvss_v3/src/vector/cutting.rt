@@ -1,7 +1,7 @@
 //! How a piece is cut after the name of a metric in any ASCII case, where it is as long as a name.
 
-ghost use Rattle.std.specs.Prelude.{◌≡◌, ◌∷◌, [], IsTrue, IfSome};
-ghost use Rattle.std.specs.Char.{to_ascii_uppercase, is_ascii_uppercase};
+ghost use Rattle.std.specs.Prelude.{◌≡◌, ◌∷◌, [], IfSome};
+ghost use Rattle.cvss_base.specs.Text.{uppercased};
 ghost use Rattle.cvss_base.specs.V3Types.{name_of};
 ghost use Rattle.cvss_text.specs.private.Walk.{IsCut};
 ghost use Rattle.cvss_v3.specs.Vector.{v3};
@@ -14,74 +14,72 @@ pub(super) fn cut_named(piece: &[u8]) -> Option<(MetricType, &[u8])>
     ensures { IfSome result (λ cut. IsCut v3 piece.now cut.0 cut.1.now) }
 {
     match piece {
-        [first, b':', value @ ..] => Some((one_letter(upper(*first))?, value)),
-        [first, second, b':', value @ ..] => {
-            Some((two_letters(upper(*first), upper(*second))?, value))
-        }
+        [letter, b':', value @ ..] => Some((named_by_one(*letter)?, value)),
+        [first, second, b':', value @ ..] => Some((named_by_two(*first, *second)?, value)),
         [first, second, third, b':', value @ ..] => {
-            Some((
-                three_letters(upper(*first), upper(*second), upper(*third))?,
-                value,
-            ))
+            Some((named_by_three(*first, *second, *third)?, value))
         }
         _ => None,
     }
 }
 
-/// A letter in upper case; of a byte that is none, no such letter.
+/// The metric whose name is this letter, in any ASCII case, as in the functions below.
 #[inline(always)]
-#[tactic(auto, using(crate::proofs::NameLemmas::upper_is))]
-fn upper(byte: u8) -> u8
-    ensures { IsTrue (is_ascii_uppercase result) → to_ascii_uppercase byte ≡ result }
+fn named_by_one(letter: u8) -> Option<MetricType>
+    ensures { IfSome result (λ kind. name_of kind ≡ uppercased (letter ∷ [])) }
 {
-    byte & 0xDF
+    match letter {
+        b'S' | b's' => Some(MetricType::S),
+        b'C' | b'c' => Some(MetricType::C),
+        b'I' | b'i' => Some(MetricType::I),
+        b'A' | b'a' => Some(MetricType::A),
+        b'E' | b'e' => Some(MetricType::E),
+        _ => None,
+    }
 }
 
+/// The metric whose name is these two letters.
 #[inline(always)]
-fn one_letter(first: u8) -> Option<MetricType>
-    ensures { IfSome result (λ kind. name_of kind ≡ first ∷ []) }
+fn named_by_two(first: u8, second: u8) -> Option<MetricType>
+    ensures { IfSome result (λ kind. name_of kind ≡ uppercased (first ∷ second ∷ [])) }
 {
     match first {
-        b'S' => Some(MetricType::S),
-        b'C' => Some(MetricType::C),
-        b'I' => Some(MetricType::I),
-        b'A' => Some(MetricType::A),
-        b'E' => Some(MetricType::E),
+        b'A' | b'a' => match second {
+            b'V' | b'v' => Some(MetricType::AV),
+            b'C' | b'c' => Some(MetricType::AC),
+            b'R' | b'r' => Some(MetricType::AR),
+            _ => None,
+        },
+        b'R' | b'r' => match second {
+            b'L' | b'l' => Some(MetricType::RL),
+            b'C' | b'c' => Some(MetricType::RC),
+            _ => None,
+        },
+        b'M' | b'm' => match second {
+            b'S' | b's' => Some(MetricType::MS),
+            b'C' | b'c' => Some(MetricType::MC),
+            b'I' | b'i' => Some(MetricType::MI),
+            b'A' | b'a' => Some(MetricType::MA),
+            _ => None,
+        },
+        b'P' | b'p' if matches!(second, b'R' | b'r') => Some(MetricType::PR),
+        b'U' | b'u' if matches!(second, b'I' | b'i') => Some(MetricType::UI),
+        b'C' | b'c' if matches!(second, b'R' | b'r') => Some(MetricType::CR),
+        b'I' | b'i' if matches!(second, b'R' | b'r') => Some(MetricType::IR),
         _ => None,
     }
 }
 
+/// The metric whose name is these three letters, which is a modified one.
 #[inline(always)]
-fn two_letters(first: u8, second: u8) -> Option<MetricType>
-    ensures { IfSome result (λ kind. name_of kind ≡ first ∷ second ∷ []) }
-{
-    match (first, second) {
-        (b'A', b'V') => Some(MetricType::AV),
-        (b'A', b'C') => Some(MetricType::AC),
-        (b'P', b'R') => Some(MetricType::PR),
-        (b'U', b'I') => Some(MetricType::UI),
-        (b'R', b'L') => Some(MetricType::RL),
-        (b'R', b'C') => Some(MetricType::RC),
-        (b'C', b'R') => Some(MetricType::CR),
-        (b'I', b'R') => Some(MetricType::IR),
-        (b'A', b'R') => Some(MetricType::AR),
-        (b'M', b'S') => Some(MetricType::MS),
-        (b'M', b'C') => Some(MetricType::MC),
-        (b'M', b'I') => Some(MetricType::MI),
-        (b'M', b'A') => Some(MetricType::MA),
-        _ => None,
-    }
-}
-
-#[inline(always)]
-fn three_letters(first: u8, second: u8, third: u8) -> Option<MetricType>
-    ensures { IfSome result (λ kind. name_of kind ≡ first ∷ second ∷ third ∷ []) }
+fn named_by_three(first: u8, second: u8, third: u8) -> Option<MetricType>
+    ensures { IfSome result (λ kind. name_of kind ≡ uppercased (first ∷ second ∷ third ∷ [])) }
 {
     match (first, second, third) {
-        (b'M', b'A', b'V') => Some(MetricType::MAV),
-        (b'M', b'A', b'C') => Some(MetricType::MAC),
-        (b'M', b'P', b'R') => Some(MetricType::MPR),
-        (b'M', b'U', b'I') => Some(MetricType::MUI),
+        (b'M' | b'm', b'A' | b'a', b'V' | b'v') => Some(MetricType::MAV),
+        (b'M' | b'm', b'A' | b'a', b'C' | b'c') => Some(MetricType::MAC),
+        (b'M' | b'm', b'P' | b'p', b'R' | b'r') => Some(MetricType::MPR),
+        (b'M' | b'm', b'U' | b'u', b'I' | b'i') => Some(MetricType::MUI),
         _ => None,
     }
 }

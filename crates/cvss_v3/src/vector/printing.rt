@@ -1,11 +1,11 @@
 //! How a vector is printed.
 
-ghost use Rattle.std.specs.Prelude.{◌≡◌, ◌≤◌, ◌+◌, ◌++◌, Some, codes, length, option_map, take};
+ghost use Rattle.std.specs.Prelude.{◌≡◌, ◌≤◌, ◌+◌, ◌++◌, Some, codes, length, option_map};
 ghost use Rattle.std.specs.Fmt.{WritesOnOk};
 ghost use Rattle.std.specs.Option.{option_copied};
 ghost use Rattle.cvss_base.specs.Version.{numeral, canonical_text, component_of, held, version_piece};
-ghost use Rattle.cvss_text.specs.private.Printing.{with_slash, texts_with_slash};
-ghost use Rattle.cvss_v3_metric.specs.Table.{spelling_of, printed};
+ghost use Rattle.cvss_text.specs.private.Printing.{with_slash};
+ghost use Rattle.cvss_v3_metric.specs.Table.{spelling_of};
 ghost use Rattle.cvss_v3.specs.Vector.{v3};
 ghost use Rattle.cvss_v3.specs.private.Shown.{shown};
 
@@ -44,7 +44,10 @@ impl Printed for Vector {
     }
 
     fn write_metrics(&self, buffer: &mut TextBuffer) {
-        self.write_base(buffer);
+        write_three(&self.av, &self.ac, &self.pr, buffer);
+        write_three(&self.ui, &self.s, &self.c, buffer);
+        write_value(self.i, buffer);
+        write_value(self.a, buffer);
         write_three(&self.e, &self.rl, &self.rc, buffer);
         write_three(&self.cr, &self.ir, &self.ar, buffer);
         write_three(&self.mav, &self.mac, &self.mpr, buffer);
@@ -112,19 +115,6 @@ impl Vector {
             1 => f.write_str("CVSS:3.1"),
             other => write!(f, "CVSS:3.{other}"),
         }
-    }
-
-    /// Appends the base metrics, each with a slash before it.
-    #[inline(always)]
-    fn write_base(&self, buffer: &mut TextBuffer)
-        requires { length buffer.old ≤ 192 }
-        ensures text { buffer.new ≡ buffer.old ++ texts_with_slash v3 self.now (take 8 printed) }
-        ensures room { length buffer.new ≤ length buffer.old + 64 }
-    {
-        write_three(&self.av, &self.ac, &self.pr, buffer);
-        write_three(&self.ui, &self.s, &self.c, buffer);
-        write_value(self.i, buffer);
-        write_value(self.a, buffer);
     }
 }
 

@@ -5,13 +5,12 @@ ghost use Rattle.cvss_base.specs.Text.{uppercased};
 ghost use Rattle.cvss_text.specs.private.Walk.{HasNoValue, IsFilled};
 ghost use Rattle.cvss_v3_metric.specs.Table.{spelling_of};
 ghost use Rattle.cvss_v3.specs.Vector.{v3};
-ghost use Rattle.cvss_v3.specs.private.MinorVersion.{minor_version_of};
 ghost use Rattle.cvss_v3.specs.private.VectorLaws.{v3_laws, v3_front_laws};
 
 use super::cutting::cut_named;
+use super::in_order::{begun_in_order, whole_in_order};
 use crate::vector::Vector;
 use MetricType::*;
-use cvss_score::v3::Rules;
 use cvss_text::front::Prefixed;
 use cvss_text::walk::{ComponentError, Components, fill_place};
 use cvss_v3_metric::{MetricType, MetricValue, reported_kind};
@@ -43,6 +42,16 @@ impl Components for Vector {
     #[inline(always)]
     fn cut(piece: &[u8]) -> Option<(MetricType, &[u8])> {
         cut_named(piece)
+    }
+
+    #[inline(always)]
+    fn whole_in_order(self, text: &[u8]) -> Option<Vector> {
+        whole_in_order(self, text)
+    }
+
+    #[inline(always)]
+    fn begun_in_order<'a>(self, text: &'a [u8]) -> Option<(Vector, &'a [u8])> {
+        begun_in_order(self, text)
     }
 
     fn reported_kind(kind: MetricType) -> MetricType {
@@ -87,9 +96,9 @@ impl Prefixed for Vector {
 
     fn start(reported: &[u8]) -> Option<Vector> {
         if reported == b"3.0".as_slice() {
-            Some(Vector::empty(Rules::V30))
+            Some(Vector::empty(0))
         } else if reported == b"3.1".as_slice() {
-            Some(Vector::empty(Rules::V31))
+            Some(Vector::empty(1))
         } else {
             None
         }
@@ -97,16 +106,12 @@ impl Prefixed for Vector {
 }
 
 impl Vector {
-    /// The vector without metrics, of the minor version with these rules.
+    /// The vector without metrics of a minor version.
     #[inline(always)]
-    pub(super) fn empty(rules: Rules) -> Vector
-        ensures version { result.minor_version ≡ minor_version_of rules }
+    fn empty(minor_version: usize) -> Vector
+        ensures version { result.minor_version ≡ minor_version }
         ensures valueless { HasNoValue v3 result }
     {
-        let minor_version = match rules {
-            Rules::V30 => 0,
-            Rules::V31 => 1,
-        };
         Vector {
             minor_version,
             ..Vector::default()

@@ -1,11 +1,11 @@
 //! How a vector is printed.
 
-ghost use Rattle.std.specs.Prelude.{◌≡◌, ◌≤◌, ◌+◌, ◌++◌, Some, codes, drop, length, option_map, take};
+ghost use Rattle.std.specs.Prelude.{◌≡◌, ◌≤◌, ◌+◌, ◌++◌, Some, codes, length, option_map};
 ghost use Rattle.std.specs.Fmt.{WritesOnOk};
 ghost use Rattle.std.specs.Option.{option_copied};
 ghost use Rattle.cvss_base.specs.Version.{numeral, canonical_text, component_of, held, version_piece};
-ghost use Rattle.cvss_text.specs.private.Printing.{with_slash, texts_with_slash};
-ghost use Rattle.cvss_v4_metric.specs.Table.{printed, spelling_at};
+ghost use Rattle.cvss_text.specs.private.Printing.{with_slash};
+ghost use Rattle.cvss_v4_metric.specs.Table.{spelling_at};
 ghost use Rattle.cvss_v4.specs.Vector.{v4};
 ghost use Rattle.cvss_v4.specs.private.Shown.{shown};
 
@@ -54,12 +54,16 @@ impl Printed for Vector {
     }
 
     fn write_metrics(&self, buffer: &mut TextBuffer) {
-        self.write_base(buffer);
-        write_three(&self.e, &self.cr, &self.ir, buffer);
-        write_value(self.ar, buffer);
-        self.write_modified(buffer);
-        write_three(&self.s, &self.au, &self.r, buffer);
-        write_value(self.v, buffer);
+        write_three(&self.av, &self.ac, &self.at, buffer);
+        write_three(&self.pr, &self.ui, &self.vc, buffer);
+        write_three(&self.vi, &self.va, &self.sc, buffer);
+        write_three(&self.si, &self.sa, &self.e, buffer);
+        write_three(&self.cr, &self.ir, &self.ar, buffer);
+        write_three(&self.mav, &self.mac, &self.mat, buffer);
+        write_three(&self.mpr, &self.mui, &self.mvc, buffer);
+        write_three(&self.mvi, &self.mva, &self.msc, buffer);
+        write_three(&self.msi, &self.msa, &self.s, buffer);
+        write_three(&self.au, &self.r, &self.v, buffer);
         write_value(self.re, buffer);
         write_value(self.u, buffer);
     }
@@ -122,35 +126,6 @@ impl Vector {
             0 => f.write_str("CVSS:4.0"),
             other => write!(f, "CVSS:4.{other}"),
         }
-    }
-
-    /// Appends the base metrics, each with a slash before it.
-    #[inline(always)]
-    fn write_base(&self, buffer: &mut TextBuffer)
-        requires { length buffer.old ≤ 168 }
-        ensures text { buffer.new ≡ buffer.old ++ texts_with_slash v4 self.now (take 11 printed) }
-        ensures room { length buffer.new ≤ length buffer.old + 88 }
-    {
-        write_three(&self.av, &self.ac, &self.at, buffer);
-        write_three(&self.pr, &self.ui, &self.vc, buffer);
-        write_three(&self.vi, &self.va, &self.sc, buffer);
-        write_value(self.si, buffer);
-        write_value(self.sa, buffer);
-    }
-
-    /// Appends the modified base metrics, each with a slash before it.
-    #[inline(always)]
-    fn write_modified(&self, buffer: &mut TextBuffer)
-        requires { length buffer.old ≤ 168 }
-        ensures text { buffer.new
-            ≡ buffer.old ++ texts_with_slash v4 self.now (take 11 (drop 15 printed)) }
-        ensures room { length buffer.new ≤ length buffer.old + 88 }
-    {
-        write_three(&self.mav, &self.mac, &self.mat, buffer);
-        write_three(&self.mpr, &self.mui, &self.mvc, buffer);
-        write_three(&self.mvi, &self.mva, &self.msc, buffer);
-        write_value(self.msi, buffer);
-        write_value(self.msa, buffer);
     }
 }
 

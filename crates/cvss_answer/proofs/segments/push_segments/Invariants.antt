@@ -3,4 +3,4 @@ use Rattle.cvss_any.specs.Segments.{text_of}
 use Rattle.cvss_answer.proofs.segments.push_segments.Given as goal
 
 abbrev pub invariant-loop-segment : goal.invariant-loop-segment
-invariant-loop-segment l = l.answers.bytes.items ≡ l.fn.answers.bytes.items ++ text_of (take l.segment-index l.segments)
+invariant-loop-segment l = l.out.items ≡ l.fn.out.items ++ text_of (take l.segment-index l.segments)

@@ -1,0 +1,208 @@
+//! How a text is read whose components are in printing order, each as it is printed: it is gone
+//! through once, with no cutting and no searching. From where it is in another order on it is read
+//! by the walk over its components, for which `reading` puts them one by one.
+
+ghost use Rattle.std.specs.Prelude.{◌≡◌, ℕ, List, IfSome, None, [], ◌∷◌, ◌++◌, drop, take, Some};
+ghost use Rattle.cvss_text.specs.private.Printing.{texts_with_slash};
+ghost use Rattle.cvss_text.specs.private.Walk.{HasNoValue, IsInOrderTo, IsWhole, first_missing};
+ghost use Rattle.cvss_base.specs.Text.{slash};
+ghost use Rattle.cvss_base.specs.declared.v2.MetricType.TheVariants.{AC, AV, Au};
+ghost use Rattle.cvss_v2_metric.specs.Table.{spelling_of, metric_component, printed};
+ghost use Rattle.cvss_v2.specs.Vector.{v2};
+ghost use Rattle.cvss_v2.specs.private.WithSlash.{value_with_slash};
+
+use crate::vector::Vector;
+use cvss_text::fast_path::{put_read, rest_after_name};
+use cvss_v2_metric::MetricValue;
+use cvss_v2_metric::base::{AccessComplexity, AccessVector, Authentication};
+
+/// The vector whose components, in printing order, are the whole text, from one without metrics.
+#[inline(always)]
+pub(super) fn whole_in_order(empty: Vector, text: &[u8]) -> Option<Vector>
+    requires { HasNoValue v2 empty }
+    ensures { IfSome result (IsWhole v2 (v2.front empty) text.now) }
+{
+    // No six base metrics are shorter, so their lengths are compared once.
+    if text.len() < 26 {
+        return None;
+    }
+    let (av, ac, au, text) = first_three_in_order(text)?;
+    let (c, i, a, text) = three_in_order(text)?;
+    let base = Vector {
+        av: Some(av),
+        ac: Some(ac),
+        au: Some(au),
+        c: Some(c),
+        i: Some(i),
+        a: Some(a),
+        ..empty
+    };
+    whole(base, text)
+}
+
+/// The same with the components with which a text begins, if it begins with the first three, and what
+/// follows them.
+// Where not all are in order, these three are read again: kept, they would cost the others more.
+#[inline(never)]
+pub(super) fn begun_in_order<'a>(empty: Vector, text: &'a [u8]) -> Option<(Vector, &'a [u8])>
+    requires { HasNoValue v2 empty }
+    ensures { IfSome result
+        (λ begun. IsInOrderTo v2 (v2.front empty) text.now begun.0 begun.1.now) }
+{
+    let (av, ac, au, text) = first_three_in_order(text)?;
+    let begun = Vector {
+        av: Some(av),
+        ac: Some(ac),
+        au: Some(au),
+        ..empty
+    };
+    let Some((c, i, a, text)) = three_in_order(text) else {
+        return Some((begun, text));
+    };
+    let base = Vector {
+        c: Some(c),
+        i: Some(i),
+        a: Some(a),
+        ..begun
+    };
+    Some(with_others(base, text))
+}
+
+/// The vector of the base metrics, if the rest of the text is nothing or optional ones.
+#[inline(always)]
+fn whole(base: Vector, text: &[u8]) -> Option<Vector>
+    requires present { first_missing v2 base ≡ None }
+    requires bare { texts_with_slash v2 base (drop 6 printed) ≡ [] }
+    ensures { (front : List (List ℕ)) (begun : List ℕ) → IsInOrderTo v2 front begun base text.now
+        → IfSome result (IsWhole v2 front begun) }
+{
+    let [_, ..] = text else {
+        return Some(base);
+    };
+    let (vector, rest) = with_others(base, text);
+    match rest {
+        [] => Some(vector),
+        _ => None,
+    }
+}
+
+/// The vector of the base metrics with the optional ones with which the text after them begins, and what
+/// follows these.
+#[inline(always)]
+fn with_others<'a>(base: Vector, text: &'a [u8]) -> (Vector, &'a [u8])
+    requires { texts_with_slash v2 base (drop 6 printed) ≡ [] }
+    ensures text { (front : List (List ℕ)) (begun : List ℕ) → IsInOrderTo v2 front begun base text.now
+        → IsInOrderTo v2 front begun result.0 result.1.now }
+    ensures missing { first_missing v2 result.0 ≡ first_missing v2 base }
+{
+    let mut vector = base;
+    let rest = put_others(&mut vector, text);
+    (vector, rest)
+}
+
+/// Puts the optional metrics with which a text begins into the vector, and gives what follows
+/// them.
+// A call of its own keeps the vector in memory, where each metric is stored once.
+#[inline(never)]
+fn put_others<'a>(vector: &mut Vector, text: &'a [u8]) -> &'a [u8]
+    ensures text { text.now ≡ texts_with_slash v2 vector.new (drop 6 printed) ++ result.now }
+    ensures base { texts_with_slash v2 vector.new (take 6 printed)
+        ≡ texts_with_slash v2 vector.old (take 6 printed) }
+    ensures missing { first_missing v2 vector.new ≡ first_missing v2 vector.old }
+{
+    let text = put_value(&mut vector.e, text);
+    let text = put_value(&mut vector.rl, text);
+    let text = put_value(&mut vector.rc, text);
+    let text = put_value(&mut vector.cdp, text);
+    let text = put_value(&mut vector.td, text);
+    let text = put_value(&mut vector.cr, text);
+    let text = put_value(&mut vector.ir, text);
+    put_value(&mut vector.ar, text)
+}
+
+/// Puts the value of a metric into its place, if a text begins with a slash and its component, and
+/// gives what follows that; else no value, and the text.
+#[inline(always)]
+fn put_value<'a, M: MetricValue>(place: &mut Option<M>, text: &'a [u8]) -> &'a [u8]
+    ensures { text.now ≡ value_with_slash M.KIND M.value place.new ++ result.now }
+{
+    let read = match rest_after_name(M::KIND.name(), text) {
+        Some(value) => value_in_order(value),
+        None => None,
+    };
+    put_read(place, read, text)
+}
+
+/// The value of a metric, where a text begins with its spelling up to a slash, and what is
+/// after that. No spelling has more than three letters.
+#[inline(always)]
+fn value_in_order<M: MetricValue>(text: &[u8]) -> Option<(M, &[u8])>
+    ensures { IfSome result
+        (λ read. text.now ≡ spelling_of M.KIND (M.value read.0) ++ read.1.now) }
+{
+    let (value, rest) = match text {
+        [] | [_] | [_, b'/', ..] => return letter_in_order(text),
+        [_, _] | [_, _, b'/', ..] => text.split_at(2),
+        [_, _, _, ..] => text.split_at(3),
+    };
+    Some((M::read_bytes(value)?, rest))
+}
+
+/// The values of the first three metrics, where a text begins with their components, and what
+/// follows these.
+#[inline(always)]
+fn first_three_in_order(
+    text: &[u8],
+) -> Option<(AccessVector, AccessComplexity, Authentication, &[u8])>
+    ensures { IfSome result (λ read. text.now ≡ metric_component AV read.0
+        ++ (slash ∷ (metric_component AC read.1
+        ++ (slash ∷ (metric_component Au read.2 ++ read.3.now))))) }
+{
+    let (av, text) = match text {
+        [b'A', b'V', b':', rest @ ..] => letter_in_order(rest)?,
+        _ => return None,
+    };
+    let (ac, text) = base_in_order(text)?;
+    let (au, text) = base_in_order(text)?;
+    Some((av, ac, au, text))
+}
+
+/// The values of three base metrics, where a text begins with a slash and the component of each, and
+/// what follows them.
+#[inline(always)]
+fn three_in_order<K: MetricValue, L: MetricValue, M: MetricValue>(
+    text: &[u8],
+) -> Option<(K, L, M, &[u8])>
+    ensures { IfSome result (λ read. text.now
+        ≡ slash ∷ (metric_component K.KIND (K.value read.0)
+        ++ (slash ∷ (metric_component L.KIND (L.value read.1)
+        ++ (slash ∷ (metric_component M.KIND (M.value read.2) ++ read.3.now)))))) }
+{
+    let (first, text) = base_in_order(text)?;
+    let (second, text) = base_in_order(text)?;
+    let (third, text) = base_in_order(text)?;
+    Some((first, second, third, text))
+}
+
+/// The value of a base metric, where a text begins with a slash and its component, and what is
+/// after that.
+#[inline(always)]
+fn base_in_order<M: MetricValue>(text: &[u8]) -> Option<(M, &[u8])>
+    ensures { IfSome result
+        (λ read. text.now ≡ slash ∷ (metric_component M.KIND (M.value read.0) ++ read.1.now)) }
+{
+    letter_in_order(rest_after_name(M::KIND.name(), text)?)
+}
+
+/// The value of a metric, where a text begins with the letter that spells it, and what follows
+/// that.
+#[inline(always)]
+fn letter_in_order<M: MetricValue>(text: &[u8]) -> Option<(M, &[u8])>
+    ensures { IfSome result
+        (λ read. text.now ≡ spelling_of M.KIND (M.value read.0) ++ read.1.now) }
+{
+    match text {
+        [letter, rest @ ..] => Some((M::read_bytes(&[*letter])?, rest)),
+        [] => None,
+    }
+}

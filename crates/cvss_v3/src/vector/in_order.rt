@@ -1,0 +1,209 @@
+//! How a text is read whose components are in printing order, each as it is printed: it is gone
+//! through once, with no cutting and no searching. From where it is in another order or case on it
+//! is read by the walk over its components, for which `reading` puts them one by one.
+
+ghost use Rattle.std.specs.Prelude.{◌≡◌, ℕ, List, IfSome, [], ◌∷◌, ◌++◌, drop, take, Some};
+ghost use Rattle.cvss_base.specs.Text.{slash};
+ghost use Rattle.cvss_base.specs.declared.v3.MetricType.TheVariants.{AC, AV, PR, UI};
+ghost use Rattle.cvss_text.specs.private.Printing.{texts_with_slash};
+ghost use Rattle.cvss_text.specs.private.Walk.{HasNoValue, IsInOrderTo, IsWhole};
+ghost use Rattle.cvss_v3_metric.specs.Table.{metric_component, printed, spelling_of};
+ghost use Rattle.cvss_v3.specs.Vector.{v3};
+ghost use Rattle.cvss_v3.specs.private.Shown.{shown};
+
+use crate::vector::Vector;
+use cvss_text::fast_path::{put_read, rest_after_name};
+use cvss_v3_metric::MetricValue;
+use cvss_v3_metric::base::{AttackComplexity, AttackVector, PrivilegesRequired, UserInteraction};
+
+/// The vector whose components, in printing order, are the whole text, from one without metrics.
+#[inline(always)]
+pub(super) fn whole_in_order(empty: Vector, text: &[u8]) -> Option<Vector>
+    requires { HasNoValue v3 empty }
+    ensures { IfSome result (IsWhole v3 (v3.front empty) text.now) }
+{
+    // No eight base metrics are shorter, so their lengths are compared once.
+    if text.len() < 35 {
+        return None;
+    }
+    let (av, ac, pr, ui, text) = first_four_in_order(text)?;
+    let (s, c, i, a, text) = four_in_order(text)?;
+    let base = Vector {
+        av: Some(av),
+        ac: Some(ac),
+        pr: Some(pr),
+        ui: Some(ui),
+        s: Some(s),
+        c: Some(c),
+        i: Some(i),
+        a: Some(a),
+        ..empty
+    };
+    whole(base, text)
+}
+
+/// The same with the components with which a text begins, if it begins with the first four, and what
+/// follows them.
+// Where not all are in order, these four are read again: kept, they would cost the others more.
+#[inline(never)]
+pub(super) fn begun_in_order<'a>(empty: Vector, text: &'a [u8]) -> Option<(Vector, &'a [u8])>
+    requires { HasNoValue v3 empty }
+    ensures { IfSome result
+        (λ begun. IsInOrderTo v3 (v3.front empty) text.now begun.0 begun.1.now) }
+{
+    let (av, ac, pr, ui, text) = first_four_in_order(text)?;
+    let begun = Vector {
+        av: Some(av),
+        ac: Some(ac),
+        pr: Some(pr),
+        ui: Some(ui),
+        ..empty
+    };
+    let Some((s, c, i, a, text)) = four_in_order(text) else {
+        return Some((begun, text));
+    };
+    let base = Vector {
+        s: Some(s),
+        c: Some(c),
+        i: Some(i),
+        a: Some(a),
+        ..begun
+    };
+    Some(with_others(base, text))
+}
+
+/// The vector of the base metrics, if the rest of the text is nothing or optional ones.
+#[inline(always)]
+fn whole(base: Vector, text: &[u8]) -> Option<Vector>
+    requires { texts_with_slash v3 base (drop 8 printed) ≡ [] }
+    ensures { (front : List (List ℕ)) (begun : List ℕ) → IsInOrderTo v3 front begun base text.now
+        → IfSome result (IsWhole v3 front begun) }
+{
+    let [_, ..] = text else {
+        return Some(base);
+    };
+    let (vector, rest) = with_others(base, text);
+    match rest {
+        [] => Some(vector),
+        _ => None,
+    }
+}
+
+/// The vector of the base metrics with the optional ones with which the text after them begins, and what
+/// follows these.
+#[inline(always)]
+fn with_others<'a>(base: Vector, text: &'a [u8]) -> (Vector, &'a [u8])
+    requires { texts_with_slash v3 base (drop 8 printed) ≡ [] }
+    ensures { (front : List (List ℕ)) (begun : List ℕ) → IsInOrderTo v3 front begun base text.now
+        → IsInOrderTo v3 front begun result.0 result.1.now }
+{
+    let mut vector = base;
+    let rest = put_others(&mut vector, text);
+    (vector, rest)
+}
+
+/// Puts the optional metrics with which a text begins into the vector, and gives what follows
+/// them.
+// A call of its own keeps the vector in memory, where each metric is stored once.
+#[inline(never)]
+fn put_others<'a>(vector: &mut Vector, text: &'a [u8]) -> &'a [u8]
+    ensures text { text.now ≡ texts_with_slash v3 vector.new (drop 8 printed) ++ result.now }
+    ensures base { texts_with_slash v3 vector.new (take 8 printed)
+        ≡ texts_with_slash v3 vector.old (take 8 printed) }
+    ensures version { vector.new.minor_version ≡ vector.old.minor_version }
+{
+    let text = put_value(&mut vector.e, text);
+    let text = put_value(&mut vector.rl, text);
+    let text = put_value(&mut vector.rc, text);
+    let text = put_value(&mut vector.cr, text);
+    let text = put_value(&mut vector.ir, text);
+    let text = put_value(&mut vector.ar, text);
+    let text = put_value(&mut vector.mav, text);
+    let text = put_value(&mut vector.mac, text);
+    let text = put_value(&mut vector.mpr, text);
+    let text = put_value(&mut vector.mui, text);
+    let text = put_value(&mut vector.ms, text);
+    let text = put_value(&mut vector.mc, text);
+    let text = put_value(&mut vector.mi, text);
+    put_value(&mut vector.ma, text)
+}
+
+/// Puts the value of a metric into its place, if a text begins with a slash and its component, and
+/// gives what follows that; else no value, and the text.
+#[inline(always)]
+fn put_value<'a, M: MetricValue>(place: &mut Option<M>, text: &'a [u8]) -> &'a [u8]
+    ensures { text.now ≡ shown M.KIND M.value place.new ++ result.now }
+{
+    put_read(place, component_in_order(text), text)
+}
+
+/// The values of the first four metrics, where a text begins with their components, and what
+/// follows these.
+#[inline(always)]
+fn first_four_in_order(
+    text: &[u8],
+) -> Option<
+    (
+        AttackVector,
+        AttackComplexity,
+        PrivilegesRequired,
+        UserInteraction,
+        &[u8],
+    ),
+>
+    ensures { IfSome result (λ read. text.now ≡ metric_component AV read.0
+        ++ (slash ∷ (metric_component AC read.1
+        ++ (slash ∷ (metric_component PR read.2
+        ++ (slash ∷ (metric_component UI read.3 ++ read.4.now))))))) }
+{
+    let (av, text) = match text {
+        [b'A', b'V', b':', rest @ ..] => letter_in_order(rest)?,
+        _ => return None,
+    };
+    let (ac, text) = component_in_order(text)?;
+    let (pr, text) = component_in_order(text)?;
+    let (ui, text) = component_in_order(text)?;
+    Some((av, ac, pr, ui, text))
+}
+
+/// The values of four metrics, where a text begins with a slash and the component of each, and what
+/// follows them.
+#[inline(always)]
+fn four_in_order<K: MetricValue, L: MetricValue, M: MetricValue, N: MetricValue>(
+    text: &[u8],
+) -> Option<(K, L, M, N, &[u8])>
+    ensures { IfSome result (λ read. text.now
+        ≡ slash ∷ (metric_component K.KIND (K.value read.0)
+        ++ (slash ∷ (metric_component L.KIND (L.value read.1)
+        ++ (slash ∷ (metric_component M.KIND (M.value read.2)
+        ++ (slash ∷ (metric_component N.KIND (N.value read.3) ++ read.4.now)))))))) }
+{
+    let (first, text) = component_in_order(text)?;
+    let (second, text) = component_in_order(text)?;
+    let (third, text) = component_in_order(text)?;
+    let (fourth, text) = component_in_order(text)?;
+    Some((first, second, third, fourth, text))
+}
+
+/// The value of a metric, where a text begins with a slash and its component, and what is
+/// after that.
+#[inline(always)]
+fn component_in_order<M: MetricValue>(text: &[u8]) -> Option<(M, &[u8])>
+    ensures { IfSome result
+        (λ read. text.now ≡ slash ∷ (metric_component M.KIND (M.value read.0) ++ read.1.now)) }
+{
+    letter_in_order(rest_after_name(M::KIND.name(), text)?)
+}
+
+/// The value of a metric, where a text begins with the letter that spells it, and what follows
+/// that.
+#[inline(always)]
+fn letter_in_order<M: MetricValue>(text: &[u8]) -> Option<(M, &[u8])>
+    ensures { IfSome result
+        (λ read. text.now ≡ spelling_of M.KIND (M.value read.0) ++ read.1.now) }
+{
+    match text {
+        [letter, rest @ ..] => Some((M::read_letter(*letter)?, rest)),
+        [] => None,
+    }
+}

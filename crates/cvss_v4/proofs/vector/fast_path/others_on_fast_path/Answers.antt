@@ -1,8 +1,0 @@
-use Rattle.std.proofs.Common.{refl}
-use Rattle.cvss_v4.proofs.vector.fast_path.others_on_fast_path.Goals as goal
-
-pub returns-clause-base : goal.returns-clause-base
-returns-clause-base c = refl
-
-pub returns-clause-missing : goal.returns-clause-missing
-returns-clause-missing c = refl

@@ -1,0 +1,250 @@
+//! How a text is read whose components are in printing order, each as it is printed: it is gone
+//! through once, with no cutting and no searching. From where it is in another order or case on it
+//! is read by the walk over its components, for which `reading` puts them one by one.
+
+ghost use Rattle.std.specs.Prelude.{◌≡◌, ℕ, List, IfSome, None, [], ◌∷◌, ◌++◌, drop, take, Some};
+ghost use Rattle.cvss_text.specs.private.Printing.{texts_with_slash};
+ghost use Rattle.cvss_text.specs.private.Walk.{HasNoValue, IsInOrderTo, IsWhole, first_missing};
+ghost use Rattle.cvss_base.specs.Text.{slash};
+ghost use Rattle.cvss_base.specs.declared.v4.MetricType.TheVariants.{AC, AT, AV, U};
+ghost use Rattle.cvss_v4_metric.specs.Table.{metric_component, printed, spelling_at};
+ghost use Rattle.cvss_v4_metric.specs.Ranks as rank;
+ghost use Rattle.cvss_v4.specs.Vector.{v4};
+ghost use Rattle.cvss_v4.specs.private.Shown.{shown};
+
+use crate::vector::Vector;
+use cvss_text::fast_path::{put_read, rest_after_name};
+use cvss_v4_metric::MetricValue;
+use cvss_v4_metric::base::{
+    AttackComplexity, AttackRequirements, AttackVector, PrivilegesRequired, UserInteraction,
+};
+use cvss_v4_metric::supplemental::ProviderUrgency;
+
+/// The vector whose components, in printing order, are the whole text, from one without metrics.
+#[inline(always)]
+pub(super) fn whole_in_order(empty: Vector, text: &[u8]) -> Option<Vector>
+    requires { HasNoValue v4 empty }
+    ensures { IfSome result (IsWhole v4 (v4.front empty) text.now) }
+{
+    // No eleven base metrics are shorter, so their lengths are compared once.
+    if text.len() < 54 {
+        return None;
+    }
+    let (av, ac, at, text) = first_three_in_order(text)?;
+    let (pr, ui, text) = two_in_order(text)?;
+    let (vc, vi, va, text) = three_in_order(text)?;
+    let (sc, si, sa, text) = three_in_order(text)?;
+    let base = Vector {
+        av: Some(av),
+        ac: Some(ac),
+        at: Some(at),
+        pr: Some(pr),
+        ui: Some(ui),
+        vc: Some(vc),
+        vi: Some(vi),
+        va: Some(va),
+        sc: Some(sc),
+        si: Some(si),
+        sa: Some(sa),
+        ..empty
+    };
+    whole(base, text)
+}
+
+/// The same with the components with which a text begins, if it begins with the first five, and what
+/// follows them.
+// Where not all are in order, these five are read again: kept, they would cost the others more.
+#[inline(never)]
+pub(super) fn begun_in_order<'a>(empty: Vector, text: &'a [u8]) -> Option<(Vector, &'a [u8])>
+    requires { HasNoValue v4 empty }
+    ensures { IfSome result
+        (λ begun. IsInOrderTo v4 (v4.front empty) text.now begun.0 begun.1.now) }
+{
+    let (av, ac, at, text) = first_three_in_order(text)?;
+    let (pr, ui, text) = two_in_order(text)?;
+    let begun = Vector {
+        av: Some(av),
+        ac: Some(ac),
+        at: Some(at),
+        pr: Some(pr),
+        ui: Some(ui),
+        ..empty
+    };
+    let Some((vc, vi, va, rest)) = three_in_order(text) else {
+        return Some((begun, text));
+    };
+    let Some((sc, si, sa, rest)) = three_in_order(rest) else {
+        return Some((begun, text));
+    };
+    let base = Vector {
+        vc: Some(vc),
+        vi: Some(vi),
+        va: Some(va),
+        sc: Some(sc),
+        si: Some(si),
+        sa: Some(sa),
+        ..begun
+    };
+    Some(with_others(base, rest))
+}
+
+/// The vector of the base metrics, if the rest of the text is nothing or optional ones.
+#[inline(always)]
+fn whole(base: Vector, text: &[u8]) -> Option<Vector>
+    requires present { first_missing v4 base ≡ None }
+    requires bare { texts_with_slash v4 base (drop 11 printed) ≡ [] }
+    ensures { (front : List (List ℕ)) (begun : List ℕ) → IsInOrderTo v4 front begun base text.now
+        → IfSome result (IsWhole v4 front begun) }
+{
+    let [_, ..] = text else {
+        return Some(base);
+    };
+    let (vector, rest) = with_others(base, text);
+    match rest {
+        [] => Some(vector),
+        _ => None,
+    }
+}
+
+/// The vector of the base metrics with the optional ones with which the text after them begins, and what
+/// follows these.
+#[inline(always)]
+fn with_others<'a>(base: Vector, text: &'a [u8]) -> (Vector, &'a [u8])
+    requires { texts_with_slash v4 base (drop 11 printed) ≡ [] }
+    ensures text { (front : List (List ℕ)) (begun : List ℕ) → IsInOrderTo v4 front begun base text.now
+        → IsInOrderTo v4 front begun result.0 result.1.now }
+    ensures missing { first_missing v4 result.0 ≡ first_missing v4 base }
+{
+    let mut vector = base;
+    let rest = put_others(&mut vector, text);
+    (vector, rest)
+}
+
+/// Puts the optional metrics with which a text begins into the vector, and gives what follows
+/// them.
+// A call of its own keeps the vector in memory, where each metric is stored once.
+#[inline(never)]
+fn put_others<'a>(vector: &mut Vector, text: &'a [u8]) -> &'a [u8]
+    ensures text { text.now ≡ texts_with_slash v4 vector.new (drop 11 printed) ++ result.now }
+    ensures base { texts_with_slash v4 vector.new (take 11 printed)
+        ≡ texts_with_slash v4 vector.old (take 11 printed) }
+    ensures version { vector.new.minor_version ≡ vector.old.minor_version }
+    ensures missing { first_missing v4 vector.new ≡ first_missing v4 vector.old }
+{
+    let text = put_value(&mut vector.e, text);
+    let text = put_value(&mut vector.cr, text);
+    let text = put_value(&mut vector.ir, text);
+    let text = put_value(&mut vector.ar, text);
+    let text = put_value(&mut vector.mav, text);
+    let text = put_value(&mut vector.mac, text);
+    let text = put_value(&mut vector.mat, text);
+    let text = put_value(&mut vector.mpr, text);
+    let text = put_value(&mut vector.mui, text);
+    let text = put_value(&mut vector.mvc, text);
+    let text = put_value(&mut vector.mvi, text);
+    let text = put_value(&mut vector.mva, text);
+    let text = put_value(&mut vector.msc, text);
+    let text = put_value(&mut vector.msi, text);
+    let text = put_value(&mut vector.msa, text);
+    let text = put_value(&mut vector.s, text);
+    let text = put_value(&mut vector.au, text);
+    let text = put_value(&mut vector.r, text);
+    let text = put_value(&mut vector.v, text);
+    let text = put_value(&mut vector.re, text);
+    put_read(&mut vector.u, urgency_in_order(text), text)
+}
+
+/// The provider's urgency, if a slash and its component are the whole text, and nothing after it. Its
+/// spellings have several letters, and it is the last metric.
+#[inline(always)]
+fn urgency_in_order(text: &[u8]) -> Option<(ProviderUrgency, &[u8])>
+    ensures { IfSome result
+        (λ read. text.now ≡ slash ∷ (metric_component U (rank.U read.0) ++ read.1.now)) }
+{
+    if text.is_empty() {
+        return None;
+    }
+    let urgency = ProviderUrgency::values()
+        .iter()
+        .copied()
+        .find(|urgency| urgency.with_slash().as_bytes() == text)?;
+    Some((urgency, &[]))
+}
+
+/// Puts the value of a metric into its place, if a text begins with a slash and its component, and
+/// gives what follows that; else no value, and the text.
+#[inline(always)]
+fn put_value<'a, M: MetricValue>(place: &mut Option<M>, text: &'a [u8]) -> &'a [u8]
+    ensures { text.now ≡ shown M.KIND M.rank place.new ++ result.now }
+{
+    put_read(place, component_in_order(text), text)
+}
+
+/// The values of the first three metrics, where a text begins with their components, and what
+/// follows these.
+#[inline(always)]
+fn first_three_in_order(
+    text: &[u8],
+) -> Option<(AttackVector, AttackComplexity, AttackRequirements, &[u8])>
+    ensures { IfSome result (λ read. text.now ≡ metric_component AV (rank.AV read.0)
+        ++ (slash ∷ (metric_component AC (rank.AC read.1)
+        ++ (slash ∷ (metric_component AT (rank.AT read.2) ++ read.3.now))))) }
+{
+    let (av, text) = match text {
+        [b'A', b'V', b':', rest @ ..] => letter_in_order(rest)?,
+        _ => return None,
+    };
+    let (ac, at, text) = two_in_order(text)?;
+    Some((av, ac, at, text))
+}
+
+/// The values of three metrics, where a text begins with a slash and the component of each, and what
+/// follows them.
+#[inline(always)]
+fn three_in_order<K: MetricValue, L: MetricValue, M: MetricValue>(
+    text: &[u8],
+) -> Option<(K, L, M, &[u8])>
+    ensures { IfSome result (λ read. text.now
+        ≡ slash ∷ (metric_component K.KIND (K.rank read.0)
+        ++ (slash ∷ (metric_component L.KIND (L.rank read.1)
+        ++ (slash ∷ (metric_component M.KIND (M.rank read.2) ++ read.3.now)))))) }
+{
+    let (first, second, text) = two_in_order(text)?;
+    let (third, text) = component_in_order(text)?;
+    Some((first, second, third, text))
+}
+
+/// The values of two metrics, in the same way.
+#[inline(always)]
+fn two_in_order<K: MetricValue, L: MetricValue>(text: &[u8]) -> Option<(K, L, &[u8])>
+    ensures { IfSome result (λ read. text.now
+        ≡ slash ∷ (metric_component K.KIND (K.rank read.0)
+        ++ (slash ∷ (metric_component L.KIND (L.rank read.1) ++ read.2.now)))) }
+{
+    let (first, text) = component_in_order(text)?;
+    let (second, text) = component_in_order(text)?;
+    Some((first, second, text))
+}
+
+/// The value of a metric, where a text begins with a slash and its component, and what is
+/// after that. A spelling of several letters is not recognised.
+#[inline(always)]
+fn component_in_order<M: MetricValue>(text: &[u8]) -> Option<(M, &[u8])>
+    ensures { IfSome result
+        (λ read. text.now ≡ slash ∷ (metric_component M.KIND (M.rank read.0) ++ read.1.now)) }
+{
+    letter_in_order(rest_after_name(M::KIND.name(), text)?)
+}
+
+/// The value of a metric, where a text begins with the letter that spells it, and what follows
+/// that.
+#[inline(always)]
+fn letter_in_order<M: MetricValue>(text: &[u8]) -> Option<(M, &[u8])>
+    ensures { IfSome result
+        (λ read. text.now ≡ spelling_at M.KIND (M.rank read.0) ++ read.1.now) }
+{
+    match text {
+        [letter, rest @ ..] => Some((M::read_letter(*letter)?, rest)),
+        [] => None,
+    }
+}
