@@ -1,7 +1,8 @@
 //! Which base metrics a vector lacks. Only a vector of CVSS v3 that was read from a text may lack some.
 
 ghost use Rattle.std.specs.Prelude.{◌≡◌, option_map};
-ghost use Rattle.cvss_any.specs.Complete.{first_missing, first_missing_v3, missing_by};
+ghost use Rattle.cvss_any.specs.Complete.{first_missing, missing_by};
+ghost use Rattle.cvss_v3.specs.Complete.{first_missing_base};
 ghost use Rattle.cvss_any.specs.declared.metric_type.MetricType.TheVariants.{V3};
 
 use crate::metric_type::MetricType;
@@ -39,9 +40,9 @@ impl Cvss {
 /// The first base metric that a vector of CVSS v3 lacks, as one of any version.
 #[inline(always)]
 pub(crate) fn missing_of_v3(vector: &v3::Vector) -> Option<MetricType>
-    ensures { result ≡ option_map V3 (first_missing_v3 vector.now) }
+    ensures { result ≡ option_map V3 (first_missing_base vector.now) }
 {
-    match first_missing_v3(vector) {
+    match first_missing_base(vector) {
         Some(kind) => Some(MetricType::V3(kind)),
         None => None,
     }
@@ -50,8 +51,8 @@ pub(crate) fn missing_of_v3(vector: &v3::Vector) -> Option<MetricType>
 // One test after another: after the fast path, which has seen all eight, the compiler drops each of
 // them, but not one match over all.
 #[inline(always)]
-fn first_missing_v3(vector: &v3::Vector) -> Option<base_v3::MetricType>
-    ensures { result ≡ first_missing_v3 vector.now }
+fn first_missing_base(vector: &v3::Vector) -> Option<base_v3::MetricType>
+    ensures { result ≡ first_missing_base vector.now }
 {
     if vector.av.is_none() {
         return Some(base_v3::MetricType::AV);

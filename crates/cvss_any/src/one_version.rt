@@ -1,7 +1,7 @@
 //! What each version brings to a vector of any version. CVSS v3.0 and v3.1 are one version here, with
 //! two minor versions.
 
-ghost use Rattle.std.specs.Prelude.{◌≡◌, ◌≤◌, ◌++◌, [], ℕ, List, Result, codes, ⊤};
+ghost use Rattle.std.specs.Prelude.{◌≡◌, ◌≤◌, ◌++◌, [], ℕ, Bool, List, None, Result, codes, ⊤};
 ghost use Rattle.cvss_base.specs.Text.{pieces};
 ghost use Rattle.cvss_base.specs.Version.{canonical_text};
 ghost use Rattle.cvss_text.specs.Route.{ToV20, ToV40, route_of};
@@ -71,7 +71,9 @@ pub(crate) trait OneVersion: Printed {
             → IsRead text.now (read_as (joined minor_version) reported answer v) }
         ensures minor { has_minor minor_version }
         ensures cut { pieces text.now ≡ front minor_version ++ pieces components.now }
-        ensures text { (v : Self) → text_of (joined minor_version v) ≡ canonical_text Self.version v };
+        ensures text { (v : Self) → text_of (joined minor_version v) ≡ canonical_text Self.version v }
+        ensures complete { (allow_incomplete : Bool) (v : Self) → Self.has_base v
+            → missing_by allow_incomplete (joined minor_version v) ≡ None };
 
     /// The first base metric that the vector lacks, unless it may lack some.
     fn missing_by(&self, allow_incomplete: bool) -> Option<MetricType>

@@ -1,7 +1,7 @@
 //! How a text is published: its vector's canonical text with the score, or why it is rejected, goes where
 //! the caller writes both.
 
-ghost use Rattle.std.specs.Prelude.{◌≡◌, ◌≤◌, ◌++◌, ℕ, List, IfOk, IfSome, IsUtf8, OnOk};
+ghost use Rattle.std.specs.Prelude.{◌≡◌, ◌≤◌, ◌++◌, ℕ, Bool, List, IfOk, IfSome, IsUtf8, OnOk};
 ghost use Rattle.cvss_base.specs.Text.{pieces};
 ghost use Rattle.cvss_text.specs.Route.{route_of};
 ghost use Rattle.cvss_text.specs.private.Routing.{IsAfterVersion, IsPrintableRoute, as_route};
@@ -59,7 +59,7 @@ impl Cvss {
     {
         let route = route_of_text(text);
         // The text is copied at one place for all versions, so that the compiler can inline it.
-        match published_by(text, &route, allow_incomplete) {
+        match published_by(text, &route) {
             Some(published) => {
                 P::accept(text, published, out)?;
                 Ok(true)
@@ -74,29 +74,24 @@ impl Cvss {
         ensures { IfSome result (IsPublishedOfComplete text.now) }
     {
         let route = route_at_once(text)?;
-        published_by(text, &route, false)
+        published_by(text, &route)
     }
 }
 
 /// What is published of the vector whose canonical text this is, if the text, which is read so, is seen
-/// to be one and the vector lacks no base metric, unless it may.
+/// to be one and the vector lacks no base metric.
 #[inline(always)]
-fn published_by(text: &[u8], route: &Route<'_>, allow_incomplete: bool) -> Option<Published>
+fn published_by(text: &[u8], route: &Route<'_>) -> Option<Published>
     requires route { as_route route.now ≡ route_of text.now }
     requires after { IsAfterVersion (pieces text.now) route.now }
-    ensures { IfSome result (IsPublishedBy allow_incomplete text.now text.now) }
+    ensures { IfSome result
+        (λ published. (allow_incomplete : Bool) → IsPublishedBy allow_incomplete text.now text.now published) }
 {
     match route {
-        Route::V20 => published_whole::<v2::Vector>(text, text, 0, allow_incomplete),
-        Route::V30(components) => {
-            published_whole::<v3::Vector>(text, components, 0, allow_incomplete)
-        }
-        Route::V31(components) => {
-            published_whole::<v3::Vector>(text, components, 1, allow_incomplete)
-        }
-        Route::V40(components) => {
-            published_whole::<v4::Vector>(text, components, 0, allow_incomplete)
-        }
+        Route::V20 => published_whole::<v2::Vector>(text, text, 0),
+        Route::V30(components) => published_whole::<v3::Vector>(text, components, 0),
+        Route::V31(components) => published_whole::<v3::Vector>(text, components, 1),
+        Route::V40(components) => published_whole::<v4::Vector>(text, components, 0),
         Route::Unversioned(_) => None,
     }
 }
@@ -133,7 +128,7 @@ fn publish_by<P: Publishing>(
 }
 
 /// What is published of the vector whose canonical text this is, if all of it is in printing order and
-/// the vector lacks no base metric, unless it may.
+/// the vector lacks no base metric.
 // A call of its own for each version keeps the vectors apart, as in `reading`, and their metrics in
 // registers.
 #[inline(never)]
@@ -141,18 +136,15 @@ fn published_whole<V: OneVersion>(
     text: &[u8],
     components: &[u8],
     minor_version: usize,
-    allow_incomplete: bool,
 ) -> Option<Published>
     requires { V.is_routed text.now components.now minor_version }
-    ensures { IfSome result (IsPublishedBy allow_incomplete text.now text.now) }
+    ensures { IfSome result
+        (λ published. (allow_incomplete : Bool) → IsPublishedBy allow_incomplete text.now text.now published) }
 {
     let empty = V::without_metrics(minor_version);
     V::reads_by_its_rules(text, components, minor_version, empty);
     let vector = empty.whole_in_order(components)?;
-    match vector.missing_by(allow_incomplete) {
-        None => Some(vector.published_as(minor_version)),
-        Some(_) => None,
-    }
+    Some(vector.published_as(minor_version))
 }
 
 /// Publishes what a text denotes that is not seen to be canonical.

@@ -45,6 +45,10 @@ pub trait Components: Copy {
 
     ghost version: { Version Self Self.Kind };
 
+    /// What holds of each vector that is read whole in printing order, besides that no mandatory metric
+    /// is missing: in CVSS v3, where a text may lack base metrics, that it has them all.
+    ghost has_base: { Self → Type 0 };
+
     /// Whether names and values are read in any ASCII case.
     fn any_case() -> bool
         ensures { result ≡ version.any_case };
@@ -66,7 +70,8 @@ pub trait Components: Copy {
     /// no mandatory metric is missing. It may be `None` for any text, which is then read the longer way.
     fn whole_in_order(self, text: &[u8]) -> Option<Self>
         requires { HasNoValue version self }
-        ensures { IfSome result (IsWhole version (version.front self) text.now) };
+        ensures whole { IfSome result (IsWhole version (version.front self) text.now) }
+        ensures base { IfSome result has_base };
 
     /// This vector without values with the components with which a text begins in printing order, and
     /// what follows them. How many these are is for speed alone.

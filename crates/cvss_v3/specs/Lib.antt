@@ -1,3 +1,4 @@
+pub mod Complete
 pub mod Vector
 pub mod VectorWeights
 pub mod private

@@ -1,5 +1,6 @@
 //! How a vector is filled from its components.
 
+ghost use Rattle.std.specs.Prelude.{⊤};
 ghost use Rattle.cvss_text.specs.private.Walk.{IsFilled};
 ghost use Rattle.cvss_v2_metric.specs.Table.{spelling_of};
 ghost use Rattle.cvss_v2.specs.Vector.{v2};
@@ -19,6 +20,8 @@ impl Components for Vector {
     type Kind = MetricType;
 
     ghost version = { v2 };
+
+    ghost has_base = { λ _. ⊤ };
 
     ghost version_laws = { v2_laws };
 

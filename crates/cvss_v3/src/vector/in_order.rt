@@ -2,12 +2,13 @@
 //! through once, with no cutting and no searching. From where it is in another order or case on it
 //! is read by the walk over its components, for which `reading` puts them one by one.
 
-ghost use Rattle.std.specs.Prelude.{◌≡◌, ℕ, List, IfSome, [], ◌∷◌, ◌++◌, drop, take, Some};
+ghost use Rattle.std.specs.Prelude.{◌≡◌, ℕ, List, IfSome, [], ◌∷◌, ◌++◌, drop, take, Some, None};
 ghost use Rattle.cvss_base.specs.Text.{slash};
 ghost use Rattle.cvss_base.specs.declared.v3.MetricType.TheVariants.{AC, AV, PR, UI};
 ghost use Rattle.cvss_text.specs.private.Printing.{texts_with_slash};
 ghost use Rattle.cvss_text.specs.private.Walk.{HasNoValue, IsInOrderTo, IsWhole};
 ghost use Rattle.cvss_v3_metric.specs.Table.{metric_component, printed, spelling_of};
+ghost use Rattle.cvss_v3.specs.Complete.{first_missing_base};
 ghost use Rattle.cvss_v3.specs.Vector.{v3};
 ghost use Rattle.cvss_v3.specs.private.Shown.{shown};
 
@@ -20,7 +21,8 @@ use cvss_v3_metric::base::{AttackComplexity, AttackVector, PrivilegesRequired, U
 #[inline(always)]
 pub(super) fn whole_in_order(empty: Vector, text: &[u8]) -> Option<Vector>
     requires { HasNoValue v3 empty }
-    ensures { IfSome result (IsWhole v3 (v3.front empty) text.now) }
+    ensures whole { IfSome result (IsWhole v3 (v3.front empty) text.now) }
+    ensures base { IfSome result (λ vector. first_missing_base vector ≡ None) }
 {
     // No eight base metrics are shorter, so their lengths are compared once.
     if text.len() < 35 {
@@ -62,44 +64,46 @@ pub(super) fn begun_in_order<'a>(empty: Vector, text: &'a [u8]) -> Option<(Vecto
     let Some((s, c, i, a, text)) = four_in_order(text) else {
         return Some((begun, text));
     };
-    let base = Vector {
+    let mut vector = Vector {
         s: Some(s),
         c: Some(c),
         i: Some(i),
         a: Some(a),
         ..begun
     };
-    Some(with_others(base, text))
+    let rest = add_others(&mut vector, text);
+    Some((vector, rest))
 }
 
 /// The vector of the base metrics, if the rest of the text is nothing or optional ones.
 #[inline(always)]
 fn whole(base: Vector, text: &[u8]) -> Option<Vector>
-    requires { texts_with_slash v3 base (drop 8 printed) ≡ [] }
-    ensures { (front : List (List ℕ)) (begun : List ℕ) → IsInOrderTo v3 front begun base text.now
+    requires present { first_missing_base base ≡ None }
+    requires bare { texts_with_slash v3 base (drop 8 printed) ≡ [] }
+    ensures whole { (front : List (List ℕ)) (begun : List ℕ) → IsInOrderTo v3 front begun base text.now
         → IfSome result (IsWhole v3 front begun) }
+    ensures base { IfSome result (λ vector. first_missing_base vector ≡ None) }
 {
     let [_, ..] = text else {
         return Some(base);
     };
-    let (vector, rest) = with_others(base, text);
-    match rest {
+    let mut vector = base;
+    match add_others(&mut vector, text) {
         [] => Some(vector),
         _ => None,
     }
 }
 
-/// The vector of the base metrics with the optional ones with which the text after them begins, and what
-/// follows these.
+/// Adds the optional metrics with which the text after the base metrics begins to the vector of these,
+/// and gives what follows them.
 #[inline(always)]
-fn with_others<'a>(base: Vector, text: &'a [u8]) -> (Vector, &'a [u8])
-    requires { texts_with_slash v3 base (drop 8 printed) ≡ [] }
-    ensures { (front : List (List ℕ)) (begun : List ℕ) → IsInOrderTo v3 front begun base text.now
-        → IsInOrderTo v3 front begun result.0 result.1.now }
+fn add_others<'a>(vector: &mut Vector, text: &'a [u8]) -> &'a [u8]
+    requires { texts_with_slash v3 vector.old (drop 8 printed) ≡ [] }
+    ensures text { (front : List (List ℕ)) (begun : List ℕ) → IsInOrderTo v3 front begun vector.old text.now
+        → IsInOrderTo v3 front begun vector.new result.now }
+    ensures missing { first_missing_base vector.new ≡ first_missing_base vector.old }
 {
-    let mut vector = base;
-    let rest = put_others(&mut vector, text);
-    (vector, rest)
+    put_others(vector, text)
 }
 
 /// Puts the optional metrics with which a text begins into the vector, and gives what follows
@@ -111,6 +115,7 @@ fn put_others<'a>(vector: &mut Vector, text: &'a [u8]) -> &'a [u8]
     ensures base { texts_with_slash v3 vector.new (take 8 printed)
         ≡ texts_with_slash v3 vector.old (take 8 printed) }
     ensures version { vector.new.minor_version ≡ vector.old.minor_version }
+    ensures missing { first_missing_base vector.new ≡ first_missing_base vector.old }
 {
     let text = put_value(&mut vector.e, text);
     let text = put_value(&mut vector.rl, text);

@@ -1,6 +1,6 @@
 //! How a vector is filled from its components.
 
-ghost use Rattle.std.specs.Prelude.{◌≡◌};
+ghost use Rattle.std.specs.Prelude.{◌≡◌, ⊤};
 ghost use Rattle.cvss_base.specs.Text.{uppercased};
 ghost use Rattle.cvss_text.specs.private.Walk.{HasNoValue, IsFilled};
 ghost use Rattle.cvss_v4_metric.specs.Table.{spelling_at};
@@ -26,6 +26,8 @@ impl Components for Vector {
     type Kind = MetricType;
 
     ghost version = { v4 };
+
+    ghost has_base = { λ _. ⊤ };
 
     ghost version_laws = { v4_laws };
 

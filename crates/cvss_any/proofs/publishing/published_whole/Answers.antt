@@ -6,10 +6,10 @@ use Rattle.cvss_any.proofs.publishing.published_whole.Goals as goal
 pub published_as-requires-after_bounds : goal.published_as-requires-after_bounds
 published_as-requires-after_bounds g c κs within =
     let vector = c.in_ok-vector.vector in
-    (c.reads_by_its_rules.ensures.read (Ok tt) vector (IsReadLeft-whole g.V.Components.version g.met.V.Components.version_laws vector c.args.components.now _ c.in_ok-vector.ensures c.without_metrics-empty.result refl)).scored
+    (c.reads_by_its_rules.ensures.read (Ok tt) vector (IsReadLeft-whole g.V.Components.version g.met.V.Components.version_laws vector c.args.components.now _ c.in_ok-vector.ensures.whole c.without_metrics-empty.result refl)).scored
 
-pub returns-in-None : goal.returns-in-None
-returns-in-None g c =
+pub returns : goal.returns
+returns g c = λ allow_incomplete.
     let version = g.V.Components.version in
     let version_laws = g.met.V.Components.version_laws in
     let rules = c.reads_by_its_rules.ensures in
@@ -17,7 +17,7 @@ returns-in-None g c =
     let empty = c.without_metrics-empty in
     let vector = c.in_ok-vector.vector in
     let minor = c.args.minor_version in
-    let whole = c.in_ok-vector.ensures in
+    let whole = c.in_ok-vector.ensures.whole in
     let read = rules.read (Ok tt) vector (IsReadLeft-whole version version_laws vector components _ whole empty.result refl) in
     let cut = rules.cut ∙ ap (λ front. front ++ pieces components) (sym empty.ensures.front) in
     record {
@@ -28,5 +28,5 @@ returns-in-None g c =
         utf8 = read.utf8;
         is = c.published_as.ensures;
       };
-      complete = sym (c.missing_by.ensures minor) ∙ c.in-None.is;
+      complete = rules.complete allow_incomplete vector c.in_ok-vector.ensures.base;
     }

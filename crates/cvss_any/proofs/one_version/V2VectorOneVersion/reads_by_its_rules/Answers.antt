@@ -1,9 +1,12 @@
-use Rattle.std.proofs.Common.{ap, refl, subst, sym}
+use Rattle.std.proofs.Common.{◌≡◌, Bool, true, false, None, ap, refl, subst, sym}
 use Rattle.cvss_base.specs.Text.{pieces}
 use Rattle.cvss_text.proofs.FrontLemmas.{IsAnswerBare-read}
 use Rattle.cvss_text.specs.private.Walk.{IsReadLeft}
 use Rattle.cvss_v2.specs.Vector.{v2}
 use Rattle.cvss_v2.specs.private.VectorLaws.{v2_laws}
+use Rattle.cvss_v2.specs.declared.vector.Vector.{Vector}
+use Rattle.cvss_any.specs.Complete.{missing_by}
+use Rattle.cvss_any.specs.declared.vector.Cvss.TheVariants.{CvssV20}
 use Rattle.cvss_any.specs.declared.reading.ReadFault.TheVariants as reported
 use Rattle.cvss_any.proofs.ReadLemmas.{by_v20, read_any}
 use Rattle.cvss_any.proofs.one_version.V2VectorOneVersion.reads_by_its_rules.Goals as goal
@@ -18,3 +21,10 @@ returns-clause-read c = λ answer v left.
 
 pub returns-clause-cut : goal.returns-clause-cut
 returns-clause-cut c = ap pieces (sym c.requires.routed.1)
+
+complete : (allow_incomplete : Bool) (v : Vector) → missing_by allow_incomplete (CvssV20 v) ≡ None
+complete true v = refl
+complete false v = refl
+
+pub returns-clause-complete : goal.returns-clause-complete
+returns-clause-complete c = λ allow_incomplete v _. complete allow_incomplete v

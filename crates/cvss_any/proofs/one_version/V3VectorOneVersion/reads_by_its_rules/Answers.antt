@@ -1,11 +1,15 @@
-use Rattle.std.proofs.Common.{◌≡◌, ◌≤◌, arith, ℕ, zero, suc, List, ◌++◌, codes, refl}
+use Rattle.std.proofs.Common.{◌≡◌, ◌≤◌, ap, arith, ℕ, zero, suc, Bool, true, false, List, None, ◌++◌, codes, refl}
+use Rattle.std.specs.Option.{option_map}
 use Rattle.cvss_base.specs.Text.{pieces}
 use Rattle.cvss_base.specs.Version.{canonical_text}
 use Rattle.cvss_text.proofs.FrontLemmas.{IsAnswerAfter-read}
+use Rattle.cvss_v3.specs.Complete.{first_missing_base}
 use Rattle.cvss_v3.specs.Vector.{v3}
 use Rattle.cvss_v3.specs.declared.vector.Vector.{Vector}
 use Rattle.cvss_v3.specs.private.VectorLaws.{v3_laws, v3_front_laws}
 use Rattle.cvss_any.specs.Answers.{text_of}
+use Rattle.cvss_any.specs.Complete.{missing_by}
+use Rattle.cvss_any.specs.declared.metric_type.MetricType.TheVariants.{V3}
 use Rattle.cvss_any.specs.declared.reading.ReadFault.TheVariants as reported
 use Rattle.cvss_any.specs.private.Versions.{IsRoutedV3, front_of, wrapped_v3}
 use Rattle.cvss_any.proofs.ReadLemmas.{by_v3, read_any, started_v3}
@@ -42,3 +46,11 @@ minors text left (suc (suc minor)) is = absurd is
 
 pub returns-clause-minor : goal.returns-clause-minor
 returns-clause-minor c = minors c.args._text.now (pieces c.args._components.now) c.args._minor_version c.requires.routed
+
+complete : (allow_incomplete : Bool) (minor : ℕ) (v : Vector) → first_missing_base v ≡ None → missing_by allow_incomplete (wrapped_v3 minor v) ≡ None
+complete true minor v is = refl
+complete false zero v is = ap (option_map V3) is
+complete false (suc minor) v is = ap (option_map V3) is
+
+pub returns-clause-complete : goal.returns-clause-complete
+returns-clause-complete c = λ allow_incomplete v. complete allow_incomplete c.args._minor_version v

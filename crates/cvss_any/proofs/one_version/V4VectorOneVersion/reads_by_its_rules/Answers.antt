@@ -1,9 +1,12 @@
-use Rattle.std.proofs.Common.{◌++◌, ap, codes, lit<, refl, sym, ◌∙◌}
+use Rattle.std.proofs.Common.{◌≡◌, ◌++◌, Bool, true, false, None, ap, codes, lit<, refl, sym, ◌∙◌}
 use Rattle.cvss_base.specs.Text.{pieces}
 use Rattle.cvss_text.proofs.FrontLemmas.{IsAnswerAfter-read}
 use Rattle.cvss_text.specs.private.Walk.{IsStarted}
 use Rattle.cvss_v4.specs.Vector.{v4}
 use Rattle.cvss_v4.specs.private.VectorLaws.{v4_laws, v4_front_laws}
+use Rattle.cvss_v4.specs.declared.vector.Vector.{Vector}
+use Rattle.cvss_any.specs.Complete.{missing_by}
+use Rattle.cvss_any.specs.declared.vector.Cvss.TheVariants.{CvssV40}
 use Rattle.cvss_any.specs.declared.reading.ReadFault.TheVariants as reported
 use Rattle.cvss_any.specs.private.Versions.{front_of}
 use Rattle.cvss_any.proofs.ReadLemmas.{by_v40, read_any}
@@ -28,3 +31,10 @@ returns-clause-read c = λ answer v left.
 pub returns-clause-cut : goal.returns-clause-cut
 returns-clause-cut c =
     c.requires.routed.1.after ∙ ap (λ minor. front_of (codes "4.") minor ++ pieces c.args._components.now) (sym c.requires.routed.0)
+
+complete : (allow_incomplete : Bool) (v : Vector) → missing_by allow_incomplete (CvssV40 v) ≡ None
+complete true v = refl
+complete false v = refl
+
+pub returns-clause-complete : goal.returns-clause-complete
+returns-clause-complete c = λ allow_incomplete v _. complete allow_incomplete v

@@ -4,9 +4,9 @@ use Rattle.cvss_text.proofs.InOrderLemmas.{IsInOrderTo-turns}
 use Rattle.cvss_v3.proofs.InOrderLemmas.{without_values}
 use Rattle.cvss_v3.proofs.vector.in_order.whole_in_order.Goals as goal
 
-pub whole-requires : goal.whole-requires
-whole-requires c = rw (without_values c.args.empty c.requires) refl
+pub whole-requires-clause-bare : goal.whole-requires-clause-bare
+whole-requires-clause-bare c = rw (without_values c.args.empty c.requires) refl
 
-pub returns : goal.returns
-returns c = c.whole.ensures (v3.front c.args.empty) c.args.text.now
+pub returns-clause-whole : goal.returns-clause-whole
+returns-clause-whole c = c.whole.ensures.whole (v3.front c.args.empty) c.args.text.now
     (rw (without_values c.args.empty c.requires) (IsInOrderTo-turns v3 (rw (c.in_ok-av.ensures, c.in_ok-s.ensures) refl) refl))
