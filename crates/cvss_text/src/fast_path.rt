@@ -42,14 +42,14 @@ pub fn rest_after_name<'a>(name: &str, text: &'a [u8]) -> Option<&'a [u8]>
 
 /// What follows three bytes with which a text begins.
 #[inline(always)]
-fn after_three(text: &[u8], three: [u8; 3]) -> Option<&[u8]>
+pub fn after_three(text: &[u8], three: [u8; 3]) -> Option<&[u8]>
     ensures { IfSome result (λ rest. text.now ≡ three ++ rest.now) }
 {
     let [a, b, c] = three;
     match text {
-        [first, second, third, rest @ ..] if *first == a && *second == b && *third == c => Some(
-            rest,
-        ),
+        [first, second, third, rest @ ..] if are_two([*first, *second], [a, b]) && *third == c => {
+            Some(rest)
+        }
         _ => None,
     }
 }
@@ -67,7 +67,7 @@ pub fn after_four(text: &[u8], four: [u8; 4]) -> Option<&[u8]>
 
 /// What follows five bytes with which a text begins.
 #[inline(always)]
-pub(crate) fn after_five(text: &[u8], five: [u8; 5]) -> Option<&[u8]>
+fn after_five(text: &[u8], five: [u8; 5]) -> Option<&[u8]>
     ensures { IfSome result (λ rest. text.now ≡ five ++ rest.now) }
 {
     let [a, b, c, d, e] = five;
@@ -77,9 +77,17 @@ pub(crate) fn after_five(text: &[u8], five: [u8; 5]) -> Option<&[u8]>
     }
 }
 
+/// Whether two bytes are these. They are compared at once.
+#[inline(always)]
+fn are_two(read: [u8; 2], wanted: [u8; 2]) -> bool
+    ensures { IsTrue result → read ≡ wanted }
+{
+    u16::from_le_bytes(read) == u16::from_le_bytes(wanted)
+}
+
 /// Whether four bytes are these. They are compared at once.
 #[inline(always)]
-fn are_four(read: [u8; 4], wanted: [u8; 4]) -> bool
+pub(crate) fn are_four(read: [u8; 4], wanted: [u8; 4]) -> bool
     ensures { IsTrue result → read ≡ wanted }
 {
     u32::from_le_bytes(read) == u32::from_le_bytes(wanted)

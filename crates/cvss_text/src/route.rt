@@ -1,12 +1,12 @@
 //! By the rules of which version a text is read.
 
 ghost use Rattle.std.specs.Prelude.{◌≡◌, ◌∷◌, ◌++◌, ℕ, List, IfSome, codes, true, IsUtf8};
-ghost use Rattle.cvss_base.specs.Text.{component, dot, has, pieces};
+ghost use Rattle.cvss_base.specs.Text.{component, dot, has, pieces, slash};
 ghost use Rattle.cvss_base.specs.Version.{version_piece};
 ghost use Rattle.cvss_text.specs.Route.{ToV20, route_of, route_of_parts};
 ghost use Rattle.cvss_text.specs.private.Routing.{IsAfterVersion, IsPrintableRoute, as_route};
 
-use crate::fast_path::{after_five, after_four};
+use crate::fast_path::{after_four, are_four};
 use crate::pieces::{front_of, parts_of};
 use cvss_base::PREFIX;
 
@@ -73,15 +73,27 @@ fn route_after_prefix(rest: &[u8]) -> Option<Route<'_>>
         → IfSome result (IsAfterVersion (pieces text)) }
     ensures printable { IfSome result IsPrintableRoute }
 {
-    if let Some(components) = after_five(rest, *b":3.1/") {
+    let (version, components) = cut_after_four(rest)?;
+    if are_four(version, *b":3.1") {
         return Some(Route::V31(components));
     }
-    if let Some(components) = after_five(rest, *b":4.0/") {
+    if are_four(version, *b":4.0") {
         return Some(Route::V40(components));
     }
-    match after_five(rest, *b":3.0/") {
-        Some(components) => Some(Route::V30(components)),
-        None => None,
+    if are_four(version, *b":3.0") {
+        return Some(Route::V30(components));
+    }
+    None
+}
+
+/// The first four bytes of a text, and what follows the slash after them.
+#[inline(always)]
+fn cut_after_four(text: &[u8]) -> Option<([u8; 4], &[u8])>
+    ensures { IfSome result (λ cut. text.now ≡ cut.0 ++ (slash ∷ cut.1.now)) }
+{
+    match text {
+        [a, b, c, d, b'/', rest @ ..] => Some(([*a, *b, *c, *d], rest)),
+        _ => None,
     }
 }
 

@@ -12,7 +12,7 @@ ghost use Rattle.cvss_v2.specs.Vector.{v2};
 ghost use Rattle.cvss_v2.specs.private.WithSlash.{value_with_slash};
 
 use crate::vector::Vector;
-use cvss_text::fast_path::{put_read, rest_after_name};
+use cvss_text::fast_path::{after_three, put_read, rest_after_name};
 use cvss_v2_metric::MetricValue;
 use cvss_v2_metric::base::{AccessComplexity, AccessVector, Authentication};
 
@@ -158,10 +158,7 @@ fn first_three_in_order(
         ++ (slash ∷ (metric_component AC read.1
         ++ (slash ∷ (metric_component Au read.2 ++ read.3.now))))) }
 {
-    let (av, text) = match text {
-        [b'A', b'V', b':', rest @ ..] => letter_in_order(rest)?,
-        _ => return None,
-    };
+    let (av, text) = letter_in_order(after_three(text, *b"AV:")?)?;
     let (ac, text) = base_in_order(text)?;
     let (au, text) = base_in_order(text)?;
     Some((av, ac, au, text))

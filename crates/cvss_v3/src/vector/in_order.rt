@@ -13,7 +13,7 @@ ghost use Rattle.cvss_v3.specs.Vector.{v3};
 ghost use Rattle.cvss_v3.specs.private.Shown.{shown};
 
 use crate::vector::Vector;
-use cvss_text::fast_path::{put_read, rest_after_name};
+use cvss_text::fast_path::{after_three, put_read, rest_after_name};
 use cvss_v3_metric::MetricValue;
 use cvss_v3_metric::base::{AttackComplexity, AttackVector, PrivilegesRequired, UserInteraction};
 
@@ -64,15 +64,14 @@ pub(super) fn begun_in_order<'a>(empty: Vector, text: &'a [u8]) -> Option<(Vecto
     let Some((s, c, i, a, text)) = four_in_order(text) else {
         return Some((begun, text));
     };
-    let mut vector = Vector {
+    let base = Vector {
         s: Some(s),
         c: Some(c),
         i: Some(i),
         a: Some(a),
         ..begun
     };
-    let rest = add_others(&mut vector, text);
-    Some((vector, rest))
+    Some(with_others(base, text))
 }
 
 /// The vector of the base metrics, if the rest of the text is nothing or optional ones.
@@ -87,23 +86,25 @@ fn whole(base: Vector, text: &[u8]) -> Option<Vector>
     let [_, ..] = text else {
         return Some(base);
     };
-    let mut vector = base;
-    match add_others(&mut vector, text) {
+    let (vector, rest) = with_others(base, text);
+    match rest {
         [] => Some(vector),
         _ => None,
     }
 }
 
-/// Adds the optional metrics with which the text after the base metrics begins to the vector of these,
-/// and gives what follows them.
+/// The vector of the base metrics with the optional ones with which the text after them begins, and what
+/// follows these.
 #[inline(always)]
-fn add_others<'a>(vector: &mut Vector, text: &'a [u8]) -> &'a [u8]
-    requires { texts_with_slash v3 vector.old (drop 8 printed) ≡ [] }
-    ensures text { (front : List (List ℕ)) (begun : List ℕ) → IsInOrderTo v3 front begun vector.old text.now
-        → IsInOrderTo v3 front begun vector.new result.now }
-    ensures missing { first_missing_base vector.new ≡ first_missing_base vector.old }
+fn with_others<'a>(base: Vector, text: &'a [u8]) -> (Vector, &'a [u8])
+    requires { texts_with_slash v3 base (drop 8 printed) ≡ [] }
+    ensures text { (front : List (List ℕ)) (begun : List ℕ) → IsInOrderTo v3 front begun base text.now
+        → IsInOrderTo v3 front begun result.0 result.1.now }
+    ensures missing { first_missing_base result.0 ≡ first_missing_base base }
 {
-    put_others(vector, text)
+    let mut vector = base;
+    let rest = put_others(&mut vector, text);
+    (vector, rest)
 }
 
 /// Puts the optional metrics with which a text begins into the vector, and gives what follows
@@ -161,10 +162,7 @@ fn first_four_in_order(
         ++ (slash ∷ (metric_component PR read.2
         ++ (slash ∷ (metric_component UI read.3 ++ read.4.now))))))) }
 {
-    let (av, text) = match text {
-        [b'A', b'V', b':', rest @ ..] => letter_in_order(rest)?,
-        _ => return None,
-    };
+    let (av, text) = letter_in_order(after_three(text, *b"AV:")?)?;
     let (ac, text) = component_in_order(text)?;
     let (pr, text) = component_in_order(text)?;
     let (ui, text) = component_in_order(text)?;

@@ -13,7 +13,7 @@ ghost use Rattle.cvss_v4.specs.Vector.{v4};
 ghost use Rattle.cvss_v4.specs.private.Shown.{shown};
 
 use crate::vector::Vector;
-use cvss_text::fast_path::{put_read, rest_after_name};
+use cvss_text::fast_path::{after_three, put_read, rest_after_name};
 use cvss_v4_metric::MetricValue;
 use cvss_v4_metric::base::{
     AttackComplexity, AttackRequirements, AttackVector, PrivilegesRequired, UserInteraction,
@@ -190,10 +190,7 @@ fn first_three_in_order(
         ++ (slash ∷ (metric_component AC (rank.AC read.1)
         ++ (slash ∷ (metric_component AT (rank.AT read.2) ++ read.3.now))))) }
 {
-    let (av, text) = match text {
-        [b'A', b'V', b':', rest @ ..] => letter_in_order(rest)?,
-        _ => return None,
-    };
+    let (av, text) = letter_in_order(after_three(text, *b"AV:")?)?;
     let (ac, at, text) = two_in_order(text)?;
     Some((av, ac, at, text))
 }

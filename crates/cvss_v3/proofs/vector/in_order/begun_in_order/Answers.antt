@@ -8,9 +8,9 @@ pub returns-in_default : goal.returns-in_default
 returns-in_default c =
     rw (without_values c.args.empty c.requires) (IsInOrderTo-turns v3 (rw c.in_ok-av.ensures refl) refl)
 
-pub add_others-rest-requires : goal.add_others-rest-requires
-add_others-rest-requires c = rw (without_values c.args.empty c.requires) refl
+pub with_others-requires : goal.with_others-requires
+with_others-requires c = rw (without_values c.args.empty c.requires) refl
 
 pub returns : goal.returns
-returns c = c.add_others-rest.ensures.text (v3.front c.args.empty) c.args.text.now
+returns c = c.with_others.ensures.text (v3.front c.args.empty) c.args.text.now
     (rw (without_values c.args.empty c.requires) (IsInOrderTo-turns v3 (rw (c.in_ok-av.ensures, c.in-Some.ensures) refl) refl))

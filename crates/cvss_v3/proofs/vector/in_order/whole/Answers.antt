@@ -5,6 +5,6 @@ use Rattle.cvss_v3.proofs.vector.in_order.whole.Goals as goal
 
 pub returns-in-empty-clause-whole : goal.returns-in-empty-clause-whole
 returns-in-empty-clause-whole c = λ front begun is. record {
-  in_order = IsInOrderTo-end v3 front begun c.add_others.new.vector c.add_others.result.now c.in-empty.len_below (c.add_others.ensures.text front begun is);
+  in_order = IsInOrderTo-end v3 front begun c.with_others.result.0 c.with_others.result.1.now c.in-empty.len_below (c.with_others.ensures.text front begun is);
   present = refl;
 }
