@@ -9,8 +9,8 @@ ghost use Rattle.cvss_v3_metric.specs.declared.base.access.UserInteraction.TheVa
 ghost use Rattle.cvss_examples.specs.declared.own_metric.Participation.TheVariants.{Needed, Unneeded};
 ghost use Rattle.cvss_examples.specs.Participation.{participation};
 
-use cvss::v3::metric::{MetricEnum, MetricValue};
 use cvss::v3::metric::environmental::{BaseMetric, Modified};
+use cvss::v3::metric::{MetricEnum, MetricValue};
 use cvss::v3::{Metric, MetricType};
 use std::fmt;
 
