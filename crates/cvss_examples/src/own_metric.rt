@@ -9,8 +9,8 @@ ghost use Rattle.cvss_v3_metric.specs.declared.base.access.UserInteraction.TheVa
 ghost use Rattle.cvss_examples.specs.declared.own_metric.Participation.TheVariants.{Needed, Unneeded};
 ghost use Rattle.cvss_examples.specs.Participation.{participation};
 
-use cvss::v3::metric::MetricValue;
 use cvss::v3::metric::environmental::{BaseMetric, Modified};
+use cvss::v3::metric::{MetricEnum, MetricValue};
 use cvss::v3::{Metric, MetricType};
 use std::fmt;
 
@@ -44,18 +44,8 @@ impl MetricValue for Participation {
     }
 }
 
-impl Metric for Participation {
-    const TYPE: MetricType = MetricType::UI;
-
-    ghost TYPE = { UI };
-
-    const FAULT_TYPE: MetricType = MetricType::UI;
-
-    ghost FAULT_TYPE = { UI };
-
+impl MetricEnum for Participation {
     ghost law = { record {
-      typed = refl;
-      reported = refl;
       covers = elim [ table.Required ↦ (Needed, refl) | table.None ↦ (Unneeded, refl) ];
       ordered = Prim.search rules;
       equal = Prim.search rules;

@@ -1,6 +1,6 @@
 //! How a vector's components are printed, once for all versions.
 
-ghost use Rattle.std.specs.Prelude.{◌≡◌, ◌↔◌, ◌≤◌, ◌++◌, ◌∷◌, [], IsTrue, All, length, option_copied};
+ghost use Rattle.std.specs.Prelude.{◌≡◌, ◌≤◌, ◌++◌, ◌∷◌, [], length, option_copied};
 ghost use Rattle.std.specs.Fmt.{WritesOnOk};
 ghost use Rattle.cvss_base.specs.Version.{component_of, canonical_text};
 ghost use Rattle.cvss_text.specs.private.Printing.{with_slash, texts_with_slash};
@@ -46,29 +46,4 @@ pub fn write_text<W: fmt::Write>(text: &[u8], f: &mut fmt::Formatter<W>) -> fmt:
         Ok(text) => f.write_str(text),
         Err(_) => Err(fmt::Error),
     }
-}
-
-/// Whether two vectors of one front have the same components, which is whether their texts are the
-/// same, and whether they are one vector.
-pub fn same_components<V: Printed>(left: &V, right: &V) -> bool
-    requires { V.version.front left.now ≡ V.version.front right.now }
-    ensures texts { IsTrue result
-        ↔ (canonical_text V.version left.now ≡ canonical_text V.version right.now) }
-    ensures vectors { IsTrue result ↔ (left.now ≡ right.now) }
-{
-    same_with_slash(left, right)
-}
-
-/// Whether two vectors have the same component for each metric.
-fn same_with_slash<V: Printed>(left: &V, right: &V) -> bool
-    ensures { IsTrue result ↔ All (λ kind. with_slash (component_of V.version left.now kind)
-        ≡ with_slash (component_of V.version right.now kind)) V.version.printed }
-{
-    V::printed().iter().all(|kind| same_text(left.with_slash(*kind), right.with_slash(*kind)))
-}
-
-fn same_text(left: Option<&'static str>, right: Option<&'static str>) -> bool
-    ensures { IsTrue result ↔ (option_copied left.entry ≡ option_copied right.entry) }
-{
-    left == right
 }

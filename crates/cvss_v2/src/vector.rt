@@ -12,8 +12,8 @@ mod refusing;
 mod scores;
 mod weighing;
 
+use crate::laws::vectors_are_their_values;
 use cvss_base::Error;
-use cvss_text::print::same_components;
 use cvss_text::refusing::vector_of;
 use cvss_text::walk::read_vector;
 use cvss_v2_metric::base::{
@@ -97,6 +97,7 @@ impl Vector {
     fn empty() -> Vector
         ensures { IsEmpty v2 result }
     {
+        vectors_are_their_values();
         Vector::default()
     }
 
@@ -106,6 +107,7 @@ impl Vector {
         ensures texts { IsTrue result
             ↔ (canonical_text v2 self.now ≡ canonical_text v2 other.now) }
     {
-        same_components(self, other)
+        vectors_are_their_values();
+        self == other
     }
 }

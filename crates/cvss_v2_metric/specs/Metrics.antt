@@ -7,9 +7,7 @@ use Rattle.cvss_base.specs.declared.v2.MetricType.{MetricType}
 use Rattle.cvss_v2_metric.specs.Table.{Value, rank_of}
 
 -- the enum has the values of the metric in the table
-pub record IsMetric {A : Type 0} (type kind : MetricType) (value : A → Value kind) (compared : A → A → Ordering) (same : A → A → Bool) (is_clone : A → A → Type 0) (is_infallible : A → Type 0) : Type 0 where
-  -- the metric is that of the values
-  pub typed : type ≡ kind
+pub record IsMetric {A : Type 0} (kind : MetricType) (value : A → Value kind) (compared : A → A → Ordering) (same : A → A → Bool) (is_clone : A → A → Type 0) (is_infallible : A → Type 0) : Type 0 where
   -- each value of the table is a value of the enum
   pub covers : (x : Value kind) → (metric : A) × value metric ≡ x
   -- two values compare as they are declared in the table

@@ -1,6 +1,6 @@
 //! What all metrics of CVSS v2 have in common.
 
-ghost use Rattle.std.specs.Prelude.{◌≡◌, ◌∷◌, ◌*◌, ◌^◌, pos, IfSome, IfOk, IfErr, Some, bytes_eq, find, map};
+ghost use Rattle.std.specs.Prelude.{◌≡◌, ◌∷◌, ◌*◌, ◌^◌, pos, IfSome, IfOk, IfErr, Some, bytes_eq, find, map, refl};
 ghost use Rattle.std.specs.Fmt.{WritesOnOk, WritesStyledOnOk};
 ghost use Rattle.cvss_base.specs.Refusal.{BadValue};
 ghost use Rattle.cvss_base.specs.Text.{slash};
@@ -81,9 +81,15 @@ pub trait MetricValue: Copy + 'static {
     }
 }
 
-/// A metric: an enum of the values that the guide gives for its type, which are compared.
+/// An enum of the values that the guide gives for a metric, which are compared.
 // A trait of its own, so that the proof of code that reads or prints a vector loads no comparison.
-pub trait Metric: MetricValue + Eq + Ord + fmt::Debug + fmt::Display {
+pub trait MetricEnum: MetricValue + Eq + Ord + fmt::Debug + fmt::Display {
+    ghost law: { IsMetric Self.KIND Self.value ⟦<Self as Ord>⟧.cmp ⟦<Self as PartialEq>⟧.eq
+        ⟦<Self as Clone>⟧.is_clone ⟦<Self as Clone>⟧.is_infallible };
+}
+
+/// A metric, as it is named and read.
+pub trait Metric: MetricEnum {
     /// Which metric this is.
     const TYPE: MetricType;
 
@@ -96,8 +102,8 @@ pub trait Metric: MetricValue + Eq + Ord + fmt::Debug + fmt::Display {
         Self::TYPE.name()
     }
 
-    ghost law: { IsMetric TYPE Self.KIND Self.value ⟦<Self as Ord>⟧.cmp ⟦<Self as PartialEq>⟧.eq
-        ⟦<Self as Clone>⟧.is_clone ⟦<Self as Clone>⟧.is_infallible };
+    // The metric is that of the values.
+    ghost typed: { TYPE ≡ Self.KIND };
 
     /// How the value is spelled in a vector.
     #[tactic(auto, using(cvss_base::proofs::WithSlashLemmas::after_colon))]
@@ -146,6 +152,14 @@ pub trait Metric: MetricValue + Eq + Ord + fmt::Debug + fmt::Display {
     {
         i128::from(self.thousandths()) * THOUSANDTH
     }
+}
+
+impl<M: MetricEnum> Metric for M {
+    const TYPE: MetricType = M::KIND;
+
+    ghost TYPE = { M.KIND };
+
+    ghost typed = { refl };
 }
 
 /// How a value is spelled in a vector.

@@ -5,7 +5,7 @@ ghost use Rattle.std.proofs.Common.{rules};
 ghost use Rattle.cvss_base.specs.declared.v2.MetricType.TheVariants.{E, RL, RC};
 ghost use Rattle.cvss_v2_metric.specs.Table.{metric_component};
 
-use crate::metric::{Metric, MetricType, MetricValue};
+use crate::metric::{MetricEnum, MetricType, MetricValue};
 use std::fmt;
 
 /// How far techniques or code to exploit are developed (guide, section 2.2.1).
@@ -18,11 +18,7 @@ pub enum Exploitability {
     NotDefined,
 }
 
-impl Metric for Exploitability {
-    const TYPE: MetricType = MetricType::E;
-
-    ghost TYPE = { E };
-
+impl MetricEnum for Exploitability {
     ghost law = { Prim.search rules };
 }
 
@@ -69,11 +65,7 @@ pub enum RemediationLevel {
     NotDefined,
 }
 
-impl Metric for RemediationLevel {
-    const TYPE: MetricType = MetricType::RL;
-
-    ghost TYPE = { RL };
-
+impl MetricEnum for RemediationLevel {
     ghost law = { Prim.search rules };
 }
 
@@ -125,11 +117,7 @@ pub enum ReportConfidence {
     NotDefined,
 }
 
-impl Metric for ReportConfidence {
-    const TYPE: MetricType = MetricType::RC;
-
-    ghost TYPE = { RC };
-
+impl MetricEnum for ReportConfidence {
     ghost law = { Prim.search rules };
 }
 

@@ -1,4 +1,3 @@
 mod InOrderLemmas
 mod PrintingLemmas
 pub mod TableLemmas
-mod TextLemmas

@@ -12,9 +12,9 @@ mod refusing;
 mod scores;
 mod units;
 
+use crate::laws::vectors_are_their_values;
 use cvss_base::Error;
 use cvss_text::front::read_after;
-use cvss_text::print::same_components;
 use cvss_text::refusing::vector_after;
 use cvss_v3_metric::base::{
     AttackComplexity, AttackVector, Availability, Confidentiality, Integrity, PrivilegesRequired,
@@ -105,12 +105,12 @@ impl Vector {
     }
 
     /// Whether two vectors have one canonical text, which is whether they are equal.
-    #[tactic(auto, using(crate::proofs::TextLemmas::versions_apart))]
     pub fn same_text(&self, other: &Vector) -> bool
         ensures vectors { IsTrue result ↔ (self.now ≡ other.now) }
         ensures texts { IsTrue result
             ↔ (canonical_text v3 self.now ≡ canonical_text v3 other.now) }
     {
-        self.minor_version == other.minor_version && same_components(self, other)
+        vectors_are_their_values();
+        self == other
     }
 }

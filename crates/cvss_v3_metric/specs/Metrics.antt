@@ -6,14 +6,10 @@ use Rattle.cvss_base.specs.Equality.{EqualsByValue, ClonesByValue, ClonesAlways}
 use Rattle.cvss_base.specs.declared.v3.MetricType.{MetricType}
 use Rattle.cvss_v3_metric.specs.declared.environmental.modified.Modified.{Modified}
 use Rattle.cvss_v3_metric.specs.Modified.{modified_map}
-use Rattle.cvss_v3_metric.specs.Table.{Value, AnyValue, spelling_of, weight_of, rank_of, modified_of, replacing_value, modified_value, reported_kind}
+use Rattle.cvss_v3_metric.specs.Table.{Value, AnyValue, spelling_of, weight_of, rank_of, modified_of, replacing_value, modified_value}
 
 -- the enum has the values of the metric in the table
-pub record IsMetric {A : Type 0} (type fault_type kind : MetricType) (value : A → Value kind) (compared : A → A → Ordering) (same : A → A → Bool) (is_clone : A → A → Type 0) (is_infallible : A → Type 0) : Type 0 where
-  -- the metric is that of the values
-  pub typed : type ≡ kind
-  -- a refused value is reported under it, and of a modified metric under its base metric
-  pub reported : fault_type ≡ reported_kind kind
+pub record IsMetric {A : Type 0} (kind : MetricType) (value : A → Value kind) (compared : A → A → Ordering) (same : A → A → Bool) (is_clone : A → A → Type 0) (is_infallible : A → Type 0) : Type 0 where
   -- each value of the table is a value of the enum
   pub covers : (x : Value kind) → (metric : A) × value metric ≡ x
   -- two values compare as their places in the table do

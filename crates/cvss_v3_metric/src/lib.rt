@@ -6,4 +6,4 @@ pub mod environmental;
 mod metric;
 pub mod temporal;
 
-pub use metric::{Metric, MetricType, MetricValue, reported_kind};
+pub use metric::{Metric, MetricEnum, MetricType, MetricValue, reported_kind};

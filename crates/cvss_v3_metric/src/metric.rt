@@ -1,6 +1,6 @@
 //! What all metrics of CVSS v3 have in common.
 
-ghost use Rattle.std.specs.Prelude.{◌≡◌, [], ◌∷◌, ◌*◌, ◌^◌, ◌↔◌, pos, IsTrue, IsSome, IfSome, IfOk, IfErr, Some, unwrap_or};
+ghost use Rattle.std.specs.Prelude.{◌≡◌, [], ◌∷◌, ◌*◌, ◌^◌, ◌↔◌, pos, IsTrue, IsSome, IfSome, IfOk, IfErr, Some, unwrap_or, refl};
 ghost use Rattle.std.specs.Fmt.{WritesOnOk, WritesStyledOnOk};
 ghost use Rattle.cvss_base.specs.Refusal.{BadValue};
 ghost use Rattle.cvss_base.specs.Reported.{Reports};
@@ -89,9 +89,15 @@ pub trait MetricValue: Copy + 'static {
     }
 }
 
-/// A metric: an enum of the values that the specification gives for its type, which are compared.
+/// An enum of the values that the specification gives for a metric, which are compared.
 // A trait of its own, so that the proof of code that reads or prints a vector loads no comparison.
-pub trait Metric: MetricValue + Eq + Ord + fmt::Debug + fmt::Display {
+pub trait MetricEnum: MetricValue + Eq + Ord + fmt::Debug + fmt::Display {
+    ghost law: { IsMetric Self.KIND Self.value ⟦<Self as Ord>⟧.cmp ⟦<Self as PartialEq>⟧.eq
+        ⟦<Self as Clone>⟧.is_clone ⟦<Self as Clone>⟧.is_infallible };
+}
+
+/// A metric, as it is named and read.
+pub trait Metric: MetricEnum {
     /// Which metric this is.
     const TYPE: MetricType;
 
@@ -109,8 +115,10 @@ pub trait Metric: MetricValue + Eq + Ord + fmt::Debug + fmt::Display {
         Self::TYPE.name()
     }
 
-    ghost law: { IsMetric TYPE FAULT_TYPE Self.KIND Self.value ⟦<Self as Ord>⟧.cmp
-        ⟦<Self as PartialEq>⟧.eq ⟦<Self as Clone>⟧.is_clone ⟦<Self as Clone>⟧.is_infallible };
+    // The metric is that of the values.
+    ghost typed: { TYPE ≡ Self.KIND };
+
+    ghost reported: { FAULT_TYPE ≡ reported_kind Self.KIND };
 
     /// How the value is spelled in a vector.
     #[tactic(auto, using(cvss_base::proofs::WithSlashLemmas::after_colon))]
@@ -185,8 +193,22 @@ pub trait Metric: MetricValue + Eq + Ord + fmt::Debug + fmt::Display {
     }
 }
 
+impl<M: MetricEnum> Metric for M {
+    const TYPE: MetricType = M::KIND;
+
+    ghost TYPE = { M.KIND };
+
+    const FAULT_TYPE: MetricType = reported_kind(M::KIND);
+
+    ghost FAULT_TYPE = { reported_kind M.KIND };
+
+    ghost typed = { refl };
+
+    ghost reported = { refl };
+}
+
 /// The metric that a refused value is reported under: of a modified metric its base metric.
-pub fn reported_kind(kind: MetricType) -> MetricType
+pub const fn reported_kind(kind: MetricType) -> MetricType
     ensures { result ≡ reported_kind kind }
 {
     match kind {

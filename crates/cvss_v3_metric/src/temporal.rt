@@ -5,7 +5,7 @@ ghost use Rattle.std.proofs.Common.{rules};
 ghost use Rattle.cvss_base.specs.declared.v3.MetricType.TheVariants.{E, RL, RC};
 ghost use Rattle.cvss_v3_metric.specs.Table.{metric_component};
 
-use crate::metric::{Metric, MetricType, MetricValue};
+use crate::metric::{MetricEnum, MetricType, MetricValue};
 use std::fmt;
 
 /// How far techniques or code to exploit are developed (v3.1 specification, section 3.1).
@@ -48,15 +48,7 @@ impl MetricValue for ExploitCodeMaturity {
     }
 }
 
-impl Metric for ExploitCodeMaturity {
-    const TYPE: MetricType = MetricType::E;
-
-    ghost TYPE = { E };
-
-    const FAULT_TYPE: MetricType = MetricType::E;
-
-    ghost FAULT_TYPE = { E };
-
+impl MetricEnum for ExploitCodeMaturity {
     ghost law = { Prim.search rules };
 }
 
@@ -110,15 +102,7 @@ impl MetricValue for RemediationLevel {
     }
 }
 
-impl Metric for RemediationLevel {
-    const TYPE: MetricType = MetricType::RL;
-
-    ghost TYPE = { RL };
-
-    const FAULT_TYPE: MetricType = MetricType::RL;
-
-    ghost FAULT_TYPE = { RL };
-
+impl MetricEnum for RemediationLevel {
     ghost law = { Prim.search rules };
 }
 
@@ -169,15 +153,7 @@ impl MetricValue for ReportConfidence {
     }
 }
 
-impl Metric for ReportConfidence {
-    const TYPE: MetricType = MetricType::RC;
-
-    ghost TYPE = { RC };
-
-    const FAULT_TYPE: MetricType = MetricType::RC;
-
-    ghost FAULT_TYPE = { RC };
-
+impl MetricEnum for ReportConfidence {
     ghost law = { Prim.search rules };
 }
 

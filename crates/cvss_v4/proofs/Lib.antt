@@ -3,4 +3,3 @@ mod InOrderLemmas
 mod PrintingLemmas
 mod OverridingLemmas
 mod PartsLemmas
-mod TextLemmas

@@ -14,9 +14,9 @@ mod reading;
 mod refusing;
 mod scores;
 
+use crate::laws::equality_is_that_of_values;
 use cvss_base::Error;
 use cvss_text::front::read_after;
-use cvss_text::print::same_components;
 use cvss_text::refusing::vector_after;
 use cvss_text::walk::Components;
 use cvss_v4_metric::{base, environmental, supplemental, threat};
@@ -117,12 +117,12 @@ impl Vector {
     }
 
     /// Whether two vectors have one canonical text, which is whether they are equal.
-    #[tactic(auto, using(crate::proofs::TextLemmas::versions_apart))]
     pub fn same_text(&self, other: &Vector) -> bool
         ensures vectors { IsTrue result ↔ (self.now ≡ other.now) }
         ensures texts { IsTrue result
             ↔ (canonical_text v4 self.now ≡ canonical_text v4 other.now) }
     {
-        self.minor_version == other.minor_version && same_components(self, other)
+        equality_is_that_of_values();
+        self == other
     }
 }

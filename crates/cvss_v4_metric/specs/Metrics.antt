@@ -7,9 +7,7 @@ use Rattle.cvss_base.specs.declared.v4.MetricType.{MetricType}
 use Rattle.cvss_v4_metric.specs.Table.{spelling_at, default_of}
 
 -- the enum has the values of the metric in the table
-pub record IsMetric {A : Type 0} (type kind : MetricType) (rank : A → ℕ) (is_default : A → Type 0) (compared : A → A → Ordering) (same : A → A → Bool) (is_clone : A → A → Type 0) (is_infallible : A → Type 0) : Type 0 where
-  -- the metric is that of the values
-  pub typed : type ≡ kind
+pub record IsMetric {A : Type 0} (kind : MetricType) (rank : A → ℕ) (is_default : A → Type 0) (compared : A → A → Ordering) (same : A → A → Bool) (is_clone : A → A → Type 0) (is_infallible : A → Type 0) : Type 0 where
   -- two values compare as their places do
   pub ordered : (x y : A) → compared x y ≡ nat_cmp (rank x) (rank y)
   -- the default is the table's

@@ -7,4 +7,4 @@ mod metric;
 pub mod supplemental;
 pub mod threat;
 
-pub use metric::{Metric, MetricType, MetricValue};
+pub use metric::{Metric, MetricEnum, MetricType, MetricValue};

@@ -1,6 +1,6 @@
 //! What all metrics of CVSS v4.0 have in common.
 
-ghost use Rattle.std.specs.Prelude.{◌≡◌, ◌↔◌, [], ◌∷◌, ℕ, IsTrue, IfSome, IfOk, IfErr, Some, bytes_eq, map, slice_get};
+ghost use Rattle.std.specs.Prelude.{◌≡◌, ◌↔◌, [], ◌∷◌, ℕ, IsTrue, IfSome, IfOk, IfErr, Some, bytes_eq, map, slice_get, refl};
 ghost use Rattle.std.specs.Fmt.{WritesOnOk, WritesStyledOnOk};
 ghost use Rattle.std.specs.Str.{str_eq_ignore_ascii_case};
 ghost use Rattle.cvss_base.specs.Refusal.{BadValue};
@@ -74,9 +74,15 @@ pub trait MetricValue: Copy + 'static {
     }
 }
 
-/// A metric: an enum of the values that the specification gives for its type, which are compared.
+/// An enum of the values that the specification gives for a metric, which are compared.
 // A trait of its own, so that the proof of code that reads or prints a vector loads no comparison.
-pub trait Metric: MetricValue + Eq + Ord + Default + fmt::Debug + fmt::Display {
+pub trait MetricEnum: MetricValue + Eq + Ord + Default + fmt::Debug + fmt::Display {
+    ghost law: { IsMetric Self.KIND Self.rank ⟦<Self as Default>⟧.is_default ⟦<Self as Ord>⟧.cmp
+        ⟦<Self as PartialEq>⟧.eq ⟦<Self as Clone>⟧.is_clone ⟦<Self as Clone>⟧.is_infallible };
+}
+
+/// A metric, as it is named and read.
+pub trait Metric: MetricEnum {
     /// Which metric this is.
     const TYPE: MetricType;
 
@@ -89,8 +95,8 @@ pub trait Metric: MetricValue + Eq + Ord + Default + fmt::Debug + fmt::Display {
         Self::TYPE.name()
     }
 
-    ghost law: { IsMetric TYPE Self.KIND Self.rank ⟦<Self as Default>⟧.is_default ⟦<Self as Ord>⟧.cmp
-        ⟦<Self as PartialEq>⟧.eq ⟦<Self as Clone>⟧.is_clone ⟦<Self as Clone>⟧.is_infallible };
+    // The metric is that of the values.
+    ghost typed: { TYPE ≡ Self.KIND };
 
     /// How the value is spelled in a vector.
     final fn as_str(self) -> &'static str
@@ -149,6 +155,14 @@ pub trait Metric: MetricValue + Eq + Ord + Default + fmt::Debug + fmt::Display {
             }
         }
     }
+}
+
+impl<M: MetricEnum> Metric for M {
+    const TYPE: MetricType = M::KIND;
+
+    ghost TYPE = { M.KIND };
+
+    ghost typed = { refl };
 }
 
 /// How a value is spelled in a vector.

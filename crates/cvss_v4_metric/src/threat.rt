@@ -6,7 +6,7 @@ ghost use Rattle.cvss_base.specs.declared.v4.MetricType.TheVariants as metric;
 ghost use Rattle.cvss_v4_metric.specs.Ranks as place;
 ghost use Rattle.cvss_v4_metric.specs.Table.{metric_component};
 
-use crate::metric::{Metric, MetricType, MetricValue};
+use crate::metric::{MetricEnum, MetricType, MetricValue};
 use std::fmt;
 
 /// How far attacks or code to exploit are known (v4.0 specification, section 3.1).
@@ -41,11 +41,7 @@ impl MetricValue for ExploitMaturity {
     }
 }
 
-impl Metric for ExploitMaturity {
-    const TYPE: MetricType = MetricType::E;
-
-    ghost TYPE = { metric.E };
-
+impl MetricEnum for ExploitMaturity {
     ghost law = { Prim.search rules };
 }
 

@@ -67,7 +67,8 @@ impl Score {
 pub fn of_tenths(tenths: i64) -> Score
     requires low { neg_ℤ (pos (10 ^ 7)) ≤ℤ tenths }
     requires high { tenths ≤ℤ pos (10 ^ 7) }
-    ensures { result ≡ tenths *ℤ pos (10 ^ 23) }
+    ensures value { result ≡ tenths *ℤ pos (10 ^ 23) }
+    ensures limit { IsWithinLimit result }
 {
     Score(i128::from(tenths) * TENTH)
 }

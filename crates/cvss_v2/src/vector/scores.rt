@@ -35,6 +35,7 @@ impl Vector {
 
     /// The impact sub-score with the requirements (guide, section 3.2.3), which is exact and at
     /// most 10.
+    #[tactic(auto, using(cvss_base::proofs::ExactLemmas::equal_trans))]
     pub fn adjusted_impact(&self) -> Score
         ensures value { of_count result ≈ adjusted_impact (weights_of self.now) }
         ensures limit { IsWithinLimit result }

@@ -5,7 +5,7 @@ ghost use Rattle.std.proofs.Common.{rules};
 ghost use Rattle.cvss_base.specs.declared.v2.MetricType.TheVariants.{AV, AC, Au};
 ghost use Rattle.cvss_v2_metric.specs.Table.{metric_component};
 
-use crate::metric::{Metric, MetricType, MetricValue};
+use crate::metric::{MetricEnum, MetricType, MetricValue};
 use std::fmt;
 
 /// How near to the component the attacker has to be (guide, section 2.1.1).
@@ -16,11 +16,7 @@ pub enum AccessVector {
     Network,
 }
 
-impl Metric for AccessVector {
-    const TYPE: MetricType = MetricType::AV;
-
-    ghost TYPE = { AV };
-
+impl MetricEnum for AccessVector {
     ghost law = { Prim.search rules };
 }
 
@@ -62,11 +58,7 @@ pub enum AccessComplexity {
     Low,
 }
 
-impl Metric for AccessComplexity {
-    const TYPE: MetricType = MetricType::AC;
-
-    ghost TYPE = { AC };
-
+impl MetricEnum for AccessComplexity {
     ghost law = { Prim.search rules };
 }
 
@@ -108,11 +100,7 @@ pub enum Authentication {
     None,
 }
 
-impl Metric for Authentication {
-    const TYPE: MetricType = MetricType::Au;
-
-    ghost TYPE = { Au };
-
+impl MetricEnum for Authentication {
     ghost law = { Prim.search rules };
 }
 

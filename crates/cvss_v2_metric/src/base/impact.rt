@@ -5,7 +5,7 @@ ghost use Rattle.std.proofs.Common.{rules};
 ghost use Rattle.cvss_base.specs.declared.v2.MetricType.TheVariants.{C, I, A};
 ghost use Rattle.cvss_v2_metric.specs.Table.{metric_component};
 
-use crate::metric::{Metric, MetricType, MetricValue};
+use crate::metric::{MetricEnum, MetricType, MetricValue};
 use std::fmt;
 
 /// What an attack discloses (guide, section 2.1.4).
@@ -16,11 +16,7 @@ pub enum ConfidentialityImpact {
     Complete,
 }
 
-impl Metric for ConfidentialityImpact {
-    const TYPE: MetricType = MetricType::C;
-
-    ghost TYPE = { C };
-
+impl MetricEnum for ConfidentialityImpact {
     ghost law = { Prim.search rules };
 }
 
@@ -62,11 +58,7 @@ pub enum IntegrityImpact {
     Complete,
 }
 
-impl Metric for IntegrityImpact {
-    const TYPE: MetricType = MetricType::I;
-
-    ghost TYPE = { I };
-
+impl MetricEnum for IntegrityImpact {
     ghost law = { Prim.search rules };
 }
 
@@ -108,11 +100,7 @@ pub enum AvailabilityImpact {
     Complete,
 }
 
-impl Metric for AvailabilityImpact {
-    const TYPE: MetricType = MetricType::A;
-
-    ghost TYPE = { A };
-
+impl MetricEnum for AvailabilityImpact {
     ghost law = { Prim.search rules };
 }
 

@@ -5,7 +5,7 @@ ghost use Rattle.std.proofs.Common.{rules};
 ghost use Rattle.cvss_base.specs.declared.v2.MetricType.TheVariants.{CDP, TD};
 ghost use Rattle.cvss_v2_metric.specs.Table.{metric_component};
 
-use crate::metric::{Metric, MetricType, MetricValue};
+use crate::metric::{MetricEnum, MetricType, MetricValue};
 use std::fmt;
 
 /// What loss beside the system may come of it (guide, section 2.3.1).
@@ -19,11 +19,7 @@ pub enum CollateralDamagePotential {
     NotDefined,
 }
 
-impl Metric for CollateralDamagePotential {
-    const TYPE: MetricType = MetricType::CDP;
-
-    ghost TYPE = { CDP };
-
+impl MetricEnum for CollateralDamagePotential {
     ghost law = { Prim.search rules };
 }
 
@@ -71,11 +67,7 @@ pub enum TargetDistribution {
     NotDefined,
 }
 
-impl Metric for TargetDistribution {
-    const TYPE: MetricType = MetricType::TD;
-
-    ghost TYPE = { TD };
-
+impl MetricEnum for TargetDistribution {
     ghost law = { Prim.search rules };
 }
 

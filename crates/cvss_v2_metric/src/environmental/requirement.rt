@@ -5,7 +5,7 @@ ghost use Rattle.std.proofs.Common.{rules};
 ghost use Rattle.cvss_base.specs.declared.v2.MetricType.TheVariants.{CR, IR, AR};
 ghost use Rattle.cvss_v2_metric.specs.Table.{metric_component};
 
-use crate::metric::{Metric, MetricType, MetricValue};
+use crate::metric::{MetricEnum, MetricType, MetricValue};
 use std::fmt;
 
 /// How much confidentiality matters to the user (guide, section 2.3.3).
@@ -17,11 +17,7 @@ pub enum ConfidentialityRequirement {
     NotDefined,
 }
 
-impl Metric for ConfidentialityRequirement {
-    const TYPE: MetricType = MetricType::CR;
-
-    ghost TYPE = { CR };
-
+impl MetricEnum for ConfidentialityRequirement {
     ghost law = { Prim.search rules };
 }
 
@@ -65,11 +61,7 @@ pub enum IntegrityRequirement {
     NotDefined,
 }
 
-impl Metric for IntegrityRequirement {
-    const TYPE: MetricType = MetricType::IR;
-
-    ghost TYPE = { IR };
-
+impl MetricEnum for IntegrityRequirement {
     ghost law = { Prim.search rules };
 }
 
@@ -113,11 +105,7 @@ pub enum AvailabilityRequirement {
     NotDefined,
 }
 
-impl Metric for AvailabilityRequirement {
-    const TYPE: MetricType = MetricType::AR;
-
-    ghost TYPE = { AR };
-
+impl MetricEnum for AvailabilityRequirement {
     ghost law = { Prim.search rules };
 }
 

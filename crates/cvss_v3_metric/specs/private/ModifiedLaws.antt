@@ -1,5 +1,5 @@
 -- What holds of a modified metric, by the laws of its base metric alone.
-use Rattle.std.specs.Prelude.{◌≡◌, ℕ, ◌+◌, Bool, true, false, [], ◌∷◌, bytes_eq, get_or, is_some, IsSome, IsTrue, Option, Some, unwrap_or}
+use Rattle.std.specs.Prelude.{◌≡◌, ℕ, ◌+◌, Bool, true, false, [], ◌∷◌, bytes_eq, get_or, is_some, IsSome, IsTrue, Option, Some}
 use Rattle.std.specs.List.{list_any}
 use Rattle.std.specs.Option.{option_map_or}
 use Rattle.std.specs.Ordering.{nat_cmp}
@@ -9,19 +9,15 @@ use Rattle.std.proofs.Common.{◌∙◌, ap, sym, arith, refl, rules}
 use Rattle.std.proofs.lemmas.Grind.{common_steps}
 use Rattle.cvss_base.specs.Equality.{EqualsByValue}
 use Rattle.cvss_base.specs.declared.v3.MetricType.{MetricType}
-use Rattle.cvss_base.specs.declared.v3.MetricType.TheVariants.{A as availability, S, MAV}
+use Rattle.cvss_base.specs.declared.v3.MetricType.TheVariants.{A as availability, S}
 use Rattle.cvss_v3_metric.specs.declared.environmental.modified.Modified.{Modified}
 use Rattle.cvss_v3_metric.specs.declared.environmental.modified.Modified.TheVariants.{NotDefined, Modified as Set}
 use Rattle.cvss_v3_metric.specs.declared.environmental.modified.ModifiedScope.TheVariants as scope
 use Rattle.cvss_v3_metric.specs.Metrics.{IsBaseMetric}
 use Rattle.cvss_v3_metric.specs.Modified.{modified_rank, modified_spelling}
-use Rattle.cvss_v3_metric.specs.Table.{Value, AnyValue, rows_of, spelling_of, weight_of, rank_of, modified_of, replacing, replacing_value, modified_value, reported_kind}
+use Rattle.cvss_v3_metric.specs.Table.{Value, AnyValue, rows_of, spelling_of, weight_of, rank_of, modified_of, replacing, replacing_value, modified_value}
 
 -- what holds of each metric that can be modified, checked metric by metric
-base_reported : (kind : MetricType) → IsSome (modified_of kind) → reported_kind (replacing kind) ≡ kind
-base_reported availability = search rules
-base_reported _ = search rules
-
 value_spelled : (kind : MetricType) → IsSome (modified_of kind) → (x : Modified (Value kind)) → spelling_of (replacing kind) (replacing_value kind x) ≡ modified_spelling (spelling_of kind) x
 value_spelled availability = search rules
 value_spelled _ = search rules
@@ -59,13 +55,6 @@ set_letter _ = search rules
 module _ {A : Type 0} {kind modified_kind : MetricType} {value : A → Value kind} {own : Modified A → Option AnyValue} (base : IsBaseMetric kind modified_kind value own) where
   some : IsSome (modified_of kind)
   some = ap is_some base.replaced
-
-  -- the modified metric is the one that replaces the base metric, under which its refused values are reported
-  pub replaces : modified_kind ≡ replacing kind
-  replaces = sym (ap (λ found. unwrap_or found MAV) base.replaced)
-
-  pub reported : kind ≡ reported_kind (replacing kind)
-  reported = sym (base_reported kind some)
 
   -- a modified value is spelled X, or as the one that is set
   pub spelled : (x : Modified A) → spelling_of (replacing kind) (modified_value kind value own x) ≡ modified_spelling (λ y. spelling_of kind (value y)) x

@@ -8,7 +8,7 @@ ghost use Rattle.cvss_base.specs.declared.v3.MetricType.TheVariants.{PR, UI, MPR
 ghost use Rattle.cvss_v3_metric.specs.Table.{scoped_weight, metric_component};
 
 use crate::environmental::BaseMetric;
-use crate::metric::{HUNDREDTH, Metric, MetricType, MetricValue};
+use crate::metric::{HUNDREDTH, MetricEnum, MetricType, MetricValue};
 use std::fmt;
 
 /// The privileges that the attacker has to have before the attack (v3.1 specification, section
@@ -46,15 +46,7 @@ impl MetricValue for PrivilegesRequired {
     }
 }
 
-impl Metric for PrivilegesRequired {
-    const TYPE: MetricType = MetricType::PR;
-
-    ghost TYPE = { PR };
-
-    const FAULT_TYPE: MetricType = MetricType::PR;
-
-    ghost FAULT_TYPE = { PR };
-
+impl MetricEnum for PrivilegesRequired {
     ghost law = { Prim.search rules };
 }
 
@@ -131,15 +123,7 @@ impl MetricValue for UserInteraction {
     }
 }
 
-impl Metric for UserInteraction {
-    const TYPE: MetricType = MetricType::UI;
-
-    ghost TYPE = { UI };
-
-    const FAULT_TYPE: MetricType = MetricType::UI;
-
-    ghost FAULT_TYPE = { UI };
-
+impl MetricEnum for UserInteraction {
     ghost law = { Prim.search rules };
 }
 

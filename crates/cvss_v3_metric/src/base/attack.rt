@@ -6,7 +6,7 @@ ghost use Rattle.cvss_base.specs.declared.v3.MetricType.TheVariants.{AV, AC, MAV
 ghost use Rattle.cvss_v3_metric.specs.Table.{metric_component, default_complexity};
 
 use crate::environmental::BaseMetric;
-use crate::metric::{Metric, MetricType, MetricValue};
+use crate::metric::{MetricEnum, MetricType, MetricValue};
 use std::fmt;
 
 /// How near to the vulnerable component the attacker has to be (v3.1 specification, section 2.1.1).
@@ -46,15 +46,7 @@ impl MetricValue for AttackVector {
     }
 }
 
-impl Metric for AttackVector {
-    const TYPE: MetricType = MetricType::AV;
-
-    ghost TYPE = { AV };
-
-    const FAULT_TYPE: MetricType = MetricType::AV;
-
-    ghost FAULT_TYPE = { AV };
-
+impl MetricEnum for AttackVector {
     ghost law = { Prim.search rules };
 }
 
@@ -118,15 +110,7 @@ impl MetricValue for AttackComplexity {
     }
 }
 
-impl Metric for AttackComplexity {
-    const TYPE: MetricType = MetricType::AC;
-
-    ghost TYPE = { AC };
-
-    const FAULT_TYPE: MetricType = MetricType::AC;
-
-    ghost FAULT_TYPE = { AC };
-
+impl MetricEnum for AttackComplexity {
     ghost law = { Prim.search rules };
 }
 

@@ -6,7 +6,7 @@ ghost use Rattle.cvss_base.specs.declared.v3.MetricType.TheVariants.{C, I, A, MC
 ghost use Rattle.cvss_v3_metric.specs.Table.{metric_component};
 
 use crate::environmental::BaseMetric;
-use crate::metric::{Metric, MetricType, MetricValue};
+use crate::metric::{MetricEnum, MetricType, MetricValue};
 use std::fmt;
 
 /// What becomes known to those who may not know it (v3.1 specification, section 2.3.1).
@@ -43,15 +43,7 @@ impl MetricValue for Confidentiality {
     }
 }
 
-impl Metric for Confidentiality {
-    const TYPE: MetricType = MetricType::C;
-
-    ghost TYPE = { C };
-
-    const FAULT_TYPE: MetricType = MetricType::C;
-
-    ghost FAULT_TYPE = { C };
-
+impl MetricEnum for Confidentiality {
     ghost law = { Prim.search rules };
 }
 
@@ -109,15 +101,7 @@ impl MetricValue for Integrity {
     }
 }
 
-impl Metric for Integrity {
-    const TYPE: MetricType = MetricType::I;
-
-    ghost TYPE = { I };
-
-    const FAULT_TYPE: MetricType = MetricType::I;
-
-    ghost FAULT_TYPE = { I };
-
+impl MetricEnum for Integrity {
     ghost law = { Prim.search rules };
 }
 
@@ -175,15 +159,7 @@ impl MetricValue for Availability {
     }
 }
 
-impl Metric for Availability {
-    const TYPE: MetricType = MetricType::A;
-
-    ghost TYPE = { A };
-
-    const FAULT_TYPE: MetricType = MetricType::A;
-
-    ghost FAULT_TYPE = { A };
-
+impl MetricEnum for Availability {
     ghost law = { Prim.search rules };
 }
 

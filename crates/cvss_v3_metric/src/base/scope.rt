@@ -5,7 +5,7 @@ ghost use Rattle.std.proofs.Common.{rules};
 ghost use Rattle.cvss_base.specs.declared.v3.MetricType.TheVariants.{S};
 ghost use Rattle.cvss_v3_metric.specs.Table.{metric_component};
 
-use crate::metric::{Metric, MetricType, MetricValue};
+use crate::metric::{MetricEnum, MetricType, MetricValue};
 use std::fmt;
 
 /// Whether the impact goes beyond the vulnerable component's security authority (v3.1 specification,
@@ -40,15 +40,7 @@ impl MetricValue for Scope {
     }
 }
 
-impl Metric for Scope {
-    const TYPE: MetricType = MetricType::S;
-
-    ghost TYPE = { S };
-
-    const FAULT_TYPE: MetricType = MetricType::S;
-
-    ghost FAULT_TYPE = { S };
-
+impl MetricEnum for Scope {
     ghost law = { Prim.search rules };
 }
 

@@ -11,7 +11,7 @@ ghost use Rattle.cvss_v3_metric.specs.Modified.{replaced, weight_or};
 
 use super::texts::modified_with_slash;
 use crate::base::{PrivilegesRequired, Scope};
-use crate::metric::{Metric, MetricType, MetricValue};
+use crate::metric::{Metric, MetricEnum, MetricType, MetricValue};
 use std::fmt;
 
 /// A value that replaces that of the base metric, if one is set. It has no weight of its own.
@@ -61,20 +61,10 @@ impl<T: BaseMetric> MetricValue for Modified<T> {
     }
 }
 
-impl<T: BaseMetric> Metric for Modified<T> {
-    ghost use Rattle.cvss_v3_metric.specs.private.ModifiedLaws.{covered, ranked, replaces, reported, modified_order, modified_equality};
-
-    const TYPE: MetricType = T::MODIFIED_TYPE;
-
-    ghost TYPE = { T.MODIFIED_TYPE };
-
-    const FAULT_TYPE: MetricType = T::TYPE;
-
-    ghost FAULT_TYPE = { T.TYPE };
+impl<T: BaseMetric> MetricEnum for Modified<T> {
+    ghost use Rattle.cvss_v3_metric.specs.private.ModifiedLaws.{covered, ranked, modified_order, modified_equality};
 
     ghost law = { record {
-      typed = replaces T.base_law;
-      reported = T.law.typed ∙ reported T.base_law;
       covers = covered T.base_law T.law.covers;
       ordered = modified_order _ _ _ T.law.ordered (ranked T.base_law)
           refl (λ y. refl) (λ x. refl) (λ x y. refl);
@@ -167,15 +157,7 @@ impl MetricValue for ModifiedScope {
     }
 }
 
-impl Metric for ModifiedScope {
-    const TYPE: MetricType = MetricType::MS;
-
-    ghost TYPE = { MS };
-
-    const FAULT_TYPE: MetricType = MetricType::S;
-
-    ghost FAULT_TYPE = { S };
-
+impl MetricEnum for ModifiedScope {
     ghost law = { Prim.search rules };
 }
 

@@ -5,7 +5,7 @@ ghost use Rattle.std.proofs.Common.{rules};
 ghost use Rattle.cvss_base.specs.declared.v3.MetricType.TheVariants.{CR, IR, AR};
 ghost use Rattle.cvss_v3_metric.specs.Table.{metric_component};
 
-use crate::metric::{Metric, MetricType, MetricValue};
+use crate::metric::{MetricEnum, MetricType, MetricValue};
 use std::fmt;
 
 /// How much confidentiality matters to the user of the component (v3.1 specification, section 4.1).
@@ -45,15 +45,7 @@ impl MetricValue for ConfidentialityRequirement {
     }
 }
 
-impl Metric for ConfidentialityRequirement {
-    const TYPE: MetricType = MetricType::CR;
-
-    ghost TYPE = { CR };
-
-    const FAULT_TYPE: MetricType = MetricType::CR;
-
-    ghost FAULT_TYPE = { CR };
-
+impl MetricEnum for ConfidentialityRequirement {
     ghost law = { Prim.search rules };
 }
 
@@ -104,15 +96,7 @@ impl MetricValue for IntegrityRequirement {
     }
 }
 
-impl Metric for IntegrityRequirement {
-    const TYPE: MetricType = MetricType::IR;
-
-    ghost TYPE = { IR };
-
-    const FAULT_TYPE: MetricType = MetricType::IR;
-
-    ghost FAULT_TYPE = { IR };
-
+impl MetricEnum for IntegrityRequirement {
     ghost law = { Prim.search rules };
 }
 
@@ -163,15 +147,7 @@ impl MetricValue for AvailabilityRequirement {
     }
 }
 
-impl Metric for AvailabilityRequirement {
-    const TYPE: MetricType = MetricType::AR;
-
-    ghost TYPE = { AR };
-
-    const FAULT_TYPE: MetricType = MetricType::AR;
-
-    ghost FAULT_TYPE = { AR };
-
+impl MetricEnum for AvailabilityRequirement {
     ghost law = { Prim.search rules };
 }
 

@@ -7,7 +7,7 @@ ghost use Rattle.cvss_base.specs.declared.v4.MetricType.TheVariants as metric;
 ghost use Rattle.cvss_v4_metric.specs.Ranks as place;
 ghost use Rattle.cvss_v4_metric.specs.Table.{metric_component};
 
-use crate::metric::{Metric, MetricType, MetricValue};
+use crate::metric::{MetricEnum, MetricType, MetricValue};
 use std::fmt;
 
 /// How near to the vulnerable system the attacker has to be (v4.0 specification, section 2.1.1).
@@ -41,11 +41,7 @@ impl MetricValue for AttackVector {
     }
 }
 
-impl Metric for AttackVector {
-    const TYPE: MetricType = MetricType::AV;
-
-    ghost TYPE = { metric.AV };
-
+impl MetricEnum for AttackVector {
     ghost law = { Prim.search rules };
 }
 
@@ -87,11 +83,7 @@ impl MetricValue for AttackComplexity {
     }
 }
 
-impl Metric for AttackComplexity {
-    const TYPE: MetricType = MetricType::AC;
-
-    ghost TYPE = { metric.AC };
-
+impl MetricEnum for AttackComplexity {
     ghost law = { Prim.search rules };
 }
 
@@ -133,11 +125,7 @@ impl MetricValue for AttackRequirements {
     }
 }
 
-impl Metric for AttackRequirements {
-    const TYPE: MetricType = MetricType::AT;
-
-    ghost TYPE = { metric.AT };
-
+impl MetricEnum for AttackRequirements {
     ghost law = { Prim.search rules };
 }
 
@@ -180,11 +168,7 @@ impl MetricValue for PrivilegesRequired {
     }
 }
 
-impl Metric for PrivilegesRequired {
-    const TYPE: MetricType = MetricType::PR;
-
-    ghost TYPE = { metric.PR };
-
+impl MetricEnum for PrivilegesRequired {
     ghost law = { Prim.search rules };
 }
 
@@ -227,11 +211,7 @@ impl MetricValue for UserInteraction {
     }
 }
 
-impl Metric for UserInteraction {
-    const TYPE: MetricType = MetricType::UI;
-
-    ghost TYPE = { metric.UI };
-
+impl MetricEnum for UserInteraction {
     ghost law = { Prim.search rules };
 }
 

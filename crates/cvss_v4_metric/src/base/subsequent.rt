@@ -6,7 +6,7 @@ ghost use Rattle.cvss_base.specs.declared.v4.MetricType.TheVariants as metric;
 ghost use Rattle.cvss_v4_metric.specs.Ranks as place;
 ghost use Rattle.cvss_v4_metric.specs.Table.{metric_component};
 
-use crate::metric::{Metric, MetricType, MetricValue};
+use crate::metric::{MetricEnum, MetricType, MetricValue};
 use std::fmt;
 
 /// How much confidentiality systems after the vulnerable one lose (v4.0 specification, section
@@ -39,11 +39,7 @@ impl MetricValue for ConfidentialityImpactToTheSubsequentSystem {
     }
 }
 
-impl Metric for ConfidentialityImpactToTheSubsequentSystem {
-    const TYPE: MetricType = MetricType::SC;
-
-    ghost TYPE = { metric.SC };
-
+impl MetricEnum for ConfidentialityImpactToTheSubsequentSystem {
     ghost law = { Prim.search rules };
 }
 
@@ -86,11 +82,7 @@ impl MetricValue for IntegrityImpactToTheSubsequentSystem {
     }
 }
 
-impl Metric for IntegrityImpactToTheSubsequentSystem {
-    const TYPE: MetricType = MetricType::SI;
-
-    ghost TYPE = { metric.SI };
-
+impl MetricEnum for IntegrityImpactToTheSubsequentSystem {
     ghost law = { Prim.search rules };
 }
 
@@ -134,11 +126,7 @@ impl MetricValue for AvailabilityImpactToTheSubsequentSystem {
     }
 }
 
-impl Metric for AvailabilityImpactToTheSubsequentSystem {
-    const TYPE: MetricType = MetricType::SA;
-
-    ghost TYPE = { metric.SA };
-
+impl MetricEnum for AvailabilityImpactToTheSubsequentSystem {
     ghost law = { Prim.search rules };
 }
 

@@ -6,7 +6,7 @@ ghost use Rattle.cvss_base.specs.declared.v4.MetricType.TheVariants as metric;
 ghost use Rattle.cvss_v4_metric.specs.Ranks as place;
 ghost use Rattle.cvss_v4_metric.specs.Table.{metric_component};
 
-use crate::metric::{Metric, MetricType, MetricValue};
+use crate::metric::{MetricEnum, MetricType, MetricValue};
 use std::fmt;
 
 /// How much confidentiality the vulnerable system loses (v4.0 specification, section 2.2.1).
@@ -38,11 +38,7 @@ impl MetricValue for ConfidentialityImpactToTheVulnerableSystem {
     }
 }
 
-impl Metric for ConfidentialityImpactToTheVulnerableSystem {
-    const TYPE: MetricType = MetricType::VC;
-
-    ghost TYPE = { metric.VC };
-
+impl MetricEnum for ConfidentialityImpactToTheVulnerableSystem {
     ghost law = { Prim.search rules };
 }
 
@@ -85,11 +81,7 @@ impl MetricValue for IntegrityImpactToTheVulnerableSystem {
     }
 }
 
-impl Metric for IntegrityImpactToTheVulnerableSystem {
-    const TYPE: MetricType = MetricType::VI;
-
-    ghost TYPE = { metric.VI };
-
+impl MetricEnum for IntegrityImpactToTheVulnerableSystem {
     ghost law = { Prim.search rules };
 }
 
@@ -132,11 +124,7 @@ impl MetricValue for AvailabilityImpactToTheVulnerableSystem {
     }
 }
 
-impl Metric for AvailabilityImpactToTheVulnerableSystem {
-    const TYPE: MetricType = MetricType::VA;
-
-    ghost TYPE = { metric.VA };
-
+impl MetricEnum for AvailabilityImpactToTheVulnerableSystem {
     ghost law = { Prim.search rules };
 }
 

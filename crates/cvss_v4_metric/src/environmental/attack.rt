@@ -7,7 +7,7 @@ ghost use Rattle.cvss_base.specs.declared.v4.MetricType.TheVariants as metric;
 ghost use Rattle.cvss_v4_metric.specs.Ranks as place;
 ghost use Rattle.cvss_v4_metric.specs.Table.{metric_component};
 
-use crate::metric::{Metric, MetricType, MetricValue};
+use crate::metric::{MetricEnum, MetricType, MetricValue};
 use std::fmt;
 
 /// What Attack Vector is in the user's own environment (v4.0 specification, section 4.2).
@@ -44,11 +44,7 @@ impl MetricValue for ModifiedAttackVector {
     }
 }
 
-impl Metric for ModifiedAttackVector {
-    const TYPE: MetricType = MetricType::MAV;
-
-    ghost TYPE = { metric.MAV };
-
+impl MetricEnum for ModifiedAttackVector {
     ghost law = { Prim.search rules };
 }
 
@@ -91,11 +87,7 @@ impl MetricValue for ModifiedAttackComplexity {
     }
 }
 
-impl Metric for ModifiedAttackComplexity {
-    const TYPE: MetricType = MetricType::MAC;
-
-    ghost TYPE = { metric.MAC };
-
+impl MetricEnum for ModifiedAttackComplexity {
     ghost law = { Prim.search rules };
 }
 
@@ -138,11 +130,7 @@ impl MetricValue for ModifiedAttackRequirements {
     }
 }
 
-impl Metric for ModifiedAttackRequirements {
-    const TYPE: MetricType = MetricType::MAT;
-
-    ghost TYPE = { metric.MAT };
-
+impl MetricEnum for ModifiedAttackRequirements {
     ghost law = { Prim.search rules };
 }
 
@@ -187,11 +175,7 @@ impl MetricValue for ModifiedPrivilegesRequired {
     }
 }
 
-impl Metric for ModifiedPrivilegesRequired {
-    const TYPE: MetricType = MetricType::MPR;
-
-    ghost TYPE = { metric.MPR };
-
+impl MetricEnum for ModifiedPrivilegesRequired {
     ghost law = { Prim.search rules };
 }
 
@@ -236,11 +220,7 @@ impl MetricValue for ModifiedUserInteraction {
     }
 }
 
-impl Metric for ModifiedUserInteraction {
-    const TYPE: MetricType = MetricType::MUI;
-
-    ghost TYPE = { metric.MUI };
-
+impl MetricEnum for ModifiedUserInteraction {
     ghost law = { Prim.search rules };
 }
 

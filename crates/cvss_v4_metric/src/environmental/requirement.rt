@@ -7,7 +7,7 @@ ghost use Rattle.cvss_base.specs.declared.v4.MetricType.TheVariants as metric;
 ghost use Rattle.cvss_v4_metric.specs.Ranks as place;
 ghost use Rattle.cvss_v4_metric.specs.Table.{metric_component};
 
-use crate::metric::{Metric, MetricType, MetricValue};
+use crate::metric::{MetricEnum, MetricType, MetricValue};
 use std::fmt;
 
 /// How much confidentiality matters to the user's organisation (v4.0 specification, section 4.1).
@@ -41,11 +41,7 @@ impl MetricValue for ConfidentialityRequirements {
     }
 }
 
-impl Metric for ConfidentialityRequirements {
-    const TYPE: MetricType = MetricType::CR;
-
-    ghost TYPE = { metric.CR };
-
+impl MetricEnum for ConfidentialityRequirements {
     ghost law = { Prim.search rules };
 }
 
@@ -90,11 +86,7 @@ impl MetricValue for IntegrityRequirements {
     }
 }
 
-impl Metric for IntegrityRequirements {
-    const TYPE: MetricType = MetricType::IR;
-
-    ghost TYPE = { metric.IR };
-
+impl MetricEnum for IntegrityRequirements {
     ghost law = { Prim.search rules };
 }
 
@@ -139,11 +131,7 @@ impl MetricValue for AvailabilityRequirements {
     }
 }
 
-impl Metric for AvailabilityRequirements {
-    const TYPE: MetricType = MetricType::AR;
-
-    ghost TYPE = { metric.AR };
-
+impl MetricEnum for AvailabilityRequirements {
     ghost law = { Prim.search rules };
 }
 

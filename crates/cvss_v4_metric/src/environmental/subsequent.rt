@@ -7,7 +7,7 @@ ghost use Rattle.cvss_base.specs.declared.v4.MetricType.TheVariants as metric;
 ghost use Rattle.cvss_v4_metric.specs.Ranks as place;
 ghost use Rattle.cvss_v4_metric.specs.Table.{metric_component};
 
-use crate::metric::{Metric, MetricType, MetricValue};
+use crate::metric::{MetricEnum, MetricType, MetricValue};
 use std::fmt;
 
 /// What Confidentiality Impact to the Subsequent System is in the user's own environment (v4.0
@@ -42,11 +42,7 @@ impl MetricValue for ModifiedConfidentialityImpactToTheSubsequentSystem {
     }
 }
 
-impl Metric for ModifiedConfidentialityImpactToTheSubsequentSystem {
-    const TYPE: MetricType = MetricType::MSC;
-
-    ghost TYPE = { metric.MSC };
-
+impl MetricEnum for ModifiedConfidentialityImpactToTheSubsequentSystem {
     ghost law = { Prim.search rules };
 }
 
@@ -95,11 +91,7 @@ impl MetricValue for ModifiedIntegrityImpactToTheSubsequentSystem {
     }
 }
 
-impl Metric for ModifiedIntegrityImpactToTheSubsequentSystem {
-    const TYPE: MetricType = MetricType::MSI;
-
-    ghost TYPE = { metric.MSI };
-
+impl MetricEnum for ModifiedIntegrityImpactToTheSubsequentSystem {
     ghost law = { Prim.search rules };
 }
 
@@ -148,11 +140,7 @@ impl MetricValue for ModifiedAvailabilityImpactToTheSubsequentSystem {
     }
 }
 
-impl Metric for ModifiedAvailabilityImpactToTheSubsequentSystem {
-    const TYPE: MetricType = MetricType::MSA;
-
-    ghost TYPE = { metric.MSA };
-
+impl MetricEnum for ModifiedAvailabilityImpactToTheSubsequentSystem {
     ghost law = { Prim.search rules };
 }
 

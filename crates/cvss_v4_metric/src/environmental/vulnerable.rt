@@ -7,7 +7,7 @@ ghost use Rattle.cvss_base.specs.declared.v4.MetricType.TheVariants as metric;
 ghost use Rattle.cvss_v4_metric.specs.Ranks as place;
 ghost use Rattle.cvss_v4_metric.specs.Table.{metric_component};
 
-use crate::metric::{Metric, MetricType, MetricValue};
+use crate::metric::{MetricEnum, MetricType, MetricValue};
 use std::fmt;
 
 /// What Confidentiality Impact to the Vulnerable System is in the user's own environment (v4.0
@@ -42,11 +42,7 @@ impl MetricValue for ModifiedConfidentialityImpactToTheVulnerableSystem {
     }
 }
 
-impl Metric for ModifiedConfidentialityImpactToTheVulnerableSystem {
-    const TYPE: MetricType = MetricType::MVC;
-
-    ghost TYPE = { metric.MVC };
-
+impl MetricEnum for ModifiedConfidentialityImpactToTheVulnerableSystem {
     ghost law = { Prim.search rules };
 }
 
@@ -92,11 +88,7 @@ impl MetricValue for ModifiedIntegrityImpactToTheVulnerableSystem {
     }
 }
 
-impl Metric for ModifiedIntegrityImpactToTheVulnerableSystem {
-    const TYPE: MetricType = MetricType::MVI;
-
-    ghost TYPE = { metric.MVI };
-
+impl MetricEnum for ModifiedIntegrityImpactToTheVulnerableSystem {
     ghost law = { Prim.search rules };
 }
 
@@ -142,11 +134,7 @@ impl MetricValue for ModifiedAvailabilityImpactToTheVulnerableSystem {
     }
 }
 
-impl Metric for ModifiedAvailabilityImpactToTheVulnerableSystem {
-    const TYPE: MetricType = MetricType::MVA;
-
-    ghost TYPE = { metric.MVA };
-
+impl MetricEnum for ModifiedAvailabilityImpactToTheVulnerableSystem {
     ghost law = { Prim.search rules };
 }
 

@@ -7,7 +7,7 @@ ghost use Rattle.cvss_base.specs.declared.v4.MetricType.TheVariants as metric;
 ghost use Rattle.cvss_v4_metric.specs.Ranks as place;
 ghost use Rattle.cvss_v4_metric.specs.Table.{metric_component};
 
-use crate::metric::{Metric, MetricType, MetricValue};
+use crate::metric::{MetricEnum, MetricType, MetricValue};
 use std::fmt;
 
 /// Whether persons may come to harm (v4.0 specification, section 5.1).
@@ -39,11 +39,7 @@ impl MetricValue for Safety {
     }
 }
 
-impl Metric for Safety {
-    const TYPE: MetricType = MetricType::S;
-
-    ghost TYPE = { metric.S };
-
+impl MetricEnum for Safety {
     ghost law = { Prim.search rules };
 }
 
@@ -89,11 +85,7 @@ impl MetricValue for Recovery {
     }
 }
 
-impl Metric for Recovery {
-    const TYPE: MetricType = MetricType::R;
-
-    ghost TYPE = { metric.R };
-
+impl MetricEnum for Recovery {
     ghost law = { Prim.search rules };
 }
 
@@ -136,11 +128,7 @@ impl MetricValue for Automatable {
     }
 }
 
-impl Metric for Automatable {
-    const TYPE: MetricType = MetricType::AU;
-
-    ghost TYPE = { metric.AU };
-
+impl MetricEnum for Automatable {
     ghost law = { Prim.search rules };
 }
 
@@ -183,11 +171,7 @@ impl MetricValue for ValueDensity {
     }
 }
 
-impl Metric for ValueDensity {
-    const TYPE: MetricType = MetricType::V;
-
-    ghost TYPE = { metric.V };
-
+impl MetricEnum for ValueDensity {
     ghost law = { Prim.search rules };
 }
 

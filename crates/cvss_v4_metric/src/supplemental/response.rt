@@ -6,7 +6,7 @@ ghost use Rattle.cvss_base.specs.declared.v4.MetricType.TheVariants as metric;
 ghost use Rattle.cvss_v4_metric.specs.Ranks as place;
 ghost use Rattle.cvss_v4_metric.specs.Table.{metric_component};
 
-use crate::metric::{Metric, MetricType, MetricValue};
+use crate::metric::{MetricEnum, MetricType, MetricValue};
 use std::fmt;
 
 /// How hard it is to respond to the vulnerability (v4.0 specification, section 5.6).
@@ -40,11 +40,7 @@ impl MetricValue for VulnerabilityResponseEffort {
     }
 }
 
-impl Metric for VulnerabilityResponseEffort {
-    const TYPE: MetricType = MetricType::RE;
-
-    ghost TYPE = { metric.RE };
-
+impl MetricEnum for VulnerabilityResponseEffort {
     ghost law = { Prim.search rules };
 }
 
@@ -93,11 +89,7 @@ impl MetricValue for ProviderUrgency {
     }
 }
 
-impl Metric for ProviderUrgency {
-    const TYPE: MetricType = MetricType::U;
-
-    ghost TYPE = { metric.U };
-
+impl MetricEnum for ProviderUrgency {
     ghost law = { Prim.search rules };
 }
 

@@ -5,6 +5,3 @@ use Rattle.cvss_v2.proofs.vector.Vector.base_number.Goals as goal
 
 pub returns-clause-value : goal.returns-clause-value
 returns-clause-value c = equal_trans (lit< tt) (record { equal = omega (arith, ints) }) (rw c.shared_weights.ensures.value at c.base_number.ensures.value)
-
-pub returns-clause-limit : goal.returns-clause-limit
-returns-clause-limit c = record { from_lowest = omega (arith, ints, c.base_number.ensures.on_scale.low); to_highest = omega (arith, ints, c.base_number.ensures.on_scale.high) }

@@ -14,6 +14,3 @@ returns-clause-value c = λ temporal is_temporal.
     let same = temporal_alone w (adjusted_impact w) (lit< tt) own.result temporal (rw c.shared_weights-weights.ensures.value at own.ensures.value) is_temporal in
     equal_trans (lit< tt) (record { equal = omega (arith, ints) })
     (rw (c.shared_weights-weights.ensures.value, same) at (simp (to_z-of_z w64 own.result (search rules)) at c.environmental_number-number.ensures.value))
-
-pub returns-clause-limit : goal.returns-clause-limit
-returns-clause-limit c = record { from_lowest = omega (arith, ints, c.environmental_number-number.ensures.on_scale.low); to_highest = omega (arith, ints, c.environmental_number-number.ensures.on_scale.high) }

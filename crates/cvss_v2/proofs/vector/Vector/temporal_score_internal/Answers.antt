@@ -13,8 +13,5 @@ returns-clause-value c =
     record {
       number = c.temporal_of.result;
       is_number = rw c.shared_weights-weights.ensures.value at (temporal impact is_base);
-      is_count = simp (to_z-of_z w64 c.temporal_of.result (record { sfits = c.temporal_of.type_inv })) at c.of_tenths.ensures;
+      is_count = simp (to_z-of_z w64 c.temporal_of.result (record { sfits = c.temporal_of.type_inv })) at c.of_tenths.ensures.value;
     }
-
-pub returns-clause-limit : goal.returns-clause-limit
-returns-clause-limit c = record { from_lowest = omega (arith, ints, c.temporal_of.ensures.low); to_highest = omega (arith, ints, c.temporal_of.ensures.high) }

@@ -1,6 +1,0 @@
-use Rattle.std.proofs.Common.{arith}
-use Rattle.std.proofs.lemmas.Int.{ints}
-use Rattle.cvss_v2.proofs.vector.Vector.impact_factor.Goals as goal
-
-pub returns-clause-limit : goal.returns-clause-limit
-returns-clause-limit c = record { from_lowest = omega (arith, ints, c.impact_factor.ensures.bound); to_highest = omega (arith, ints, c.impact_factor.ensures.bound) }
