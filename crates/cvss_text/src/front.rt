@@ -38,10 +38,7 @@ pub fn read_after<'a, V: Prefixed>(text: &'a [u8]) -> Result<V, Fault<'a, V::Kin
 
 /// Reads the pieces that are left of a text into a vector without values, which then has to be complete.
 #[inline(always)]
-fn read_left<'a, V: Prefixed>(
-    left: Pieces<'a>,
-    vector: &mut V,
-) -> Result<(), Fault<'a, V::Kind>>
+fn read_left<'a, V: Prefixed>(left: Pieces<'a>, vector: &mut V) -> Result<(), Fault<'a, V::Kind>>
     requires { HasNoValue V.version vector.old }
     ensures { IsReadLeft V.version (pieces_left left.entry) vector.old result vector.new }
 {
