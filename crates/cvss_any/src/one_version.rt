@@ -65,7 +65,6 @@ pub(crate) trait OneVersion: Printed {
     fn reads_by_its_rules(text: &[u8], components: &[u8], minor_version: usize, empty: Self)
         requires routed { is_routed text.now components.now minor_version }
         requires front { Self.version.front empty ≡ front minor_version }
-        requires valueless { HasNoValue Self.version empty }
         ensures read { (answer : Result (Unit {0}) (Fault Self.Kind)) (v : Self)
             → IsReadLeft Self.version (pieces components.now) empty answer v
             → IsRead text.now (read_as (joined minor_version) reported answer v) }

@@ -1,2 +1,1 @@
 mod GivenBackLemmas
-mod OneRefusalLemmas

@@ -39,7 +39,7 @@ pub some_piece : (text : List ℕ) → pieces text ≢ []
 some_piece text none = omega (arith, ap length none, length-slice_split (λ byte. eqb byte slash) text)
 
 -- a text that begins with a piece and a slash
-pieces_after : (piece rest : List ℕ) → has slash piece ≡ false → pieces (piece ++ (slash ∷ rest)) ≡ piece ∷ pieces rest
+pub pieces_after : (piece rest : List ℕ) → has slash piece ≡ false → pieces (piece ++ (slash ∷ rest)) ≡ piece ∷ pieces rest
 pieces_after piece rest none = slice_split_at (λ each. eqb each slash) piece slash rest
     (λ k d inside. false_from_ne_true _ (λ yes. let found = list_any_at (λ each. eqb each slash) piece k d inside yes in cc)) refl
 

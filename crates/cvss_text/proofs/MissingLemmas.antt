@@ -6,7 +6,7 @@ use Rattle.cvss_base.specs.Refusal.{AreComponentsBefore}
 use Rattle.cvss_text.specs.declared.walk.Fault.{Fault}
 use Rattle.cvss_text.specs.declared.walk.Fault.TheVariants.{MissingMandatoryMetric}
 use Rattle.cvss_text.specs.private.Walk.{first_missing, HasRead, IsMissingFault, IsReadLeft, LacksFirst, VersionLaws}
-use Rattle.cvss_text.proofs.WalkLemmas.{IsFirstMissing-from}
+use Rattle.cvss_text.proofs.WalkLemmas.{AreComponentsOf-all, IsFirstMissing-from}
 use Rattle.cvss_base.proofs.FindLemmas.{found_first, not_found}
 
 is_none_true : {X : Type 0} (o : Option X) → is_none o ≡ true → o ≡ None
@@ -48,14 +48,14 @@ module _ {V K : Type 0} (version : Version V K) (v : V) where
   -- all pieces are read, and then it was asked whether the vector is complete
   pub IsReadLeft-checked : VersionLaws version → (parts : List (List ℕ)) (empty : V) (answer : Result (Unit {0}) (Fault K)) → HasRead version parts (length parts) v → AreComponentsBefore parts (length parts) → version.front v ≡ version.front empty → OnOk answer (first_missing version v ≡ None) → IfErr answer (IsMissingFault version v) → IsReadLeft version parts empty answer v
   IsReadLeft-checked version_laws parts empty (Ok _) all components front complete missing = record {
-    read = all;
+    components = AreComponentsOf-all version version_laws parts v all;
     front = front;
     complete = IsComplete-from complete;
     refused = tt;
     printable = λ utf8. tt;
   }
   IsReadLeft-checked version_laws parts empty (Err (MissingMandatoryMetric kind)) all components front complete missing = record {
-    read = tt;
+    components = tt;
     front = tt;
     complete = tt;
     refused = (components, IsFirstMissing-from version version_laws parts v kind all (LacksFirst-from kind missing));

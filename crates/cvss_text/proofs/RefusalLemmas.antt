@@ -1,8 +1,9 @@
 -- A text has at most one first refusal.
 use Rattle.std.proofs.Common.{◌≡◌, ℕ, ◌<◌, List, Contains, drop, arith, sym, ap, ◌∙◌, subst, slice_get}
 use Rattle.std.proofs.lemmas.Option.{same_Some}
+use Rattle.cvss_base.specs.Text.{pieces}
 use Rattle.cvss_base.specs.Version.{Version, reading}
-use Rattle.cvss_base.specs.Refusal.{Refusal, BadComponent, WrongPrefix, WrongVersion, UnknownName, BadValue, Repeated, Missing, Spells, piece_at, name_at, value_at, FaultAt, IsFirstBadPiece, IsFirstFault, IsFirstMissing, IsFirstReason, IsReasonAfter, BadPiecesFirst}
+use Rattle.cvss_base.specs.Refusal.{Refusal, BadComponent, WrongPrefix, WrongVersion, UnknownName, BadValue, Repeated, Missing, Spells, piece_at, name_at, value_at, FaultAt, IsFirstBadPiece, IsFirstFault, IsFirstMissing, IsFirstReason, IsFirstRefusal, IsReasonAfter, IsFirstRefusalAfter, BadPiecesFirst}
 use Rattle.cvss_text.specs.private.Walk.{VersionLaws}
 use Rattle.cvss_text.proofs.LawLemmas.{names_differ}
 
@@ -61,7 +62,7 @@ module _ {V K : Type 0} (version : Version V K) (version_laws : VersionLaws vers
 
 module _ {V K : Type 0} (version : Version V K) (version_laws : VersionLaws version) (parts : List (List ℕ)) where
   -- two reasons after a version piece are one
-  pub reasons_after_same : (reason other : Refusal K) → IsReasonAfter version parts reason → IsReasonAfter version parts other → reason ≡ other
+  reasons_after_same : (reason other : Refusal K) → IsReasonAfter version parts reason → IsReasonAfter version parts other → reason ≡ other
   reasons_after_same (WrongPrefix prefix) (WrongPrefix other) first second = ap WrongPrefix (first.is ∙ sym second.is)
   reasons_after_same (WrongPrefix prefix) (WrongVersion other) first second = absurd (first.wrong (first.is ∙ second.prefix))
   reasons_after_same (WrongPrefix prefix) _ first (reports, _) = absurd (first.wrong (first.is ∙ reports.prefix))
@@ -74,8 +75,16 @@ module _ {V K : Type 0} (version : Version V K) (version_laws : VersionLaws vers
 
 module _ {K : Type 0} (IsReason : Refusal K → Type 0) (parts : List (List ℕ)) where
   -- two first refusals of the pieces are one, where two later reasons are
-  pub refusals_same : ((one two : Refusal K) → IsReason one → IsReason two → one ≡ two) → (reason other : Refusal K) → BadPiecesFirst IsReason parts reason → BadPiecesFirst IsReason parts other → reason ≡ other
+  refusals_same : ((one two : Refusal K) → IsReason one → IsReason two → one ≡ two) → (reason other : Refusal K) → BadPiecesFirst IsReason parts reason → BadPiecesFirst IsReason parts other → reason ≡ other
   refusals_same same (BadComponent piece) (BadComponent other) first second = ap BadComponent (bad_pieces_same parts piece other first second)
   refusals_same same (BadComponent piece) _ first (components, _) = absurd (first.bad (rw first.is (components.each first.place first.within)))
   refusals_same same _ (BadComponent other) (components, _) second = absurd (second.bad (rw second.is (components.each second.place second.within)))
   refusals_same same reason other (_, first) (_, second) = same reason other first second
+
+-- a text has one first refusal, with a version piece or without
+module _ {V K : Type 0} (version : Version V K) (version_laws : VersionLaws version) (text : List ℕ) where
+  pub one_refusal : (one other : Refusal K) → IsFirstRefusal version text one → IsFirstRefusal version text other → one ≡ other
+  one_refusal = refusals_same (IsFirstReason version (pieces text)) (pieces text) (reasons_same version version_laws (pieces text))
+
+  pub one_refusal_after : (one other : Refusal K) → IsFirstRefusalAfter version text one → IsFirstRefusalAfter version text other → one ≡ other
+  one_refusal_after = refusals_same (IsReasonAfter version (pieces text)) (pieces text) (reasons_after_same version version_laws (pieces text))

@@ -1,22 +1,22 @@
 -- Components that are read one after another to be set, and the vector that has their values.
-use Rattle.std.proofs.Common.{◌≡◌, inl, inr, ℕ, ◌+◌, ◌<◌, ◌≤◌, List, [], ◌∷◌, length, take, Option, Some, None, IsSome, IfSome, Ok, Err, below_more, refl, sym, ap, ◌∙◌, subst, arith, get_or, slice_get}
+use Rattle.std.proofs.Common.{◌≡◌, inl, inr, ℕ, ◌+◌, ◌<◌, ◌≤◌, List, [], ◌∷◌, length, take, Option, Some, None, IsSome, IfSome, Ok, Err, refl, sym, ap, ◌∙◌, subst, arith, slice_get}
 use Rattle.std.specs.List.{cons_option, filter_map}
 use Rattle.std.specs.Option.{option_or}
-use Rattle.std.proofs.lemmas.List.{get_or_default, length-map, length-take-le}
+use Rattle.std.proofs.lemmas.List.{get_or-drop, length-drop, length-map, length-take-le}
 use Rattle.std.proofs.lemmas.List.Sorted.{length_permutation}
 use Rattle.std.proofs.lemmas.Bool.{cases_lt}
 use Rattle.std.proofs.lemmas.Option.{same_Some, slice_get_within}
-use Rattle.cvss_base.specs.Refusal.{Refusal, BadComponent, Missing, FaultAt, piece_at}
+use Rattle.cvss_base.specs.Refusal.{AreComponentsBefore, Refusal, BadComponent, HasNoFaultBefore, Missing, piece_at}
 use Rattle.cvss_base.specs.Text.{IsComponent, pieces}
 use Rattle.cvss_base.specs.Version.{Version, AreComponentsOf, IsComplete, component_of, components_of, read}
-use Rattle.cvss_text.specs.Setting.{IsBuildReason, IsBuilt, IsFirstWrong, IsSet, IsSetReason, IsWrongAt, components_in}
-use Rattle.cvss_text.specs.private.SettingSteps.{HasReadGiven, IsAnswered, IsCopied, IsWrongFor}
-use Rattle.cvss_text.specs.private.Walk.{Adds, HasNoValue, IsFaultOf, VersionLaws, place_of, reason_of}
+use Rattle.cvss_text.specs.Setting.{AreRightBefore, IsBuildReason, IsBuilt, IsFirstWrong, IsSet, IsSetReason, IsWrongAt, components_in}
+use Rattle.cvss_text.specs.private.SettingSteps.{IsAnswered, IsCopied, IsWrongFor}
+use Rattle.cvss_text.specs.private.Walk.{HasNoValue, HasReadTo, IsFaultOf, VersionLaws, place_of, reason_of}
 use Rattle.cvss_text.specs.declared.walk.Fault.{Fault}
 use Rattle.cvss_text.proofs.DenotesLemmas.{no_fault_held, no_reason, values_same, vectors_same}
 use Rattle.cvss_text.proofs.JoinLemmas.{piece_is_component}
 use Rattle.cvss_text.proofs.RefusalLemmas.{faults_same, reasons_same, same_place}
-use Rattle.cvss_text.proofs.WalkLemmas.{HasRead-more, HasRead-none, fault_at}
+use Rattle.cvss_text.proofs.WalkLemmas.{HasRead-none, fault_at}
 
 -- the components of a text that is not empty are its pieces
 pub components_in-some : (text : List ℕ) → 0 < length text → pieces text ≡ components_in text
@@ -26,12 +26,6 @@ components_in-some (byte ∷ bytes) some = refl
 pub components_in-none : (text : List ℕ) → length text ≤ 0 → components_in text ≡ []
 components_in-none [] none = refl
 components_in-none (byte ∷ bytes) none = absurd (omega (arith, none))
-
--- a piece that was yielded after so many others
-pub piece_here : (parts : List (List ℕ)) (index yielded : ℕ) (bytes piece : List ℕ) → index ≡ yielded → bytes ≡ piece → yielded < length parts → piece ≡ get_or parts yielded piece
-    → (index < length parts) × (bytes ≡ piece_at parts index)
-piece_here parts index yielded bytes piece at is within here =
-    (omega (arith, within), is ∙ here ∙ get_or_default parts yielded piece [] within ∙ ap (piece_at parts) (sym at))
 
 cons_option-most : {X : Type 0} (part : Option X) (parts : List X) (n : ℕ) → length parts ≤ n → length (cons_option part parts) ≤ n + 1
 cons_option-most None parts n fits = omega arith
@@ -56,59 +50,53 @@ pub record IsCompletedTo {V K : Type 0} (version : Version V K) (given own : V) 
   pub front : version.front v ≡ version.front given
 
 module _ {V K : Type 0} (version : Version V K) (version_laws : VersionLaws version) where
-  -- nothing is wrong with a component that has no fault
-  right_at : (parts : List (List ℕ)) (index : ℕ) → IsComponent (piece_at parts index) → ((reason : Refusal K) → FaultAt version parts index reason → ⊥) → (reason : Refusal K) → IsWrongAt version parts index reason → ⊥
-  right_at parts index is none (BadComponent piece) wrong = wrong.1 is
-  right_at parts index is none reason wrong = none reason wrong.1
-
   -- a component with a fault is wrong
   pub wrong_for : (v : V) (piece : List ℕ) (reason : Refusal K) → IsComponent piece → IsFaultOf version v piece reason → IsWrongFor version v piece reason
   wrong_for v piece (BadComponent _) is fault = absurd fault
   wrong_for v piece reason is fault = (is, fault)
 
-  pub right_held : (v : V) (parts : List (List ℕ)) (index : ℕ) → AreComponentsOf version parts v → index < length parts → (reason : Refusal K) → IsWrongAt version parts index reason → ⊥
-  right_held v parts index are within =
-      right_at parts index (piece_is_component version version_laws v parts are index within) (no_fault_held version version_laws v parts index are within)
+  -- nothing is wrong with components that have no fault
+  pub right_before : (parts : List (List ℕ)) (index : ℕ) → AreComponentsBefore parts index → HasNoFaultBefore version parts index → AreRightBefore version parts index
+  right_before parts index components faultless = record { none = none } where
+    none : (earlier : ℕ) (reason : Refusal K) → earlier < index → IsWrongAt version parts earlier reason → ⊥
+    none earlier (BadComponent piece) below wrong = wrong.1 (components.each earlier below)
+    none earlier reason below wrong = faultless.none earlier reason below wrong.1
 
-  -- the start and a step of reading them
-  pub HasReadGiven-none : (parts : List (List ℕ)) (v : V) → HasNoValue version v → HasReadGiven version parts 0 v
-  HasReadGiven-none parts v empty = record {
-    read = HasRead-none version version_laws parts v empty;
-    right = record { none = λ earlier reason below. absurd (omega arith) };
-  }
+  right_held : (v : V) (parts : List (List ℕ)) (index : ℕ) → AreComponentsOf version parts v → index < length parts → (reason : Refusal K) → IsWrongAt version parts index reason → ⊥
+  right_held v parts index are within reason =
+      (right_before parts (length parts) (record { each = piece_is_component version version_laws v parts are }) (record { none = λ place fault below. no_fault_held version version_laws v parts place are below fault })).none index reason within
 
-  module _ (parts : List (List ℕ)) (index : ℕ) (within : index < length parts) (piece : List ℕ) (here : piece ≡ piece_at parts index) where
-    pub HasReadGiven-more : (old new : V) → IsComponent piece → Adds version old piece new → HasReadGiven version parts index old → HasReadGiven version parts (index + 1) new
-    HasReadGiven-more old new is adds before =
-        let all = HasRead-more version version_laws parts index within piece here old new is adds before.read in
-        let right = right_at parts index (subst IsComponent here is) (λ reason fault. all.faultless.none index reason (omega arith) fault) in
-        record {
-          read = all;
-          right = record { none = λ earlier reason below. below_more (λ each. (other : Refusal K) → IsWrongAt version parts each other → ⊥) index (λ each inside other. before.right.none each other inside) right earlier below reason };
-        }
+  -- where the vector holds the components before those that are left, what is wrong with the next is the first that is
+  module _ (parts left : List (List ℕ)) (v : V) (to : HasReadTo version parts left v) (index : ℕ) (at : index + length left ≡ length parts) where
+    at_place : to.place ≡ index
+    at_place = omega (arith, at, to.within, ap length to.left_is, length-drop to.place parts)
 
-    wrong_at : (v : V) → HasReadGiven version parts index v → (reason : Refusal K) → IsWrongFor version v (piece_at parts index) reason → IsWrongAt version parts index reason
-    wrong_at v before (BadComponent text) is = is
-    wrong_at v before reason is = (is.0, fault_at version version_laws v parts index (omega arith) before.read.components reason is.1)
+    wrong_at : (reason : Refusal K) → IsWrongFor version v (piece_at parts to.place) reason → IsWrongAt version parts to.place reason
+    wrong_at (BadComponent text) is = is
+    wrong_at reason is = (is.0, fault_at version version_laws v parts to.place to.within to.read.components reason is.1)
 
-    pub IsFirstWrong-at : (v : V) (reason : Refusal K) → IsWrongFor version v piece reason → HasReadGiven version parts index v → IsFirstWrong version parts index reason
-    IsFirstWrong-at v reason is before = record {
-      within = within;
-      is = wrong_at v before reason (subst (λ each. IsWrongFor version v each reason) here is);
-      earlier = before.right;
-    }
+    pub IsFirstWrong-at : (piece : List ℕ) (after : List (List ℕ)) → left ≡ piece ∷ after → (reason : Refusal K) → IsWrongFor version v piece reason → IsFirstWrong version parts index reason
+    IsFirstWrong-at piece after cut reason is =
+        let here : piece ≡ piece_at parts to.place = ap (λ list. piece_at list 0) (sym cut ∙ to.left_is) ∙ get_or-drop to.place parts 0 [] ∙ ap (piece_at parts) (omega arith) in
+        subst (λ place. IsFirstWrong version parts place reason) at_place (record {
+          within = omega (arith, at, at_place, ap length cut);
+          is = wrong_at reason (subst (λ each. IsWrongFor version v each reason) here is);
+          earlier = right_before parts to.place to.components to.read.faultless;
+        })
 
-  -- no more components are read than a vector has metrics
-  pub HasReadGiven-most : (parts : List (List ℕ)) (index : ℕ) (v : V) → index ≤ length parts → HasReadGiven version parts index v → index ≤ length version.printed
-  HasReadGiven-most parts index v within before =
-      omega (
-        arith,
-        length-take-le index parts within,
-        length_permutation _ _ before.read.components.each_once,
-        length-map (take index parts) (read version),
-        length-map (components_of version v) (read version),
-        filter_map-most (component_of version v) version.printed,
-      )
+    -- no more components are read than a vector has metrics
+    pub HasReadTo-most : index ≤ length version.printed
+    HasReadTo-most =
+        omega (
+          arith,
+          at_place,
+          to.within,
+          length-take-le to.place parts to.within,
+          length_permutation _ _ to.read.components.each_once,
+          length-map (take to.place parts) (read version),
+          length-map (components_of version v) (read version),
+          filter_map-most (component_of version v) version.printed,
+        )
 
   -- one thing is wrong with a component
   wrongs_same : (parts : List (List ℕ)) (index : ℕ) (one other : Refusal K) → IsWrongAt version parts index one → IsWrongAt version parts index other → one ≡ other

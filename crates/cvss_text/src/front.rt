@@ -3,10 +3,10 @@
 ghost use Rattle.std.specs.Prelude.{IfSome, IfNone, IfOk, IfErr, Contains, IsUtf8};
 ghost use Rattle.cvss_base.specs.Text.{IsComponent};
 ghost use Rattle.cvss_text.specs.private.Pieces.{pieces_left};
-ghost use Rattle.cvss_text.specs.private.Walk.{Starts, StartsWith, IsStarted, IsAnswerAfter, IsFrontFault, IsPrintable, FrontLaws, filled, reason_of};
+ghost use Rattle.cvss_text.specs.private.Walk.{HasNoValue, IsReadLeft, Starts, StartsWith, IsAnswerAfter, IsFrontFault, IsPrintable, FrontLaws, reason_of};
 
 use crate::pieces::{Pieces, first_bad_piece, front_of, parts_of};
-use crate::walk::{Components, Fault, read_complete};
+use crate::walk::{Components, Fault, check_complete, read_text};
 use cvss_base::PREFIX;
 
 /// A vector of some version, whose text begins with the piece that says the version.
@@ -25,7 +25,7 @@ pub fn read_after<'a, V: Prefixed>(text: &'a [u8]) -> Result<V, Fault<'a, V::Kin
 {
     let (front, left) = front_of(text);
     match start(front) {
-        Ok(mut vector) => match read_left(text, left, &mut vector) {
+        Ok(mut vector) => match read_left(left, &mut vector) {
             Ok(()) => Ok(vector),
             Err(fault) => Err(fault),
         },
@@ -36,18 +36,16 @@ pub fn read_after<'a, V: Prefixed>(text: &'a [u8]) -> Result<V, Fault<'a, V::Kin
     }
 }
 
-/// Reads a text whose version piece is read already, from the pieces after that, into the vector that
-/// it starts, or finds the first reason why it is refused.
+/// Reads the pieces that are left of a text into a vector without values, which then has to be complete.
 #[inline(always)]
-fn read_left<'a, V: Prefixed>(
-    text: &'a [u8],
-    left: Pieces<'a>,
-    vector: &mut V,
-) -> Result<(), Fault<'a, V::Kind>>
-    requires { IsStarted V.version text.now (pieces_left left) vector.old }
-    ensures { IsAnswerAfter V.version text.now (filled result vector.new) }
+fn read_left<'a, V: Prefixed>(left: Pieces<'a>, vector: &mut V) -> Result<(), Fault<'a, V::Kind>>
+    requires { HasNoValue V.version vector.old }
+    ensures { IsReadLeft V.version (pieces_left left.entry) vector.old result vector.new }
 {
-    read_complete(left, vector)
+    match left.text() {
+        Some(text) => read_text(text, vector),
+        None => check_complete(vector),
+    }
 }
 
 /// The vector without values that a version piece starts.

@@ -1,15 +1,15 @@
 //! How metrics are set in a vector, and how a vector is built from metrics alone, once for all
 //! versions. It takes no memory: a fault borrows the part of the text that it names.
 
-ghost use Rattle.std.specs.Prelude.{◌≡◌, ◌≤◌, IfOk, IfErr, OnOk, IfSome, Some, length};
+ghost use Rattle.std.specs.Prelude.{◌≡◌, ◌≤◌, [], IfOk, IfErr, OnOk, IfSome, Some, length};
 ghost use Rattle.cvss_base.specs.Text.{IsComponent, pieces};
 ghost use Rattle.cvss_text.specs.Setting.{IsBuildReason, IsBuilt, IsFirstWrong, IsSet, IsSetReason, components_in};
-ghost use Rattle.cvss_text.specs.private.SettingSteps.{HasReadGiven, IsAnswered, IsCopied, IsWrongFor};
-ghost use Rattle.cvss_text.specs.private.Walk.{Adds, HasNoValue, reason_of};
+ghost use Rattle.cvss_text.specs.private.SettingSteps.{IsAnswered, IsCopied, IsWrongFor};
+ghost use Rattle.cvss_text.specs.private.Walk.{Adds, HasNoValue, HasReadTo, reason_of};
 ghost use Rattle.std.specs.Option.{option_or};
 
 use crate::metrics::spelled;
-use crate::pieces::is_component;
+use crate::pieces::{front_of, is_component, pieces_of};
 use crate::print::Printed;
 use crate::walk::{Components, Fault, read_component};
 
@@ -59,19 +59,21 @@ pub fn build<'a, V: Components>(
 /// the first with which something is wrong, and what.
 fn read_given<'a, V: Components>(text: &'a str, empty: V) -> Result<V, (usize, Fault<'a, V::Kind>)>
     requires { HasNoValue V.version empty }
-    ensures read { IfOk result
-        (HasReadGiven V.version (pieces text.now) (length (pieces text.now))) }
+    ensures read { IfOk result (HasReadTo V.version (pieces text.now) []) }
     ensures front { IfOk result (λ given. V.version.front given ≡ V.version.front empty) }
     ensures refused { IfErr result (λ refused. IsFirstWrong V.version (pieces text.now) refused.0
         (reason_of V.version refused.1)) }
     ensures bound { IfErr result (λ refused. refused.0 ≤ length V.version.printed) }
 {
     let mut given = empty;
+    let mut left = pieces_of(text.as_bytes());
     let mut index = 0;
-    for piece in text.split('/') {
-        if let Err(fault) = read_one(piece.as_bytes(), &mut given) {
+    while let Some(rest) = left.text() {
+        let (piece, after) = front_of(rest);
+        if let Err(fault) = read_one(piece, &mut given) {
             return Err((index, fault));
         }
+        left = after;
         index += 1;
     }
     Ok(given)

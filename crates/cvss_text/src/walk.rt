@@ -6,7 +6,7 @@ ghost use Rattle.cvss_text.specs.private.Pieces.{pieces_left};
 ghost use Rattle.cvss_base.specs.Text.{IsComponent, pieces, slash};
 ghost use Rattle.cvss_base.specs.Version.{Version, read};
 ghost use Rattle.cvss_base.specs.Refusal.{AreComponentsBefore, piece_at};
-ghost use Rattle.cvss_text.specs.private.Walk.{HasNoValue, HasReadTo, IsAnswerBare, IsEmpty, IsFilled, IsInOrderTo, IsPut, IsCut, IsReadFirst, IsReadLeft, IsMissingFault, IsWhole, VersionLaws, Puts, Adds, HasRead, IsFaultOf, IsFirstOfPieces, filled, first_missing, IsPrintable, reason_of};
+ghost use Rattle.cvss_text.specs.private.Walk.{HasNoValue, HasReadTo, IsAnswerBare, IsEmpty, IsFilled, IsInOrderTo, IsPut, IsCut, IsReadFirst, IsReadLeft, IsMissingFault, IsWhole, VersionLaws, Puts, Adds, HasRead, IsFaultOf, IsFirstOfPieces, first_missing, IsPrintable, reason_of};
 
 use crate::cutting::{cut_component, cut_first};
 use crate::pieces::{Pieces, first_bad_piece, pieces_of};
@@ -266,28 +266,13 @@ pub fn read_text<'a, V: Components>(
 
 /// Whether the vector has each metric that every vector has.
 #[inline(always)]
-fn check_complete<'a, V: Components>(vector: &V) -> Result<(), Fault<'a, V::Kind>>
+pub(crate) fn check_complete<'a, V: Components>(vector: &V) -> Result<(), Fault<'a, V::Kind>>
     ensures complete { OnOk result (first_missing V.version vector.now ≡ None) }
     ensures missing { IfErr result (IsMissingFault V.version vector.now) }
 {
     match vector.first_missing() {
         Some(kind) => Err(Fault::MissingMandatoryMetric(kind)),
         None => Ok(()),
-    }
-}
-
-/// Reads the pieces that are left of a text into a vector without values, which then has to be complete.
-#[inline(always)]
-pub(crate) fn read_complete<'a, V: Components>(
-    left: Pieces<'a>,
-    vector: &mut V,
-) -> Result<(), Fault<'a, V::Kind>>
-    requires { HasNoValue V.version vector.old }
-    ensures { IsReadLeft V.version (pieces_left left.entry) vector.old result vector.new }
-{
-    match left.text() {
-        Some(text) => read_text(text, vector),
-        None => check_complete(vector),
     }
 }
 
@@ -298,7 +283,7 @@ pub fn read_vector<'a, V: Components>(text: &'a [u8], empty: V) -> Result<V, Fau
     ensures { IsAnswerBare V.version text.now result }
 {
     let mut vector = empty;
-    match read_complete(pieces_of(text), &mut vector) {
+    match read_text(text, &mut vector) {
         Ok(()) => Ok(vector),
         Err(fault) => Err(fault),
     }

@@ -4,19 +4,13 @@ use Rattle.std.specs.Option.{option_or}
 use Rattle.cvss_base.specs.Refusal.{Refusal, BadComponent}
 use Rattle.cvss_base.specs.Text.{IsComponent}
 use Rattle.cvss_base.specs.Version.{Version}
-use Rattle.cvss_text.specs.Setting.{AreRightBefore}
-use Rattle.cvss_text.specs.private.Walk.{HasRead, IsFaultOf, reason_of}
+use Rattle.cvss_text.specs.private.Walk.{IsFaultOf, reason_of}
 use Rattle.cvss_text.specs.declared.walk.Fault.{Fault}
 
 -- what is wrong with a component, where the vector holds those before it
 abbrev pub IsWrongFor : {V K : Type 0} → Version V K → V → List ℕ → Refusal K → Type 0
 IsWrongFor version v piece (BadComponent text) = (text ≡ piece) × ¬ (IsComponent piece)
 IsWrongFor version v piece reason = IsComponent piece × IsFaultOf version v piece reason
-
--- the vector holds the components before an index, with which nothing is wrong
-pub record HasReadGiven {V K : Type 0} (version : Version V K) (parts : List (List ℕ)) (index : ℕ) (v : V) : Type 0 where
-  pub read : HasRead version parts index v
-  pub right : AreRightBefore version parts index
 
 -- a vector has the value of another for a metric where it had none, and keeps all else
 pub record IsCopied {V K : Type 0} (version : Version V K) (own : V) (kind : K) (old new : V) : Type 0 where

@@ -1,6 +1,6 @@
 -- What the private walk over the components does at each step. What callers rely on is in
 -- Version and Refusal.
-use Rattle.std.specs.Prelude.{◌≡◌, ◌≢◌, ℕ, ◌⊎◌, List, [], ◌∷◌, ◌++◌, length, map, take, drop, Option, Some, None, IsSome, Result, Ok, Err, IfOk, OnOk, IfErr, OnErr, IsErrAnd, Contains, slice_get, find, is_none, ◌<◌, ◌≤◌, ⊤}
+use Rattle.std.specs.Prelude.{◌≡◌, ◌≢◌, ℕ, ◌⊎◌, List, [], ◌∷◌, ◌++◌, length, map, take, drop, Option, Some, None, IsSome, Result, Ok, IfOk, OnOk, IfErr, OnErr, IsErrAnd, Contains, slice_get, find, is_none, ◌<◌, ◌≤◌, ⊤}
 use Rattle.std.specs.List.{All, range_with_len}
 use Rattle.std.specs.Borrow.{Bor}
 use Rattle.std.specs.Str.{IsUtf8}
@@ -100,12 +100,6 @@ pub record Starts {V K : Type 0} (version : Version V K) (reported : List ℕ) (
 pub record StartsWith {V K : Type 0} (version : Version V K) (piece : List ℕ) (v : V) : Type 0 where
   pub is : piece ≡ version_piece (value_part piece)
   pub starts : Starts version (value_part piece) v
-
--- the first piece of the text starts the vector, and these pieces follow it
-pub record IsStarted {V K : Type 0} (version : Version V K) (text : List ℕ) (after : List (List ℕ)) (v : V) : Type 0 where
-  pub piece : List ℕ
-  pub cut : pieces text ≡ piece ∷ after
-  pub starts : StartsWith version piece v
 
 -- the vector's front is a version piece without a delimiter byte
 pub record HasVersionPiece {V K : Type 0} (version : Version V K) (v : V) : Type 0 where
@@ -220,16 +214,11 @@ IsMissingFault version v _ = ⊥
 -- what reading these pieces into a vector without values answers: all of them are read, and it is complete, or the first
 -- reason why they are refused
 pub record IsReadLeft {V K : Type 0} (version : Version V K) (left : List (List ℕ)) (empty : V) (answer : Result (Unit {0}) (Fault K)) (v : V) : Type 0 where
-  pub read : OnOk answer (HasRead version left (length left) v)
+  pub components : OnOk answer (AreComponentsOf version left v)
   pub front : OnOk answer (version.front v ≡ version.front empty)
   pub complete : OnOk answer (IsComplete version v)
   pub refused : IfErr answer (λ fault. IsFirstOfPieces version left (reason_of version fault))
   pub printable : All IsUtf8 left → IfErr answer (IsPrintable version)
-
--- what filling a vector gives: the vector, where nothing is wrong
-abbrev pub filled : {V K : Type 0} → Result (Unit {0}) (Fault K) → V → Result V (Fault K)
-filled (Ok _) v = Ok v
-filled (Err fault) v = Err fault
 
 -- what a reader of the whole text promises, where vectors are formed so and such are the reasons to refuse it
 pub record IsAnswer {V K : Type 0} (version : Version V K) (IsFormed : V → Type 0) (IsReason : Refusal K → Type 0) (text : List ℕ) (answer : Result V (Fault K)) : Type 0 where

@@ -1,36 +1,23 @@
-use Rattle.std.proofs.Common.{◌≡◌, ◌≤◌, ap, arith, ℕ, zero, suc, Bool, true, false, List, None, ◌++◌, codes, refl}
+use Rattle.std.proofs.Common.{◌≡◌, ◌≤◌, ap, arith, ℕ, zero, suc, Bool, true, false, List, None, refl}
 use Rattle.std.specs.Option.{option_map}
 use Rattle.cvss_base.specs.Text.{pieces}
 use Rattle.cvss_base.specs.Version.{canonical_text}
-use Rattle.cvss_text.proofs.FrontLemmas.{IsAnswerAfter-read}
 use Rattle.cvss_v3.specs.Complete.{first_missing_base}
 use Rattle.cvss_v3.specs.Vector.{v3}
 use Rattle.cvss_v3.specs.declared.vector.Vector.{Vector}
-use Rattle.cvss_v3.specs.private.VectorLaws.{v3_laws, v3_front_laws}
 use Rattle.cvss_any.specs.Answers.{text_of}
 use Rattle.cvss_any.specs.Complete.{missing_by}
 use Rattle.cvss_any.specs.declared.metric_type.MetricType.TheVariants.{V3}
-use Rattle.cvss_any.specs.declared.reading.ReadFault.TheVariants as reported
-use Rattle.cvss_any.specs.private.Versions.{IsRoutedV3, front_of, wrapped_v3}
-use Rattle.cvss_any.proofs.ReadLemmas.{by_v3, read_any, started_v3}
+use Rattle.cvss_any.specs.private.Versions.{IsRoutedV3, wrapped_v3}
+use Rattle.cvss_any.proofs.ReadLemmas.{cut_v3, read_v3}
 use Rattle.cvss_any.proofs.one_version.V3VectorOneVersion.reads_by_its_rules.Goals as goal
 
 pub returns-clause-read : goal.returns-clause-read
-returns-clause-read c = λ answer v left.
-    let text = c.args._text.now in
-    let minor = c.args._minor_version in
-    let parts = pieces c.args._components.now in
-    let started = started_v3 text parts minor c.args._empty c.requires.routed c.requires.front c.requires.valueless in
-    read_any (by_v3 text parts minor c.requires.routed) reported.V3 (λ fault. refl) (λ fault is. is) answer v
-    (IsAnswerAfter-read v3 v3_laws text v3_front_laws parts c.args._empty started answer v left)
-
-cut : (text : List ℕ) (left : List (List ℕ)) (minor : ℕ) → IsRoutedV3 text left minor → pieces text ≡ front_of (codes "3.") minor ++ left
-cut text left zero is = is.after
-cut text left (suc zero) is = is.after
-cut text left (suc (suc minor)) is = absurd is
+returns-clause-read c =
+    read_v3 c.args._text.now (pieces c.args._components.now) c.args._minor_version c.requires.routed c.args._empty c.requires.front
 
 pub returns-clause-cut : goal.returns-clause-cut
-returns-clause-cut c = cut c.args._text.now (pieces c.args._components.now) c.args._minor_version c.requires.routed
+returns-clause-cut c = cut_v3 c.args._text.now (pieces c.args._components.now) c.args._minor_version c.requires.routed
 
 one_text : (minor : ℕ) (v : Vector) → text_of (wrapped_v3 minor v) ≡ canonical_text v3 v
 one_text zero v = refl
