@@ -7,7 +7,6 @@ use Rattle.cvss_v4.specs.Vector.{v4}
 use Rattle.cvss_v4.specs.private.VectorLaws.{v4_laws, v4_front_laws}
 use Rattle.cvss_v4.specs.declared.vector.Vector.{Vector}
 use Rattle.cvss_any.specs.Complete.{missing_by}
-use Rattle.cvss_any.specs.declared.vector.Cvss.TheVariants.{CvssV40}
 use Rattle.cvss_any.specs.declared.reading.ReadFault.TheVariants as reported
 use Rattle.cvss_any.specs.declared.vector.Cvss.TheVariants.{CvssV40}
 use Rattle.cvss_any.specs.private.Versions.{front_of}
