@@ -4,10 +4,11 @@ ghost use Rattle.std.specs.Prelude.{◌≡◌, ◌≤◌, ◌+◌, ◌++◌, [],
 
 use std::marker::Model;
 
-/// Eight bytes that name the version, and eight for each of 32 metrics.
-const SIZE: usize = 264;
+/// Eight bytes that name the version, eight for each of 22 metrics or, in CVSS v4.0, six for each of
+/// 31 metrics and eight for the last. The compiler clears so many bytes without a call.
+const SIZE: usize = 208;
 
-/// Text of at most 264 bytes.
+/// Text of at most 208 bytes.
 #[derive(Drop)]
 pub struct TextBuffer {
     bytes: [u8; SIZE],
@@ -21,7 +22,7 @@ impl Model for TextBuffer {
 
     ghost view = { λ buffer. take buffer.length buffer.bytes };
 
-    ghost invariant = { λ buffer. buffer.length ≤ 264 };
+    ghost invariant = { λ buffer. buffer.length ≤ 208 };
 }
 
 impl TextBuffer {
@@ -58,7 +59,7 @@ impl TextBuffer {
     /// Appends bytes. Their number is known to the compiler, which makes one or two stores of it.
     #[inline(always)]
     pub fn push<const N: usize>(&mut self, bytes: [u8; N])
-        requires { length self.old + N ≤ 264 }
+        requires { length self.old + N ≤ 208 }
         ensures { self.new ≡ self.old ++ bytes.entry }
     {
         let end = self.length + N;
@@ -71,7 +72,7 @@ impl TextBuffer {
     pub fn push_component(&mut self, with_slash: &'static str)
         requires least { 3 ≤ length with_slash.now }
         requires most { length with_slash.now ≤ 8 }
-        requires room { length self.old ≤ 256 }
+        requires room { length self.old ≤ 200 }
         ensures text { self.new ≡ self.old ++ with_slash.now }
         ensures room { length self.new ≤ length self.old + 8 }
     {

@@ -83,7 +83,7 @@ pub trait MetricValue: Copy + 'static {
             → result ≡ Some metric }
     {
         match text {
-            [letter] => Self::read_letter(letter.to_ascii_uppercase()),
+            [letter] => read_in_any_case(*letter),
             _ => None,
         }
     }
@@ -205,6 +205,19 @@ impl<M: MetricEnum> Metric for M {
     ghost typed = { refl };
 
     ghost reported = { refl };
+}
+
+/// The value that is spelled by this letter in any ASCII case. As each spelling is a letter in upper
+/// case, it suffices to clear the bit by which the cases of a letter differ.
+#[inline(always)]
+#[tactic(auto, using(crate::proofs::LetterLemmas::one_letter))]
+fn read_in_any_case<M: MetricValue>(letter: u8) -> Option<M>
+    ensures spelled { IfSome result
+        (λ metric. spelling_of M.KIND (M.value metric) ≡ uppercased (letter ∷ [])) }
+    ensures read { (metric : M) → spelling_of M.KIND (M.value metric) ≡ uppercased (letter ∷ [])
+        → result ≡ Some metric }
+{
+    M::read_letter(letter & 0xDF)
 }
 
 /// The metric that a refused value is reported under: of a modified metric its base metric.

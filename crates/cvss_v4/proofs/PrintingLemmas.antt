@@ -1,12 +1,13 @@
 -- How long components are.
-use Rattle.std.proofs.Common.{◌≡◌, ℕ, zero, suc, ◌+◌, ◌≤◌, true, List, [], ◌∷◌, length, max, slice_get, unwrap_or, refl, arith, length-append}
+use Rattle.std.proofs.Common.{◌≡◌, ℕ, zero, suc, ◌+◌, ◌≤◌, ◌&&◌, true, List, [], ◌∷◌, length, max, slice_get, unwrap_or, refl, arith, length-append}
 use Rattle.std.proofs.Math.Dec.{leb}
-use Rattle.std.proofs.lemmas.Bool.{leb-true}
+use Rattle.std.proofs.lemmas.Bool.{and_parts, leb-true}
 use Rattle.cvss_base.specs.Text.{colon, slash}
 use Rattle.cvss_base.specs.V4Types.{name_of}
 use Rattle.cvss_base.specs.declared.v4.MetricType.{MetricType}
 use Rattle.cvss_base.specs.declared.v4.MetricType.TheVariants.{AC}
 use Rattle.cvss_v4_metric.specs.Table.{metric_component, spelling_at, spellings_of}
+use Rattle.cvss_v4.specs.private.Shown.{width}
 
 -- the length of the longest text
 abbrev longest : List (List ℕ) → ℕ
@@ -18,7 +19,7 @@ within_longest [] place = omega arith
 within_longest (text ∷ texts) zero = omega arith
 within_longest (text ∷ texts) (suc place) = omega (arith, within_longest texts place)
 
-most : (kind : MetricType) → leb (length (name_of kind) + longest (spellings_of kind)) 6 ≡ true
+most : (kind : MetricType) → leb (2 + length (name_of kind) + longest (spellings_of kind)) (width kind) && leb (width kind) 8 ≡ true
 most AC = refl
 most _ = refl
 
@@ -33,6 +34,9 @@ with_slash-length kind rank = omega (arith, length-append (name_of kind) (colon 
 pub at_least_three : (kind : MetricType) (rank : ℕ) → 3 ≤ length (slash ∷ metric_component kind rank)
 at_least_three kind rank = omega (arith, with_slash-length kind rank, leb-true 1 (length (name_of kind)) (named kind))
 
+pub at_most_width : (kind : MetricType) (rank : ℕ) → length (slash ∷ metric_component kind rank) ≤ width kind
+at_most_width kind rank =
+    omega (arith, with_slash-length kind rank, within_longest (spellings_of kind) rank, leb-true (2 + length (name_of kind) + longest (spellings_of kind)) (width kind) (and_parts _ _ (most kind)).0)
+
 pub at_most_eight : (kind : MetricType) (rank : ℕ) → length (slash ∷ metric_component kind rank) ≤ 8
-at_most_eight kind rank =
-    omega (arith, with_slash-length kind rank, within_longest (spellings_of kind) rank, leb-true (length (name_of kind) + longest (spellings_of kind)) 6 (most kind))
+at_most_eight kind rank = omega (arith, at_most_width kind rank, leb-true (width kind) 8 (and_parts _ _ (most kind)).1)

@@ -63,7 +63,7 @@ impl Vector {
 /// Appends a slash and the component of a value, if there is one.
 #[inline(always)]
 fn write_value<M: MetricValue>(value: Option<M>, buffer: &mut TextBuffer)
-    requires { length buffer.old ≤ 256 }
+    requires { length buffer.old ≤ 200 }
     ensures text { buffer.new ≡ buffer.old ++ value_with_slash M.KIND M.value value }
     ensures room { length buffer.new ≤ length buffer.old + 8 }
 {
@@ -80,7 +80,7 @@ fn write_three<K: MetricValue, L: MetricValue, M: MetricValue>(
     third: &Option<M>,
     buffer: &mut TextBuffer,
 )
-    requires { length buffer.old ≤ 240 }
+    requires { length buffer.old ≤ 184 }
     ensures text { buffer.new ≡ buffer.old ++ (value_with_slash K.KIND K.value first.now
         ++ (value_with_slash L.KIND L.value second.now ++ value_with_slash M.KIND M.value third.now)) }
     ensures room { length buffer.new ≤ length buffer.old + 24 }

@@ -76,7 +76,7 @@ impl Vector {
 /// Appends a slash and the component of a value, if there is one.
 #[inline(always)]
 fn write_value<M: MetricValue>(value: Option<M>, buffer: &mut TextBuffer)
-    requires { length buffer.old ≤ 256 }
+    requires { length buffer.old ≤ 200 }
     ensures text { buffer.new ≡ buffer.old ++ shown M.KIND M.value value }
     ensures room { length buffer.new ≤ length buffer.old + 8 }
 {
@@ -93,7 +93,7 @@ fn write_three<K: MetricValue, L: MetricValue, M: MetricValue>(
     third: &Option<M>,
     buffer: &mut TextBuffer,
 )
-    requires { length buffer.old ≤ 240 }
+    requires { length buffer.old ≤ 184 }
     ensures text { buffer.new ≡ buffer.old ++ (shown K.KIND K.value first.now
         ++ (shown L.KIND L.value second.now ++ shown M.KIND M.value third.now)) }
     ensures room { length buffer.new ≤ length buffer.old + 24 }

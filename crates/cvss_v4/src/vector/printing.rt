@@ -7,7 +7,7 @@ ghost use Rattle.cvss_base.specs.Version.{numeral, canonical_text, component_of,
 ghost use Rattle.cvss_text.specs.private.Printing.{with_slash};
 ghost use Rattle.cvss_v4_metric.specs.Table.{spelling_at};
 ghost use Rattle.cvss_v4.specs.Vector.{v4};
-ghost use Rattle.cvss_v4.specs.private.Shown.{shown};
+ghost use Rattle.cvss_v4.specs.private.Shown.{shown, width};
 
 use crate::vector::Vector;
 use cvss_text::buffer::TextBuffer;
@@ -88,9 +88,10 @@ impl Vector {
 /// Appends a slash and the component of a value, if there is one.
 #[inline(always)]
 fn write_value<M: MetricValue>(value: Option<M>, buffer: &mut TextBuffer)
-    requires { length buffer.old ≤ 256 }
+    requires { length buffer.old ≤ 200 }
     ensures text { buffer.new ≡ buffer.old ++ shown M.KIND M.rank value }
     ensures room { length buffer.new ≤ length buffer.old + 8 }
+    ensures width { length buffer.new ≤ length buffer.old + width M.KIND }
 {
     if let Some(metric) = value {
         buffer.push_component(metric.with_slash());
@@ -105,10 +106,12 @@ fn write_three<K: MetricValue, L: MetricValue, M: MetricValue>(
     third: &Option<M>,
     buffer: &mut TextBuffer,
 )
-    requires { length buffer.old ≤ 240 }
+    requires { length buffer.old ≤ 184 }
     ensures text { buffer.new ≡ buffer.old ++ (shown K.KIND K.rank first.now
         ++ (shown L.KIND L.rank second.now ++ shown M.KIND M.rank third.now)) }
     ensures room { length buffer.new ≤ length buffer.old + 24 }
+    ensures width { length buffer.new
+        ≤ length buffer.old + (width K.KIND + width L.KIND + width M.KIND) }
 {
     write_value(*first, buffer);
     write_value(*second, buffer);
