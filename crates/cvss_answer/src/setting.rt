@@ -11,7 +11,6 @@ use crate::answer::{write_error, write_vector};
 use cvss_any::{Cvss, ReadError, Refusal};
 use cvss_lines::OutputBuffer;
 use std::alloc::AllocError;
-use std::fmt;
 
 /// Answers a line by its vector with metrics set, which are joined by slashes. A vector of CVSS v3
 /// that lacks base metrics then is answered by the first of them.
@@ -27,21 +26,11 @@ pub fn answer_with_metrics(
     ensures { (number : ℕ) → IfOk result (WritesAnswer (IsSetAnswer metrics.now) number line.now
         answers.old.bytes.items answers.new.bytes.items) }
 {
-    match answer_set(line, metrics, answers) {
-        Ok(accepted) => Ok(accepted),
-        Err(_) => Err(AllocError),
-    }
-}
-
-fn answer_set(line: &[u8], metrics: &str, answers: &mut OutputBuffer) -> Result<bool, fmt::Error>
-    ensures { (number : ℕ) → IfOk result (WritesAnswer (IsSetAnswer metrics.now) number line.now
-        answers.old.bytes.items answers.new.bytes.items) }
-{
     match vector_with(line, metrics) {
-        Ok(vector) => {
-            write_vector(&vector, answers)?;
-            Ok(true)
-        }
+        Ok(vector) => match write_vector(&vector, answers) {
+            Ok(()) => Ok(true),
+            Err(_) => Err(AllocError),
+        },
         Err(error) => {
             write_error(error, answers)?;
             Ok(false)

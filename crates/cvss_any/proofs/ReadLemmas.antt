@@ -2,12 +2,12 @@
 use Rattle.std.proofs.Common.{◌≡◌, ◌++◌, List, ℕ, zero, suc, Result, Ok, Err, refl, sym, ap, ◌∙◌, subst, IsUtf8, codes, lit<}
 use Rattle.cvss_base.specs.Refusal.{Refusal}
 use Rattle.cvss_base.specs.Text.{pieces}
-use Rattle.cvss_base.specs.Version.{Version, Denotes, IsComplete, numeral}
+use Rattle.cvss_base.specs.Version.{Version, Denotes, IsComplete}
 use Rattle.cvss_any.specs.Answers.{HasScore}
 use Rattle.cvss_text.specs.Route.{NoVersion, Route, ToV30, ToV31, ToNoVersion, route_of}
 use Rattle.cvss_any.specs.Dispatch.{DenotesCvss, IsFirstRefusalCvss, IsFirstReasonAt, without_version}
 use Rattle.cvss_any.specs.private.Steps.{IsRead, IsPrintableFault, read_as, reason_read}
-use Rattle.cvss_any.specs.private.Versions.{IsRouted, IsRoutedV3, front_of, wrapped_v3}
+use Rattle.cvss_any.specs.private.Versions.{IsRoutedV3, front_of, wrapped_v3}
 use Rattle.cvss_any.specs.declared.reading.ReadFault.{ReadFault}
 use Rattle.cvss_any.specs.declared.reading.ReadFault.TheVariants as reported
 use Rattle.cvss_any.specs.declared.vector.Cvss.{Cvss}

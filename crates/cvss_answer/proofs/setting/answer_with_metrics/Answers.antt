@@ -4,12 +4,12 @@ use Rattle.cvss_any.specs.Reasons.{error_message}
 use Rattle.cvss_lines.specs.Answers.{Accepted, Refused}
 use Rattle.cvss_lines.proofs.TextsLemmas.{one_text}
 use Rattle.cvss_answer.specs.Setting.{IsSetAnswer}
-use Rattle.cvss_answer.proofs.setting.answer_set.Goals as goal
+use Rattle.cvss_answer.proofs.setting.answer_with_metrics.Goals as goal
 
-pub returns-in_ok-write_vector-in-Ok : goal.returns-in_ok-write_vector-in-Ok
+pub returns-in-Ok-write_vector : goal.returns-in-Ok-write_vector
 unfolding IsSetAnswer
-returns-in_ok-write_vector-in-Ok c = λ number.
-    let written = c.in_ok-write_vector-in-Ok.ensures in
+returns-in-Ok-write_vector c = λ number.
+    let written = c.in-Ok-write_vector.ensures in
     record {
       answer = Accepted (vector_answer c.in-Ok.vector written.tenths ∷ []);
       answers = record {
