@@ -1,7 +1,7 @@
 //! How a text is read by the rules of the version that it says. It takes no memory: a fault borrows
 //! the part of the text that it names.
 
-ghost use Rattle.std.specs.Prelude.{◌≡◌, IsUtf8, Err};
+ghost use Rattle.std.specs.Prelude.{◌≡◌, ◌↔◌, IsAscii, IsTrue, IsUtf8, Err};
 ghost use Rattle.cvss_base.specs.Reported.{Reports};
 ghost use Rattle.cvss_text.specs.Route.{ToNoVersion, route_of};
 ghost use Rattle.cvss_text.specs.private.Routing as is_reported;
@@ -112,8 +112,30 @@ pub(crate) fn bytes_error_of(alloc: Global, text: &[u8], fault: ReadFault<'_>) -
 pub(crate) fn read_error_of<'a>(text: &'a [u8], refusal: Refusal<'a>) -> ReadError<'a>
     ensures { IsReadErrorFor text.now (refusal_of refusal.entry) result }
 {
-    match str::from_utf8(text) {
-        Ok(_) => ReadError::Invalid(refusal),
-        Err(_) => ReadError::NotUtf8,
+    if is_utf8(text) {
+        ReadError::Invalid(refusal)
+    } else {
+        ReadError::NotUtf8
     }
+}
+
+/// Whether bytes are UTF-8. Most are ASCII, which is seen sooner.
+// A call of its own keeps the search out of the frame of an accepted line.
+#[inline(never)]
+fn is_utf8(bytes: &[u8]) -> bool
+    ensures { IsTrue result ↔ IsUtf8 bytes.now }
+{
+    is_ascii(bytes) || str::from_utf8(bytes).is_ok()
+}
+
+/// Whether bytes are ASCII, by the greatest of them, which the compiler finds many at once.
+#[inline(always)]
+fn is_ascii(bytes: &[u8]) -> bool
+    ensures { IsTrue result → IsAscii bytes.now }
+{
+    let mut greatest = 0;
+    for byte in bytes {
+        greatest = greatest.max(*byte);
+    }
+    greatest < 128
 }
