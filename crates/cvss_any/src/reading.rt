@@ -120,6 +120,8 @@ pub(crate) fn read_error_of<'a>(text: &'a [u8], refusal: Refusal<'a>) -> ReadErr
 }
 
 /// Whether bytes are UTF-8. Most are ASCII, which is seen sooner.
+// A call of its own keeps the search out of the frame of an accepted line.
+#[inline(never)]
 fn is_utf8(bytes: &[u8]) -> bool
     ensures { IsTrue result ↔ IsUtf8 bytes.now }
 {
