@@ -1,6 +1,6 @@
 mod CompleteLemmas
 mod InOrderLemmas
 mod PrintingLemmas
-mod OverridingLemmas
+pub mod OverridingLemmas
 mod PartsLemmas
 mod TextLemmas
