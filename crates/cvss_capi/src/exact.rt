@@ -1,7 +1,8 @@
 //! Exact numbers for C: those of vectors that may lack mandatory metrics, and numbers that are
 //! rounded.
 
-ghost use Rattle.cvss_ffi.specs.Exact.{AnswersNumbers, AnswersRounded, AnswersTemporal};
+ghost use Rattle.cvss_ffi.specs.Buffer.{Puts};
+ghost use Rattle.cvss_ffi.specs.Exact.{AreNumbersOf, IsRoundedTo, IsTemporalWith};
 
 use cvss_ffi::exact::{put_numbers, put_rounded, put_temporal};
 use cvss_ffi::{CvssNumber, CvssNumbers};
@@ -11,7 +12,7 @@ use cvss_ffi::{CvssNumber, CvssNumbers};
 /// and its exact sub-scores.
 #[unsafe(no_mangle)]
 pub extern "C" fn cvss_numbers(version: i32, metrics: &[u8], numbers: &mut CvssNumbers) -> bool
-    ensures { AnswersNumbers version metrics.now numbers.old numbers.new result }
+    ensures { Puts (AreNumbersOf version metrics.now) numbers.old numbers.new result }
 {
     put_numbers(version, metrics, numbers)
 }
@@ -20,7 +21,7 @@ pub extern "C" fn cvss_numbers(version: i32, metrics: &[u8], numbers: &mut CvssN
 /// tenths of the number, rounded as the version rounds scores.
 #[unsafe(no_mangle)]
 pub extern "C" fn cvss_rounded(version: i32, number: &CvssNumber, tenths: &mut i32) -> bool
-    ensures { AnswersRounded version number.now tenths.old tenths.new result }
+    ensures { Puts (IsRoundedTo version number.now) tenths.old tenths.new result }
 {
     put_rounded(version, number, tenths)
 }
@@ -34,7 +35,7 @@ pub extern "C" fn cvss_temporal_with_impact(
     impact: &CvssNumber,
     tenths: &mut i32,
 ) -> bool
-    ensures { AnswersTemporal metrics.now impact.now tenths.old tenths.new result }
+    ensures { Puts (IsTemporalWith metrics.now impact.now) tenths.old tenths.new result }
 {
     put_temporal(metrics, impact, tenths)
 }

@@ -1,18 +1,10 @@
 -- How lines are answered one after another.
-use Rattle.std.proofs.Common.{◌≡◌, ℕ, ◌+◌, List, [], ◌∷◌, ◌++◌, length, refl, sym, ap, ◌∙◌, append_assoc, arith, length-append}
+use Rattle.std.proofs.Common.{◌≡◌, ℕ, List, [], ◌∷◌, ◌++◌, refl, sym, ap, ◌∙◌, append_assoc}
 use Rattle.std.proofs.lemmas.List.{flat_map_more}
 use Rattle.std.proofs.lemmas.List.Elements.{All-push, All-nil}
 use Rattle.cvss_ffi.specs.Buffer.{HasPut}
-use Rattle.cvss_ffi.specs.Lines.{AreAnswers, AnswersLines, IsLast, IsLineAnswer, ended}
+use Rattle.cvss_ffi.specs.Lines.{AreAnswers, HasAnswered, IsLineAnswer, ended}
 use Rattle.cvss_ffi.proofs.BufferLemmas.{nothing_put}
-
--- some lines are answered, and the rest follows them
-pub record HasAnswered (texts rest old now : List ℕ) (written : ℕ) : Type 0 where
-  pub lines : List ℕ
-  pub texts_are : texts ≡ lines ++ rest
-  pub answers : List ℕ
-  pub answered : AreAnswers lines answers
-  pub put : HasPut old answers now written
 
 -- before the first line
 pub HasAnswered-start : (texts old : List ℕ) → HasAnswered texts texts old old 0
@@ -41,17 +33,4 @@ HasAnswered-line texts rest line after old now next answer written end done rest
   answers = done.answers ++ ended answer;
   answered = AreAnswers-push done.lines done.answers line answer done.answered one;
   put = put;
-}
-
--- at the end
-pub AnswersLines-end : (texts rest old now : List ℕ) (read written : ℕ) → HasAnswered texts rest old now written → read + length rest ≡ length texts → IsLast rest (length old) written → AnswersLines texts old now read written
-AnswersLines-end texts rest old now read written done whole last = record {
-  lines = done.lines;
-  rest = rest;
-  texts_are = done.texts_are;
-  read_is = omega (arith, whole, ap length done.texts_are, length-append done.lines rest);
-  answers = done.answers;
-  answered = done.answered;
-  put = done.put;
-  last = last;
 }

@@ -1,5 +1,5 @@
--- A buffer of the caller, into which a text is written, or an array, into which items are.
-use Rattle.std.specs.Prelude.{◌≡◌, ℕ, List, ◌++◌, length, drop, nat_le, if◌then◌else◌}
+-- A buffer of the caller, into which a text is written, an array, into which items are, or the place of a value.
+use Rattle.std.specs.Prelude.{◌≡◌, ℕ, Bool, true, false, List, ◌++◌, length, drop, nat_le, if◌then◌else◌, Option, Some, None}
 
 -- the buffer with the text at its beginning, and after it as it was
 abbrev pub begun : {X : Type 0} → List X → List X → List X
@@ -24,3 +24,12 @@ pub record IsLeft {X : Type 0} (old now : List X) (reported : ℕ) : Type 0 wher
 pub record HasPut {X : Type 0} (old text now : List X) (place : ℕ) : Type 0 where
   pub begins : now ≡ begun text old
   pub place_is : place ≡ length text
+
+-- true is reported, and the value written; without one false is, and what was to be written is left as it was
+abbrev pub IsPut : {X : Type 0} → Option X → X → X → Bool → Type 0
+IsPut (Some value) old now reported = (reported ≡ true) × (now ≡ value)
+IsPut None old now reported = (reported ≡ false) × (now ≡ old)
+
+-- a value of which this holds is written, or it holds that there is none
+abbrev pub Puts : {X : Type 0} → (Option X → Type 0) → X → X → Bool → Type 0
+Puts {X} IsIt old now reported = (value : Option X) × IsIt value × IsPut value old now reported

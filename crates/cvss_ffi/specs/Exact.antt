@@ -1,6 +1,6 @@
 -- Exact numbers as C sees them: the scores and sub-scores of vectors that may lack mandatory metrics, and numbers that are
 -- rounded as scores are.
-use Rattle.std.specs.Prelude.{◌≡◌, ◌⊎◌, ◌^◌, ◌+ℤ◌, ◌*ℤ◌, ◌<ℤ◌, ℕ, ℤ, pos, neg_ℤ, Bool, true, false, List, [], ◌∷◌, ◌++◌, codes}
+use Rattle.std.specs.Prelude.{◌≡◌, ◌⊎◌, ◌^◌, ◌+ℤ◌, ◌*ℤ◌, ◌<ℤ◌, ℕ, ℤ, pos, neg_ℤ, List, [], ◌∷◌, ◌++◌, codes, Option, None, MatchOption}
 use Rattle.std.specs.Str.{IsUtf8}
 use Rattle.cvss_base.specs.Exact.{Exact, of_count, ◌≈◌}
 use Rattle.cvss_base.specs.Rounding.{IsRoundedV2}
@@ -31,14 +31,10 @@ pub record IsPartial {V K : Type 0} (version : Version V K) (front : List (List 
 pub record IsNoPartial {V K : Type 0} (version : Version V K) (front : List (List ℕ)) (metrics : List ℕ) : Type 0 where
   pub none : (v : V) → ¬ (IsPartial version front metrics v)
 
--- the one holds of the vector, or there is none and the other holds
-abbrev pub AnswersPartial : {V K : Type 0} → Version V K → List (List ℕ) → List ℕ → (V → Type 0) → Type 0 → Type 0
-AnswersPartial {V} version front metrics IsOf Otherwise =
-    ((v : V) × IsPartial version front metrics v × IsOf v) ⊎ (IsNoPartial version front metrics × Otherwise)
-
--- false is reported, and what was to be written is left as it was
-abbrev pub IsKept : {X : Type 0} → X → X → Bool → Type 0
-IsKept old now reported = (reported ≡ false) × (now ≡ old)
+-- a value of which this holds for the vector; nothing, where there is no vector
+abbrev pub IsOfPartial : {V K X : Type 0} → Version V K → List (List ℕ) → List ℕ → (V → X → Type 0) → Option X → Type 0
+IsOfPartial {V} version front metrics IsOf answer =
+    MatchOption answer (IsNoPartial version front metrics) (λ value. (v : V) × IsPartial version front metrics v × IsOf v value)
 
 -- the count of 10^-24 of a number
 abbrev pub count_in : CvssNumber → ℤ
@@ -85,11 +81,11 @@ abbrev pub IsBeforeV4 : ℤ → Type 0
 IsBeforeV4 version = (version ≡ pos 20) ⊎ ((version ≡ pos 30) ⊎ (version ≡ pos 31))
 
 -- the numbers of the vector of a version, with the components of a text; of v4.0 and other versions there are none
-pub record AnswersNumbers (version : ℤ) (metrics : List ℕ) (old now : CvssNumbers) (reported : Bool) : Type 0 where
-  pub of_v20 : version ≡ pos 20 → AnswersPartial v2 [] metrics (λ v. (reported ≡ true) × AreNumbersV2 v now) (IsKept old now reported)
-  pub of_v30 : version ≡ pos 30 → AnswersPartial v3 (front_v3 0) metrics (λ v. (reported ≡ true) × AreNumbersV3 v now) (IsKept old now reported)
-  pub of_v31 : version ≡ pos 31 → AnswersPartial v3 (front_v3 1) metrics (λ v. (reported ≡ true) × AreNumbersV3 v now) (IsKept old now reported)
-  pub no_version : ¬ (IsBeforeV4 version) → IsKept old now reported
+pub record AreNumbersOf (version : ℤ) (metrics : List ℕ) (numbers : Option CvssNumbers) : Type 0 where
+  pub of_v20 : version ≡ pos 20 → IsOfPartial v2 [] metrics AreNumbersV2 numbers
+  pub of_v30 : version ≡ pos 30 → IsOfPartial v3 (front_v3 0) metrics AreNumbersV3 numbers
+  pub of_v31 : version ≡ pos 31 → IsOfPartial v3 (front_v3 1) metrics AreNumbersV3 numbers
+  pub no_version : ¬ (IsBeforeV4 version) → numbers ≡ None
 
 -- so many tenths are the number, rounded as scores of the version are
 pub record IsRoundedFor (version : ℤ) (number : Exact) (tenths : ℤ) : Type 0 where
@@ -101,15 +97,14 @@ pub record IsRoundedFor (version : ℤ) (number : Exact) (tenths : ℤ) : Type 0
 abbrev pub IsRoundable : ℤ → CvssNumber → Type 0
 IsRoundable version number = IsBeforeV4 version × IsNumber number
 
--- the tenths of the rounded number
-abbrev pub AnswersRounded : ℤ → CvssNumber → ℤ → ℤ → Bool → Type 0
-AnswersRounded version number old now reported =
-    (IsRoundable version number × (reported ≡ true) × IsRoundedFor version (exact_of number) now)
-    ⊎ (¬ (IsRoundable version number) × IsKept old now reported)
+-- the tenths of the rounded number; nothing, where none is reported
+abbrev pub IsRoundedTo : ℤ → CvssNumber → Option ℤ → Type 0
+IsRoundedTo version number answer =
+    MatchOption answer (¬ (IsRoundable version number)) (λ tenths. IsRoundable version number × IsRoundedFor version (exact_of number) tenths)
 
--- the tenths of the temporal score of the vector of CVSS v2 with these components, with another impact
-abbrev pub AnswersTemporal : List ℕ → CvssNumber → ℤ → ℤ → Bool → Type 0
-AnswersTemporal metrics impact old now reported =
-    (IsNumber impact × AnswersPartial v2 [] metrics
-    (λ v. (reported ≡ true) × scores_v2.IsTemporal (weights_v2.weights_of v) (exact_of impact) now) (IsKept old now reported))
-    ⊎ (¬ (IsNumber impact) × IsKept old now reported)
+-- the tenths of the temporal score of the vector of CVSS v2 with these components, with another impact; nothing, where
+-- the impact is no number or there is no such vector
+abbrev pub IsTemporalWith : List ℕ → CvssNumber → Option ℤ → Type 0
+IsTemporalWith metrics impact answer = (IsNumber impact × IsOfPartial v2 [] metrics
+    (λ v tenths. scores_v2.IsTemporal (weights_v2.weights_of v) (exact_of impact) tenths) answer)
+    ⊎ (¬ (IsNumber impact) × (answer ≡ None))

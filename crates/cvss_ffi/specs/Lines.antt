@@ -37,14 +37,17 @@ pub record HasNoRoom (texts : List ℕ) (size written : ℕ) : Type 0 where
 abbrev pub IsLast : List ℕ → ℕ → ℕ → Type 0
 IsLast texts size written = HasNoEnd texts ⊎ HasNoRoom texts size written
 
--- the answers to the first lines are at the beginning of the buffer, and after them the buffer is as it was;
--- all lines are answered that end and whose answers have room
-pub record AnswersLines (texts old now : List ℕ) (read written : ℕ) : Type 0 where
+-- the answers to the lines before this rest are at the beginning of the buffer, and after them the buffer is as it was
+pub record HasAnswered (texts rest old now : List ℕ) (written : ℕ) : Type 0 where
   pub lines : List ℕ
-  pub rest : List ℕ
   pub texts_are : texts ≡ lines ++ rest
-  pub read_is : read ≡ length lines
   pub answers : List ℕ
   pub answered : AreAnswers lines answers
   pub put : HasPut old answers now written
+
+-- so many bytes are read, and all lines answered that end and whose answers have room
+pub record AnswersLines (texts old now : List ℕ) (read written : ℕ) : Type 0 where
+  pub rest : List ℕ
+  pub done : HasAnswered texts rest old now written
+  pub read_is : read + length rest ≡ length texts
   pub last : IsLast rest (length old) written

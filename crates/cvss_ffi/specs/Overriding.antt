@@ -1,10 +1,10 @@
 -- An organisation's own environmental metrics in place of a vector's, as one text: CVSS v4.0 specification,
 -- sections 4 and 7.
-use Rattle.std.specs.Prelude.{◌≡◌, ◌⊎◌, ℕ, List, [], ◌∷◌, ◌++◌, codes}
+use Rattle.std.specs.Prelude.{◌≡◌, ◌⊎◌, ℕ, List, ◌++◌, codes}
 use Rattle.std.specs.Fmt.{decimal}
 use Rattle.std.specs.Str.{IsUtf8}
 use Rattle.cvss_v4.specs.Overriding.{AreOverrides, IsFirstObjection, IsOverridden, Objection, OfOtherGroup, OfText}
-use Rattle.cvss_base.specs.Text.{pieces}
+use Rattle.cvss_text.specs.Setting.{components_in}
 use Rattle.cvss_v4.specs.declared.vector.Vector.{Vector}
 use Rattle.cvss_any.specs.declared.vector.Cvss.{Cvss}
 use Rattle.cvss_any.specs.declared.vector.Cvss.TheVariants.{CvssV40}
@@ -12,18 +12,13 @@ use Rattle.cvss_any.specs.Dispatch.{wrapped}
 use Rattle.cvss_any.specs.Reasons.{not_utf8_text, reason_text}
 use Rattle.cvss_any.specs.declared.metric_type.MetricType.TheVariants.{V4}
 
--- the overrides that a text has: its pieces, and none where it is empty
-abbrev pub overrides_in : List ℕ → List (List ℕ)
-overrides_in [] = []
-overrides_in (byte ∷ bytes) = pieces (byte ∷ bytes)
-
 -- the vector of CVSS v4.0 with the text's overrides in place
 pub record IsWithOverrides (cvss : Cvss) (text : List ℕ) (new : Cvss) : Type 0 where
   pub vector : Vector
   pub is_v4 : cvss ≡ CvssV40 vector
   pub utf8 : IsUtf8 text
   pub overrides : Vector
-  pub are_overrides : AreOverrides (overrides_in text) overrides
+  pub are_overrides : AreOverrides (components_in text) overrides
   pub own : Vector
   pub overridden : IsOverridden vector overrides own
   pub new_is : new ≡ CvssV40 own
@@ -49,7 +44,7 @@ pub record IsObjectionText (text reason : List ℕ) : Type 0 where
   pub utf8 : IsUtf8 text
   pub index : ℕ
   pub objection : Objection
-  pub first : IsFirstObjection (overrides_in text) index objection
+  pub first : IsFirstObjection (components_in text) index objection
   pub is : reason ≡ override_words index ++ objection_text objection
 
 -- why the overrides cannot be put into the vector: it is of another version, or they are refused

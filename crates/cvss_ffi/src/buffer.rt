@@ -1,8 +1,8 @@
-//! Texts in a buffer of the caller, and items in an array, without memory.
+//! Texts in a buffer of the caller, items in an array, and values, without memory.
 
 ghost use Rattle.std.specs.Prelude.{◌≡◌, ◌<◌, ◌+◌, ◌^◌, length};
 ghost use Rattle.cvss_any.specs.Segments.{segment_text, text_of};
-ghost use Rattle.cvss_ffi.specs.Buffer.{IsWritten};
+ghost use Rattle.cvss_ffi.specs.Buffer.{IsPut, IsWritten};
 ghost use Rattle.cvss_ffi.specs.private.Steps.{IsWrittenAt};
 
 use cvss_any::Segment;
@@ -19,6 +19,17 @@ pub(crate) fn write<T: Copy>(items: &[T], buffer: &mut [T]) -> usize
     }
     buffer[..length].copy_from_slice(items);
     length
+}
+
+/// Writes a value over another, if there is one, and says whether there is.
+pub(crate) fn put<T: Drop>(value: Option<T>, place: &mut T) -> bool
+    ensures { IsPut value place.old place.new result }
+{
+    let Some(value) = value else {
+        return false;
+    };
+    *place = value;
+    true
 }
 
 /// Writes segments from a place in a buffer on where all of them fit, and returns the place after them.

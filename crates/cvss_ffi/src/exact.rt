@@ -1,21 +1,23 @@
 //! Scores and sub-scores of vectors that may lack mandatory metrics, and numbers that are rounded, as C
 //! sees them. It takes no memory.
 
-ghost use Rattle.std.specs.Prelude.{◌≡◌, ◌↔◌, ◌*ℤ◌, ◌^◌, ℤ, pos, true, [], IfSome, IfNone, IsTrue};
+ghost use Rattle.std.specs.Prelude.{◌≡◌, ◌↔◌, ◌*ℤ◌, ◌^◌, ℤ, pos, [], IfSome, IfNone, IsTrue};
 ghost use Rattle.cvss_base.specs.Exact.{IsWithinLimit, of_count};
 ghost use Rattle.cvss_base.specs.Tenths.{IsInTenths};
 ghost use Rattle.cvss_text.specs.private.Walk.{HasNoValue};
 ghost use Rattle.cvss_v2.specs.Vector.{v2};
 ghost use Rattle.cvss_v3.specs.Vector.{v3};
-ghost use Rattle.cvss_ffi.specs.Exact.{AnswersNumbers, AnswersPartial, AnswersRounded, AnswersTemporal, AreNumbersV2, AreNumbersV3, IsBeforeV4, IsKept, IsNoPartial, IsNumber, IsPartial, IsRoundedFor, count_in, front_v3};
+ghost use Rattle.cvss_ffi.specs.Buffer.{Puts};
+ghost use Rattle.cvss_ffi.specs.Exact.{AreNumbersOf, AreNumbersV2, AreNumbersV3, IsBeforeV4, IsNoPartial, IsNumber, IsOfPartial, IsPartial, IsRoundedFor, IsRoundedTo, IsTemporalWith, count_in, front_v3};
 
+use crate::buffer::put;
 use crate::empty::{empty_v2, empty_v3};
 use crate::scores::tenths_of as scores_of;
 use crate::{v2, v3};
 use cvss_any::Cvss;
 use cvss_base::TENTH;
-use cvss_text::print::Printed;
-use cvss_text::setting::set;
+use cvss_text::setting::read_given;
+use cvss_text::walk::Components;
 
 /// An exact number: a count of 10^-12 and a count of 10^-24, added.
 #[derive(Drop)]
@@ -55,59 +57,55 @@ const MILLION: i64 = 1_000_000_000_000_000_000;
 /// Whether the version is CVSS v2 or v3 and the components make a vector of it, which may lack any
 /// metric; then its numbers are written.
 pub fn put_numbers(version: i32, metrics: &[u8], numbers: &mut CvssNumbers) -> bool
-    ensures { AnswersNumbers version metrics.now numbers.old numbers.new result }
+    ensures { Puts (AreNumbersOf version metrics.now) numbers.old numbers.new result }
+{
+    put(numbers_of(version, metrics), numbers)
+}
+
+fn numbers_of(version: i32, metrics: &[u8]) -> Option<CvssNumbers>
+    ensures { AreNumbersOf version metrics.now result }
 {
     match version {
-        20 => write_v2(metrics, numbers),
-        30 => write_v3(0, metrics, numbers),
-        31 => write_v3(1, metrics, numbers),
-        _ => false,
+        20 => partial_v2(metrics),
+        30 => partial_v3(0, metrics),
+        31 => partial_v3(1, metrics),
+        _ => None,
     }
 }
 
-fn write_v2(metrics: &[u8], numbers: &mut CvssNumbers) -> bool
-    ensures { AnswersPartial v2 [] metrics.now
-        (λ vector. (result ≡ true) × AreNumbersV2 vector numbers.new)
-        (IsKept numbers.old numbers.new result) }
+fn partial_v2(metrics: &[u8]) -> Option<CvssNumbers>
+    ensures { IsOfPartial v2 [] metrics.now AreNumbersV2 result }
 {
-    let Some(vector) = partial(empty_v2(), metrics) else {
-        return false;
-    };
-    *numbers = numbers_of_v2(&vector);
-    true
+    let vector = partial(empty_v2(), metrics)?;
+    Some(numbers_of_v2(&vector))
 }
 
-fn write_v3(minor_version: usize, metrics: &[u8], numbers: &mut CvssNumbers) -> bool
-    ensures { AnswersPartial v3 (front_v3 minor_version) metrics.now
-        (λ vector. (result ≡ true) × AreNumbersV3 vector numbers.new)
-        (IsKept numbers.old numbers.new result) }
+fn partial_v3(minor_version: usize, metrics: &[u8]) -> Option<CvssNumbers>
+    ensures { IsOfPartial v3 (front_v3 minor_version) metrics.now AreNumbersV3 result }
 {
-    let Some(vector) = partial(empty_v3(minor_version), metrics) else {
-        return false;
-    };
-    *numbers = numbers_of_v3(&vector);
-    true
+    let vector = partial(empty_v3(minor_version), metrics)?;
+    Some(numbers_of_v3(&vector))
 }
 
 /// Whether the version is CVSS v2 or v3 and the number less than a million from 0; then the tenths of the
 /// number are written, rounded as the version rounds scores.
 pub fn put_rounded(version: i32, number: &CvssNumber, tenths: &mut i32) -> bool
-    ensures { AnswersRounded version number.now tenths.old tenths.new result }
+    ensures { Puts (IsRoundedTo version number.now) tenths.old tenths.new result }
 {
-    let Some(count) = count_of(number) else {
-        return false;
-    };
-    match rounded(version, count) {
-        Some(rounded) => {
-            *tenths = tenths_of(rounded);
-            true
-        }
-        None => false,
-    }
+    put(rounded(version, number), tenths)
+}
+
+/// The tenths of a number, rounded as a version rounds scores.
+fn rounded(version: i32, number: &CvssNumber) -> Option<i32>
+    ensures { IsRoundedTo version number.now result }
+{
+    let count = count_of(number)?;
+    let rounded = rounded_count(version, count)?;
+    Some(tenths_of(rounded))
 }
 
 /// A count of 10^-24, rounded as a version rounds scores.
-fn rounded(version: i32, count: i128) -> Option<i128>
+fn rounded_count(version: i32, count: i128) -> Option<i128>
     requires { IsWithinLimit count }
     ensures rounded { IfSome result (IsInTenths (IsRoundedFor version (of_count count))) }
     ensures limit { IfSome result IsWithinLimit }
@@ -125,24 +123,23 @@ fn rounded(version: i32, count: i128) -> Option<i128>
 /// Whether the components make a vector of CVSS v2, which may lack any metric, and the impact is less
 /// than a million from 0; then the tenths of the temporal score with this impact are written.
 pub fn put_temporal(metrics: &[u8], impact: &CvssNumber, tenths: &mut i32) -> bool
-    ensures { AnswersTemporal metrics.now impact.now tenths.old tenths.new result }
+    ensures { Puts (IsTemporalWith metrics.now impact.now) tenths.old tenths.new result }
 {
-    let Some(count) = count_of(impact) else {
-        return false;
-    };
-    match partial(empty_v2(), metrics) {
-        Some(vector) => {
-            let score = vector.temporal_score_internal(v2::Score::new(count));
-            *tenths = tenths_of(score.value());
-            true
-        }
-        None => false,
-    }
+    put(temporal(metrics, impact), tenths)
+}
+
+fn temporal(metrics: &[u8], impact: &CvssNumber) -> Option<i32>
+    ensures { IsTemporalWith metrics.now impact.now result }
+{
+    let count = count_of(impact)?;
+    let vector = partial(empty_v2(), metrics)?;
+    let score = vector.temporal_score_internal(v2::Score::new(count));
+    Some(tenths_of(score.value()))
 }
 
 /// The vector with these components, which a text joins by slashes, each once; none is mandatory. A
 /// vector without metrics is given, whose front the vector has.
-fn partial<V: Printed>(empty: V, metrics: &[u8]) -> Option<V>
+fn partial<V: Components>(empty: V, metrics: &[u8]) -> Option<V>
     requires { HasNoValue V.version empty }
     ensures is { IfSome result (IsPartial V.version (V.version.front empty) metrics.now) }
     ensures none { IfNone result (IsNoPartial V.version (V.version.front empty) metrics.now) }
@@ -150,7 +147,10 @@ fn partial<V: Printed>(empty: V, metrics: &[u8]) -> Option<V>
     let Ok(metrics) = str::from_utf8(metrics) else {
         return None;
     };
-    match set(&empty, empty, metrics) {
+    if metrics.is_empty() {
+        return Some(empty);
+    }
+    match read_given(metrics, empty) {
         Ok(vector) => Some(vector),
         Err(_) => None,
     }

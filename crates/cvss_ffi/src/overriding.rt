@@ -1,25 +1,24 @@
 //! An organisation's own environmental metrics in place of those of a vector of CVSS v4.0.
 
-ghost use Rattle.std.specs.Prelude.{◌≡◌, ◌≤◌, ◌++◌, IfOk, IfErr, IsOk, map, take};
+ghost use Rattle.std.specs.Prelude.{◌≡◌, ◌++◌, IfOk, IfErr, IsOk};
+ghost use Rattle.cvss_text.specs.Setting.{components_in};
 ghost use Rattle.cvss_v4.specs.Overriding.{AreOverrides, IsFirstObjection};
 ghost use Rattle.cvss_v4.specs.private.OverridingSteps.{objection_of};
 ghost use Rattle.cvss_v4.specs.declared.vector.Vector.{Vector};
 ghost use Rattle.cvss_any.specs.declared.vector.Cvss.{Cvss};
 ghost use Rattle.cvss_ffi.specs.Answers.{WritesOrWhy};
-ghost use Rattle.cvss_ffi.specs.Overriding.{IsOverrideReason, IsWithOverrides, objection_text, override_words, overrides_in};
+ghost use Rattle.cvss_ffi.specs.Overriding.{IsOverrideReason, IsWithOverrides, objection_text, override_words};
 ghost use Rattle.cvss_ffi.specs.Setting.{WritesNew, WritesWhyNot};
 ghost use Rattle.cvss_ffi.specs.private.Rejection.{rejection_text};
 
 use crate::canonical::write_canonical;
+use crate::empty::empty_v4;
 use crate::message::write_error;
 use crate::refusal::read;
 use crate::rejection::{Rejection, write_rejection};
 use crate::v4;
 use cvss_any::{Cvss, Refusal};
-use cvss_v4::overrides::{OverrideFault, read_overrides};
-
-/// One override more than a vector has metrics is too many.
-const TOO_MANY: usize = 33;
+use cvss_v4::overrides::{OverrideFault, read_override};
 
 /// Writes the canonical text of a vector with overrides in place.
 pub fn put_overridden(cvss: &Cvss, overrides: &[u8], buffer: &mut [u8]) -> usize
@@ -83,30 +82,22 @@ fn rejection_of(index: usize, fault: OverrideFault<'_>) -> Rejection<'_>
 
 /// The overrides that a text has; or else the index of the first that is refused, and why.
 fn overrides_of(text: &str) -> Result<v4::Vector, (usize, OverrideFault<'_>)>
-    ensures accepted { IfOk result (AreOverrides (overrides_in text.now)) }
-    ensures accepts { (overrides : Vector) → AreOverrides (overrides_in text.now) overrides
+    ensures accepted { IfOk result (AreOverrides (components_in text.now)) }
+    ensures accepts { (overrides : Vector) → AreOverrides (components_in text.now) overrides
         → IsOk result }
-    ensures refused { IfErr result (λ refused. IsFirstObjection (overrides_in text.now) refused.0
+    ensures refused { IfErr result (λ refused. IsFirstObjection (components_in text.now) refused.0
         (objection_of refused.1)) }
 {
-    let (texts, count) = first_texts(text);
-    read_overrides(&texts[..count])
-}
-
-/// The first overrides of a text, no more than `TOO_MANY`, and how many they are; none of an empty text.
-fn first_texts(text: &str) -> ([&str; TOO_MANY], usize)
-    ensures texts { map (λ text. text.now) (take result.1 result.0)
-        ≡ take 33 (overrides_in text.now) }
-    ensures room { result.1 ≤ 33 }
-{
-    let mut texts = [""; TOO_MANY];
-    let mut count = 0;
+    let mut overrides = empty_v4(0);
     if text.is_empty() {
-        return (texts, count);
+        return Ok(overrides);
     }
-    for each in text.split('/').take(TOO_MANY) {
-        texts[count] = each;
-        count += 1;
+    let mut index = 0;
+    for piece in text.split('/') {
+        if let Err(fault) = read_override(piece.as_bytes(), &mut overrides) {
+            return Err((index, fault));
+        }
+        index += 1;
     }
-    (texts, count)
+    Ok(overrides)
 }

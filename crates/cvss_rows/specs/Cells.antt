@@ -4,10 +4,10 @@ use Rattle.std.specs.Str.{is_utf8}
 use Rattle.cvss_rows.specs.declared.format.Format.{Format}
 use Rattle.cvss_rows.specs.declared.format.Format.TheVariants.{Tsv, Json}
 
--- what a cell holds: nothing, words that need no escape, or the text of a number
+-- what a cell holds: nothing, words that need no escape, any text, or the text of a number
 pub data Cell : Type 0 where
   Nothing : Cell
-  Words Number : List ℕ → Cell
+  Words AnyText Number : List ℕ → Cell
 
 -- a hexadecimal digit
 abbrev pub hex_digit : ℕ → ℕ
@@ -45,6 +45,7 @@ nothing Json = codes "null"
 abbrev pub cell_text : Format → Cell → List ℕ
 cell_text format Nothing = nothing format
 cell_text format (Words words) = quoted format words
+cell_text format (AnyText text) = quoted format (escaped format text)
 cell_text format (Number number) = number
 
 -- the given text, or the name of a file, which may be no UTF-8
@@ -67,7 +68,7 @@ opening Tsv [] = []
 opening Tsv (byte ∷ bytes) = escaped Tsv (file_of (byte ∷ bytes)) ++ codes "\t"
 opening Json prefix = object_start prefix ++ codes "\"given\":"
 
--- what is before each other cell, whose column has this name
+-- what is before each cell, whose column has this name
 abbrev pub before_cell : Format → List ℕ → List ℕ
 before_cell Tsv name = codes "\t"
 before_cell Json name = codes ",\"" ++ (name ++ codes "\":")

@@ -18,7 +18,7 @@ use Rattle.cvss_v2.specs.declared.vector.Vector as vector_v2
 use Rattle.cvss_v3.specs.VectorWeights as weights_v3
 use Rattle.cvss_v3.specs.declared.vector.Vector as vector_v3
 use Rattle.cvss_v4.specs.Nomenclature as nomenclature
-use Rattle.cvss_rows.specs.Cells.{Cell, Nothing, Words, Number, before_cell, cell_text, closing, escaped, given_text, nothing, opening, quoted}
+use Rattle.cvss_rows.specs.Cells.{Cell, Nothing, Words, AnyText, Number, before_cell, cell_text, closing, given_text, opening}
 use Rattle.cvss_rows.specs.declared.format.Format.{Format}
 
 -- a score of so many tenths
@@ -39,17 +39,16 @@ Fields = List (List ℕ × Cell)
 abbrev pub field_text : Format → List ℕ × Cell → List ℕ
 field_text format field = before_cell format field.0 ++ cell_text format field.1
 
--- what follows the given text in a row: the fields, and the error
-abbrev pub cells_text : Format → Fields → List ℕ → List ℕ
-cells_text format fields error =
-    flat_map (field_text format) fields ++ (before_cell format (codes "error") ++ (error ++ closing format))
+-- what follows the given text in a row
+abbrev pub cells_text : Format → Fields → List ℕ
+cells_text format fields = flat_map (field_text format) fields ++ closing format
 
--- the fields of a row between the given text and the error
-abbrev pub fields_of : Cell → Cell → Cell → Cell → Cell → Cell → Cell → Cell → Fields
-fields_of vector version base temporal environmental score severity nomenclature =
+-- the fields of a row after the given text
+abbrev pub fields_of : Cell → Cell → Cell → Cell → Cell → Cell → Cell → Cell → Cell → Fields
+fields_of vector version base temporal environmental score severity nomenclature error =
     (codes "vector", vector) ∷ (codes "version", version) ∷ (codes "base", base) ∷ (codes "temporal", temporal)
     ∷ (codes "environmental", environmental) ∷ (codes "score", score) ∷ (codes "severity", severity)
-    ∷ (codes "nomenclature", nomenclature) ∷ []
+    ∷ (codes "nomenclature", nomenclature) ∷ (codes "error", error) ∷ []
 
 -- the cell is that of the score in tenths
 pub record IsScoreCell (IsScore : ℤ → Type 0) (cell : Cell) : Type 0 where
@@ -99,11 +98,11 @@ pub record AreFields (vector : Cvss) (fields : Fields) : Type 0 where
   pub tenths : ℕ
   pub scored : IsScoreOf vector (score_of_tenths tenths)
   pub are : fields ≡ fields_of (Words (text_of vector)) version base temporal environmental (score_cell tenths)
-      (Words (severity_text (rating_by vector (score_of_tenths tenths)))) (nomenclature_cell vector)
+      (Words (severity_text (rating_by vector (score_of_tenths tenths)))) (nomenclature_cell vector) Nothing
 
--- the fields of a line that is rejected
-abbrev pub no_fields : Fields
-no_fields = fields_of Nothing Nothing Nothing Nothing Nothing Nothing Nothing Nothing
+-- the fields of a line that is rejected for this reason
+abbrev pub rejected_fields : List ℕ → Fields
+rejected_fields reason = fields_of Nothing Nothing Nothing Nothing Nothing Nothing Nothing Nothing (AnyText reason)
 
 -- the line is a text that denotes a vector, which lacks no base metric unless it may, and this follows it in its row
 pub record AreVectorCells (format : Format) (allow_incomplete : Bool) (line text : List ℕ) : Type 0 where
@@ -113,13 +112,13 @@ pub record AreVectorCells (format : Format) (allow_incomplete : Bool) (line text
   pub complete : missing_by allow_incomplete vector ≡ None
   pub fields : Fields
   pub are : AreFields vector fields
-  pub is : text ≡ cells_text format fields (nothing format)
+  pub is : text ≡ cells_text format fields
 
 -- the line is rejected for this reason, as it is without rows, and this follows it in its row
 pub record AreErrorCells (format : Format) (allow_incomplete : Bool) (number : ℕ) (line text : List ℕ) : Type 0 where
   pub reason : List ℕ
   pub rejected : score_rule allow_incomplete number line (Refused ((codes "error: " ++ reason) ∷ []))
-  pub is : text ≡ cells_text format no_fields (quoted format (escaped format reason))
+  pub is : text ≡ cells_text format (rejected_fields reason)
 
 -- this follows the line in its row: one text
 unfoldable pub AreCells : Format → Bool → ℕ → List ℕ → Answer → Type 0

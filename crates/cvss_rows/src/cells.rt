@@ -2,11 +2,12 @@
 
 ghost use Rattle.std.specs.Prelude.{◌≡◌, ◌≤◌, map};
 ghost use Rattle.cvss_any.specs.Answers.{HasScore, text_of};
-ghost use Rattle.cvss_rows.specs.Rows.{AreFields, AreScores, AreScoresV2, AreScoresV3, nomenclature_cell, score_cell};
+ghost use Rattle.cvss_any.specs.Reasons.{error_message};
+ghost use Rattle.cvss_rows.specs.Rows.{AreFields, AreScores, AreScoresV2, AreScoresV3, nomenclature_cell, rejected_fields, score_cell};
 ghost use Rattle.cvss_rows.specs.private.Views.{cell_view, field_view};
 ghost use Rattle.cvss_score.specs.v4.Nomenclature.{text_of as name_of};
 
-use cvss_any::Cvss;
+use cvss_any::{Cvss, ReadError};
 use cvss_base::tenths;
 use cvss_score::v4::Nomenclature;
 use cvss_v2 as v2;
@@ -18,6 +19,8 @@ pub(crate) enum Cell<'a> {
     Nothing,
     /// Words that need no escape.
     Words(&'a str),
+    /// Why a line is rejected.
+    Error(ReadError<'a>),
     Number(&'static str),
 }
 
@@ -25,19 +28,24 @@ pub(crate) enum Cell<'a> {
 pub(crate) type Field<'a> = (&'static str, Cell<'a>);
 
 /// The fields of a line that is rejected.
-pub(crate) const NO_FIELDS: [Field<'static>; 8] = [
-    ("vector", Cell::Nothing),
-    ("version", Cell::Nothing),
-    ("base", Cell::Nothing),
-    ("temporal", Cell::Nothing),
-    ("environmental", Cell::Nothing),
-    ("score", Cell::Nothing),
-    ("severity", Cell::Nothing),
-    ("nomenclature", Cell::Nothing),
-];
+pub(crate) fn rejected_fields(error: ReadError<'_>) -> [Field<'_>; 9]
+    ensures { map field_view result ≡ rejected_fields (error_message error.entry) }
+{
+    [
+        ("vector", Cell::Nothing),
+        ("version", Cell::Nothing),
+        ("base", Cell::Nothing),
+        ("temporal", Cell::Nothing),
+        ("environmental", Cell::Nothing),
+        ("score", Cell::Nothing),
+        ("severity", Cell::Nothing),
+        ("nomenclature", Cell::Nothing),
+        ("error", Cell::Error(error)),
+    ]
+}
 
 /// The fields of a vector with this text.
-pub(crate) fn fields_of<'a>(cvss: &Cvss, text: &'a str) -> [Field<'a>; 8]
+pub(crate) fn fields_of<'a>(cvss: &Cvss, text: &'a str) -> [Field<'a>; 9]
     requires scored { HasScore cvss.now }
     requires text { text.now ≡ text_of cvss.now }
     ensures { AreFields cvss.now (map field_view result) }
@@ -52,6 +60,7 @@ pub(crate) fn fields_of<'a>(cvss: &Cvss, text: &'a str) -> [Field<'a>; 8]
         ("score", number(cvss.tenths())),
         ("severity", Cell::Words(cvss.severity().as_str())),
         ("nomenclature", nomenclature_of(cvss)),
+        ("error", Cell::Nothing),
     ]
 }
 

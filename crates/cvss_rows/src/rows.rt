@@ -1,16 +1,18 @@
 //! The row of a line.
 
-ghost use Rattle.std.specs.Prelude.{◌≡◌, ℕ, ◌++◌, [], ◌∷◌, map, IfOk, OnOk};
+ghost use Rattle.std.specs.Prelude.{◌≡◌, ℕ, ◌++◌, [], ◌∷◌, codes, map, IfErr, IfOk, IsUtf8, None, OnOk};
+ghost use Rattle.cvss_answer.specs.Answers.{score_rule};
 ghost use Rattle.cvss_any.specs.Answers.{HasScore};
+ghost use Rattle.cvss_any.specs.Complete.{missing_by};
+ghost use Rattle.cvss_any.specs.Dispatch.{DenotesCvss};
 ghost use Rattle.cvss_any.specs.Reasons.{error_message};
-ghost use Rattle.cvss_lines.specs.Answers.{WritesAnswer};
-ghost use Rattle.cvss_rows.specs.Cells.{escaped, quoted};
-ghost use Rattle.cvss_rows.specs.Rows.{AreCells, IsRow, cells_text, no_fields};
-ghost use Rattle.cvss_rows.specs.private.Views.{WritesVectorCells, error_cell, field_view};
+ghost use Rattle.cvss_lines.specs.Answers.{Refused, WritesAnswer};
+ghost use Rattle.cvss_rows.specs.Rows.{AreCells, IsRow, cells_text};
+ghost use Rattle.cvss_rows.specs.private.Views.{WritesVectorCells, field_view};
 
-use crate::cells::{Field, NO_FIELDS, fields_of};
+use crate::cells::{Field, fields_of, rejected_fields};
 use crate::format::Format;
-use crate::writing::{push_end, push_fields, push_start};
+use crate::writing::{push_closing, push_fields, push_start};
 use cvss_any::{Cvss, ReadError, Refusal};
 use cvss_lines::{OutputBuffer, RunFault, Service};
 use std::alloc::{AllocError, Global};
@@ -77,23 +79,31 @@ pub fn write_cells(
     ensures { (number : ℕ) → IfOk result (WritesAnswer (AreCells format allow_incomplete) number line.now
         answers.old.bytes.items answers.new.bytes.items) }
 {
-    let cvss = match Cvss::read(line) {
-        Ok(cvss) => cvss,
-        Err(error) => {
-            write_error_cells(format, error, answers)?;
-            return Ok(false);
-        }
-    };
-    match cvss.missing_by(allow_incomplete) {
-        Some(metric) => {
-            let error = ReadError::Invalid(Refusal::Missing(metric));
-            write_error_cells(format, error, answers)?;
-            Ok(false)
-        }
-        None => {
+    match read_by(line, allow_incomplete) {
+        Ok(cvss) => {
             write_vector_cells(alloc, format, &cvss, answers)?;
             Ok(true)
         }
+        Err(error) => {
+            write_fields(format, &rejected_fields(error), answers)?;
+            Ok(false)
+        }
+    }
+}
+
+/// The vector that a line denotes, which lacks no base metric of CVSS v3 unless it may; or else why it
+/// is rejected.
+fn read_by(line: &[u8], allow_incomplete: bool) -> Result<Cvss, ReadError<'_>>
+    ensures scored { IfOk result (λ cvss. HasScore cvss) }
+    ensures accepted { IfOk result (λ cvss. IsUtf8 line.now × DenotesCvss line.now cvss
+        × (missing_by allow_incomplete cvss ≡ None)) }
+    ensures rejected { IfErr result (λ error. (number : ℕ) → score_rule allow_incomplete number
+        line.now (Refused ((codes "error: " ++ error_message error) ∷ []))) }
+{
+    let cvss = Cvss::read(line)?;
+    match cvss.missing_by(allow_incomplete) {
+        Some(metric) => Err(ReadError::Invalid(Refusal::Missing(metric))),
+        None => Ok(cvss),
     }
 }
 
@@ -110,33 +120,18 @@ fn write_vector_cells(
 {
     let text = cvss.to_string(alloc)?;
     let fields = fields_of(cvss, &text);
-    write_fields(format, &fields, None, answers)
+    write_fields(format, &fields, answers)
 }
 
-/// Writes the cells of a line that is rejected, and a byte 10.
-fn write_error_cells(
-    format: Format,
-    error: ReadError<'_>,
-    answers: &mut OutputBuffer,
-) -> Result<(), AllocError>
-    ensures { OnOk result (answers.new.bytes.items ≡ answers.old.bytes.items
-        ++ (cells_text format no_fields (quoted format (escaped format
-        (error_message error.entry))) ++ 10 ∷ [])) }
-{
-    write_fields(format, &NO_FIELDS, Some(error), answers)
-}
-
-/// Writes fields and the error, if there is one, and a byte 10.
+/// Writes fields, and a byte 10.
 fn write_fields(
     format: Format,
     fields: &[Field<'_>],
-    error: Option<ReadError<'_>>,
     answers: &mut OutputBuffer,
 ) -> Result<(), AllocError>
     ensures { OnOk result (answers.new.bytes.items ≡ answers.old.bytes.items
-        ++ (cells_text format (map field_view fields.now) (error_cell format error.entry)
-        ++ 10 ∷ [])) }
+        ++ (cells_text format (map field_view fields.now) ++ 10 ∷ [])) }
 {
     push_fields(format, fields, answers)?;
-    push_end(format, error, answers)
+    push_closing(format, answers)
 }

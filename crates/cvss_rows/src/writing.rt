@@ -1,15 +1,14 @@
 //! How a row is written.
 
-ghost use Rattle.std.specs.Prelude.{◌≡◌, ◌++◌, [], ◌∷◌, codes, flat_map, map, OnOk};
-ghost use Rattle.cvss_any.specs.Reasons.{error_message};
-ghost use Rattle.cvss_rows.specs.Cells.{before_cell, cell_text, closing, escaped, given_text, nothing, object_start, opening, quote, quoted};
+ghost use Rattle.std.specs.Prelude.{◌≡◌, ◌++◌, [], ◌∷◌, flat_map, map, OnOk};
+ghost use Rattle.cvss_rows.specs.Cells.{before_cell, cell_text, closing, given_text, nothing, object_start, opening, quote};
 ghost use Rattle.cvss_rows.specs.Rows.{field_text};
-ghost use Rattle.cvss_rows.specs.private.Views.{cell_view, error_cell, field_view};
+ghost use Rattle.cvss_rows.specs.private.Views.{cell_view, field_view};
 
 use crate::cells::{Cell, Field};
 use crate::escaping::{push_given, push_segments};
 use crate::format::Format;
-use cvss_any::{Message, ReadError};
+use cvss_any::Message;
 use cvss_lines::OutputBuffer;
 use std::alloc::AllocError;
 
@@ -122,6 +121,11 @@ fn push_cell(format: Format, cell: Cell<'_>, answers: &mut OutputBuffer) -> Resu
             answers.push(words.as_bytes())?;
             push_quote(format, answers)
         }
+        Cell::Error(error) => {
+            push_quote(format, answers)?;
+            push_segments(format, &Message::of(error).segments, answers)?;
+            push_quote(format, answers)
+        }
         Cell::Number(number) => answers.push(number.as_bytes()),
     }
 }
@@ -145,36 +149,13 @@ fn push_quote(format: Format, answers: &mut OutputBuffer) -> Result<(), AllocErr
     }
 }
 
-/// Writes the error, if there is one, and a byte 10.
-pub(crate) fn push_end(
-    format: Format,
-    error: Option<ReadError<'_>>,
-    answers: &mut OutputBuffer,
-) -> Result<(), AllocError>
-    ensures { OnOk result (answers.new.bytes.items ≡ answers.old.bytes.items
-        ++ (before_cell format (codes "error") ++ (error_cell format error.entry
-        ++ (closing format ++ 10 ∷ [])))) }
+/// Writes what is after the last cell, and a byte 10.
+pub(crate) fn push_closing(format: Format, answers: &mut OutputBuffer) -> Result<(), AllocError>
+    ensures { OnOk result (answers.new.bytes.items
+        ≡ answers.old.bytes.items ++ (closing format ++ 10 ∷ [])) }
 {
-    push_name(format, "error", answers)?;
-    match error {
-        None => push_nothing(format, answers)?,
-        Some(error) => push_error(format, error, answers)?,
-    }
     match format {
         Format::Tsv => answers.push(b"\n"),
         Format::Json => answers.push(b"}\n"),
     }
-}
-
-fn push_error(
-    format: Format,
-    error: ReadError<'_>,
-    answers: &mut OutputBuffer,
-) -> Result<(), AllocError>
-    ensures { OnOk result (answers.new.bytes.items ≡ answers.old.bytes.items
-        ++ quoted format (escaped format (error_message error.entry))) }
-{
-    push_quote(format, answers)?;
-    push_segments(format, &Message::of(error).segments, answers)?;
-    push_quote(format, answers)
 }

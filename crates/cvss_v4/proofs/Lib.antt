@@ -1,5 +1,5 @@
 mod CompleteLemmas
 mod InOrderLemmas
 mod PrintingLemmas
-mod OverridingLemmas
+pub mod OverridingLemmas
 mod PartsLemmas

@@ -57,7 +57,7 @@ pub fn read_overrides<'a>(overrides: &[&'a str]) -> Result<Vector, (usize, Overr
 }
 
 /// Reads one override into the vector that holds those before it.
-fn read_override<'a>(text: &'a [u8], overrides: &mut Vector) -> Result<(), OverrideFault<'a>>
+pub fn read_override<'a>(text: &'a [u8], overrides: &mut Vector) -> Result<(), OverrideFault<'a>>
     ensures component { OnOk result (IsComponent text.now) }
     ensures read { OnOk result (AddsOverride overrides.old text.now overrides.new) }
     ensures refused { IfErr result

@@ -1,30 +1,25 @@
--- Cells, fields and errors of the code, as their definitions have them.
-use Rattle.std.specs.Prelude.{◌≡◌, ℕ, List, [], ◌∷◌, ◌++◌, Option, None, Some}
+-- Cells and fields of the code, as their definitions have them.
+use Rattle.std.specs.Prelude.{◌≡◌, ℕ, List, [], ◌∷◌, ◌++◌}
 use Rattle.std.specs.Borrow.{Bor}
 use Rattle.cvss_any.specs.Reasons.{error_message}
-use Rattle.cvss_any.specs.declared.refusal.ReadError.{ReadError}
 use Rattle.cvss_any.specs.declared.vector.Cvss.{Cvss}
-use Rattle.cvss_rows.specs.Cells.{escaped, nothing as nothing_text, quoted}
 use Rattle.cvss_rows.specs.Cells as spec
 use Rattle.cvss_rows.specs.Rows.{AreFields, Fields, cells_text}
 use Rattle.cvss_rows.specs.declared.format.Format.{Format}
 use Rattle.cvss_rows.specs.declared.cells.Cell.{Cell}
-use Rattle.cvss_rows.specs.declared.cells.Cell.TheVariants.{Nothing, Words, Number}
+use Rattle.cvss_rows.specs.declared.cells.Cell.TheVariants.{Nothing, Words, Error, Number}
 
 abbrev pub cell_view : Cell → spec.Cell
 cell_view Nothing = spec.Nothing
 cell_view (Words words) = spec.Words words.now
+cell_view (Error error) = spec.AnyText (error_message error)
 cell_view (Number number) = spec.Number number.now
 
 abbrev pub field_view : Bor (List ℕ) × Cell → List ℕ × spec.Cell
 field_view field = (field.0.now, cell_view field.1)
 
-abbrev pub error_cell : Format → Option ReadError → List ℕ
-error_cell format None = nothing_text format
-error_cell format (Some error) = quoted format (escaped format (error_message error))
-
 -- the cells of a vector are written, and a byte 10
 pub record WritesVectorCells (format : Format) (vector : Cvss) (old new : List ℕ) : Type 0 where
   pub fields : Fields
   pub are : AreFields vector fields
-  pub written : new ≡ old ++ (cells_text format fields (nothing_text format) ++ 10 ∷ [])
+  pub written : new ≡ old ++ (cells_text format fields ++ 10 ∷ [])

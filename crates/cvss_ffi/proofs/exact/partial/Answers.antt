@@ -1,21 +1,29 @@
-use Rattle.std.proofs.Common.{subst, sym}
-use Rattle.cvss_text.specs.Setting.{IsSet, components_in}
-use Rattle.cvss_ffi.proofs.ExactLemmas.{partial_of_set, set_of_partial}
+use Rattle.std.proofs.Common.{[], refl, sym, ap, ◌∙◌, subst, arith}
+use Rattle.std.proofs.lemmas.Bool.Decides.{nat_tests}
+use Rattle.cvss_base.specs.Text.{pieces}
+use Rattle.cvss_base.specs.Version.{AreComponentsOf}
+use Rattle.cvss_text.specs.Setting.{components_in}
+use Rattle.cvss_text.proofs.SettingLemmas.{components_in-none, components_in-some, right_held}
+use Rattle.cvss_text.proofs.WalkLemmas.{HasRead-none}
 use Rattle.cvss_ffi.proofs.exact.partial.Goals as goal
 
-pub returns-in-Ok-set-clause-is : goal.returns-in-Ok-set-clause-is
-returns-in-Ok-set-clause-is g c =
+pub returns-then-is_empty-clause-is : goal.returns-then-is_empty-clause-is
+returns-then-is_empty-clause-is g c =
     let version = g.V.Components.version in
     let read = c.in-Ok.ensures.cases in
-    let is = subst (λ metrics. IsSet version c.args.empty (components_in metrics) c.in-Ok-set.vector) read.0 c.in-Ok-set.ensures.accepted in
-    partial_of_set version c.args.empty c.args.metrics.now c.requires c.in-Ok-set.vector read.1 is
+    let none = components_in-none c.in-Ok.metrics.now (grind (arith, nat_tests)) in
+    record {
+      utf8 = read.1;
+      front_is = refl;
+      components = subst (λ parts. AreComponentsOf version parts c.args.empty) (sym none ∙ ap components_in read.0)
+          (HasRead-none version g.met.V.Components.version_laws [] c.args.empty c.requires).components;
+    }
 
 pub returns-in-Err-clause-none : goal.returns-in-Err-clause-none
 returns-in-Err-clause-none g c =
     let version = g.V.Components.version in
-    let read = c.in-Ok.ensures.cases in
+    let wrong = c.in-Err.ensures.refused in
+    let same = ap components_in (sym c.in-Ok.ensures.cases.0) ∙ sym (components_in-some c.in-Ok.metrics.now (grind (arith, nat_tests))) in
     record {
-      none = λ vector is.
-          let set = set_of_partial version c.args.empty c.args.metrics.now c.requires vector is in
-          absurd (let same = c.in-Err.ensures.accepts vector (subst (λ metrics. IsSet version c.args.empty (components_in metrics) vector) (sym read.0) set) in cc);
+      none = λ v is. right_held version g.met.V.Components.version_laws v (pieces c.in-Ok.metrics.now) _ (subst (λ parts. AreComponentsOf version parts v) same is.components) wrong.within _ wrong.is;
     }

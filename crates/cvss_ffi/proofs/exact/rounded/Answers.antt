@@ -1,20 +1,15 @@
-use Rattle.std.proofs.Common.{◌≡◌, ◌∙◌, arith, pos, rules, subst}
-use Rattle.std.proofs.lemmas.Int.{ints, to_z-of_z}
-use mir.Syntax.{w128}
-use Rattle.cvss_base.specs.Exact.{of_count}
-use Rattle.cvss_base.specs.Rounding.{IsRoundedV2}
+use Rattle.std.proofs.Common.{rules, subst, sym, ◌∙◌}
+use Rattle.std.proofs.lemmas.Int.{to_z-of_z}
+use mir.Syntax.{w32, w128}
+use Rattle.cvss_ffi.specs.Exact.{IsRoundedFor, exact_of}
 use Rattle.cvss_ffi.proofs.exact.rounded.Goals as goal
 
-pub returns-in-20-clause-rounded : goal.returns-in-20-clause-rounded
-returns-in-20-clause-rounded c =
-    let is = c.roundup.ensures.value in
-    let version : c.args.version ≡ pos 20 = search rules in
-    record {
-      number = is.number;
-      is_number = record {
-        of_v20 = λ _. subst (λ count. IsRoundedV2 (of_count count) is.number) (c.new.ensures ∙ to_z-of_z w128 c.args.count (search rules)) is.is_number;
-        of_v30 = λ other. absurd (omega (arith, ints, version, other));
-        of_v31 = λ other. absurd (omega (arith, ints, version, other));
-      };
-      is_count = to_z-of_z w128 c.value.result (search rules) ∙ c.value.ensures ∙ is.is_count;
-    }
+pub returns : goal.returns
+returns c =
+    let version = to_z-of_z w32 c.args.version (search rules) in
+    let count = to_z-of_z w128 c.in_ok-count.count (search rules) ∙ c.in_ok-count.ensures.count in
+    let ensures = simp (version, count) at c.in_ok-rounded.ensures in
+    let is = ensures.rounded in
+    let rounded = to_z-of_z w128 c.in_ok-rounded.rounded (search rules) ∙ is.is_count in
+    let reported = to_z-of_z w32 c.tenths_of.result (search rules) ∙ c.tenths_of.ensures is.number rounded in
+    ((ensures.known, c.in_ok-count.ensures.number), subst (IsRoundedFor c.args.version (exact_of c.args.number.now)) (sym reported) is.is_number)

@@ -1,8 +1,8 @@
 use Rattle.std.proofs.Common.{ap, arith, inr, length, length-append, subst, sym}
 use Rattle.cvss_ffi.proofs.BufferLemmas.{part_left, part_put, put_within}
-use Rattle.cvss_ffi.proofs.LinesLemmas.{AnswersLines-end, HasAnswered, HasAnswered-line, HasAnswered-start}
+use Rattle.cvss_ffi.proofs.LinesLemmas.{HasAnswered-line, HasAnswered-start}
 use Rattle.cvss_ffi.specs.Answers.{IsAnswer}
-use Rattle.cvss_ffi.specs.Lines.{ended}
+use Rattle.cvss_ffi.specs.Lines.{HasAnswered, ended}
 use Rattle.cvss_ffi.proofs.lines.put_answers.Goals as goal
 
 pub loop-line-init : goal.loop-line-init
@@ -25,14 +25,16 @@ returns-then-length-buffer c =
     let texts = c.args.texts.now in
     let rest = c.loop-line.rest.now in
     let left = part_left c.args.buffer.now done.answers c.loop-line.buffer (ended one.0) _ c.loop-line.written c.write_answer-length.result done.put one.2 (omega arith) in
-    AnswersLines-end texts rest c.args.buffer.now _ _ c.loop-line.written
-    (subst (λ now. HasAnswered texts rest c.args.buffer.now now c.loop-line.written) (sym left) done)
-    (omega (arith, ap length done.texts_are, length-append done.lines rest))
-    (inr (record {
-      next = c.in-Some.line.now;
-      after = c.in-Some.after.now;
-      texts_are = cut.1;
-      answer = one.0;
-      answered = record { one_line = cut.0; is = subst (λ text. IsAnswer text one.0) c.line_text.ensures one.1 };
-      large = omega (arith, one.2.reported_is, c.loop-line.auto.buffer, put_within c.args.buffer.now done.answers c.loop-line.buffer c.loop-line.written done.put);
-    }))
+    record {
+      rest = rest;
+      done = subst (λ now. HasAnswered texts rest c.args.buffer.now now c.loop-line.written) (sym left) done;
+      read_is = omega (arith, ap length done.texts_are, length-append done.lines rest);
+      last = inr (record {
+        next = c.in-Some.line.now;
+        after = c.in-Some.after.now;
+        texts_are = cut.1;
+        answer = one.0;
+        answered = record { one_line = cut.0; is = subst (λ text. IsAnswer text one.0) c.line_text.ensures one.1 };
+        large = omega (arith, one.2.reported_is, c.loop-line.auto.buffer, put_within c.args.buffer.now done.answers c.loop-line.buffer c.loop-line.written done.put);
+      });
+    }

@@ -1,5 +1,5 @@
 use Rattle.std.proofs.Common.{length}
-use Rattle.cvss_ffi.proofs.LinesLemmas.{HasAnswered}
+use Rattle.cvss_ffi.specs.Lines.{HasAnswered}
 use Rattle.cvss_ffi.proofs.lines.put_answers.Given as goal
 
 abbrev pub invariant-loop-line : goal.invariant-loop-line
