@@ -1,6 +1,8 @@
 pub mod AddedLemmas
 mod PlacesLemmas
+mod PlainLemmas
 mod PointerLemmas
 mod RecordLemmas
+mod ReportingLemmas
 mod ScoreLemmas
 mod TenthLemmas

@@ -15,7 +15,7 @@ use Rattle.cvss_any.specs.Answers.{text_of}
 use Rattle.cvss_any.specs.declared.vector.Cvss.{Cvss}
 use Rattle.cvss_json_write.specs.Json as object
 use Rattle.cvss_json_write.specs.Json.{string_text, tenths_text}
-use Rattle.cvss_json_record.proofs.PlainLemmas.{plain_text}
+use Rattle.cvss_document.proofs.PlainLemmas.{plain_text}
 use Rattle.cvss_json_record.proofs.WordLemmas.{either, expected_fits, is_clear, is_expected, is_other, is_plain, name_fits}
 use Rattle.cvss_json_record.specs.Fields.{name_of}
 use Rattle.cvss_json_record.specs.Record as written
@@ -26,10 +26,10 @@ use Rattle.cvss_json_record.specs.declared.group.Group.TheVariants.{Base, Tempor
 use Rattle.cvss_json_record.specs.declared.score.Scores.{Scores}
 use Rattle.cvss_json_record.specs.Groups.{tenths_at}
 use Rattle.cvss_json_record.specs.laws.Members.{ascend}
-use Rattle.cvss_json_names.specs.Words.{Row}
-use Rattle.cvss_json_names.specs.WordsV2 as words_v2
-use Rattle.cvss_json_names.specs.WordsV3 as words_v3
-use Rattle.cvss_json_names.specs.WordsV4 as words_v4
+use Rattle.cvss_json_record.specs.Words.{Row}
+use Rattle.cvss_json_record.specs.WordsV2 as words_v2
+use Rattle.cvss_json_record.specs.WordsV3 as words_v3
+use Rattle.cvss_json_record.specs.WordsV4 as words_v4
 use Rattle.cvss_json_tree.specs.Objects.{Member}
 use Rattle.cvss_json_tree.specs.Texts.{IsTextOf}
 use Rattle.cvss_json_tree.specs.laws.ObjectTexts.{AreInOrder, AreMemberTexts, IsUnescaped}

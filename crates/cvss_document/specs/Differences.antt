@@ -15,7 +15,7 @@ use Rattle.cvss_json_record.specs.Groups.{AreScoresOf}
 use Rattle.cvss_json_tree.specs.Objects.{Member}
 use Rattle.cvss_document.specs.Places.{Around, Place, is_among, object_at}
 use Rattle.cvss_document.specs.SubScores.{AreSubScoresOf}
-use Rattle.cvss_json_names.specs.Versions.{version_of}
+use Rattle.cvss_json_record.specs.Versions.{version_of}
 use Rattle.cvss_document.specs.declared.difference.Claim as code_claim
 use Rattle.cvss_document.specs.declared.difference.Claim.TheVariants.{Number, Text, Severity}
 use Rattle.cvss_document.specs.declared.difference.Difference as code

@@ -16,8 +16,7 @@ use crate::ratings::{push_rating_members, push_spdx, push_trivy};
 use crate::sub_scores::SubScores;
 use crate::surroundings::push_around;
 use cvss_any::Cvss;
-use cvss_json_names::version;
-use cvss_json_record::{Expected, Scores};
+use cvss_json_record::{Expected, Scores, version};
 use serde_json::{Map, Value};
 use std::alloc::{AllocError, Global};
 

@@ -7,7 +7,7 @@ ghost use Rattle.serde_json.specs.View.{view};
 
 use crate::scores::{score_number, score_value};
 use cvss_any::Cvss;
-use cvss_json_names::NOT_DEFINED;
+use cvss_json_record::names::NOT_DEFINED;
 use cvss_json_record::{Expected, Scores, expected_of, fields_of};
 use serde_json::Value;
 use std::alloc::{AllocError, Global};

@@ -1,18 +1,20 @@
 //! Laws of places and records, each the contract of a function that does nothing. A proof that needs a law calls
 //! it.
 
-ghost use Rattle.std.specs.Prelude.{All, ℕ, List};
+ghost use Rattle.std.specs.Prelude.{◌≡◌, All, ℕ, List};
 ghost use Rattle.cvss_any.specs.declared.vector.Cvss.{Cvss};
 ghost use Rattle.cvss_base.specs.Equality.{ClonesAlways, ClonesByValue, EqualsByValue};
 ghost use Rattle.cvss_document.specs.Places.{places_in};
 ghost use Rattle.cvss_document.specs.laws.Pointers.{HasNamesOnce, LeadsTo};
 ghost use Rattle.cvss_document.specs.laws.Records.{AreInRange, record_members};
 ghost use Rattle.cvss_json_record.specs.Record.{IsRecordText};
+ghost use Rattle.cvss_laws.specs.any.GivenBack.{IsGivenBack};
 ghost use Rattle.cvss_json_tree.specs.Objects.{object_of};
 ghost use Rattle.cvss_json_tree.specs.Texts.{IsTextOf};
 ghost use Rattle.serde_json.specs.Data.{Data, object};
 
 use crate::{Around, Context, Form};
+use cvss_laws::any::texts_denote_one_vector;
 
 /// In a document whose objects have each name once, as a document has that was read, the pointer of
 /// each place leads to the place's object.
@@ -20,6 +22,15 @@ pub fn pointers_lead_to_objects()
     ensures { (document : Data) → HasNamesOnce document
         → All (λ place. LeadsTo place.0 document (object place.3)) (places_in document) }
 {}
+
+/// A record determines its vector: two vectors that their own texts give back, as each vector is that
+/// was read from a text, are equal if one text is the record of both.
+pub fn records_report_vectors()
+    ensures { (left right : Cvss) → (text : List ℕ) → IsGivenBack left → IsGivenBack right
+        → IsRecordText left text → IsRecordText right text → left ≡ right }
+{
+    texts_denote_one_vector();
+}
 
 /// A vector's record reads back as the object with its members: strings, and of each score the double
 /// that is nearest to it.

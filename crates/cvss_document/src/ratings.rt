@@ -9,7 +9,7 @@ use crate::difference::{Claim, Difference, Scored, push_at, push_name};
 use crate::place::object_at;
 use cvss_any::Cvss;
 use cvss_base::TENTH;
-use cvss_json_names::version;
+use cvss_json_record::version;
 use serde_json::{Map, Value};
 use std::alloc::AllocError;
 

@@ -1,16 +1,16 @@
 -- What the explanations of several versions have.
-use Rattle.std.specs.Prelude.{ℕ, List, [], ◌∷◌, ◌++◌, codes, Option, Some, None}
+use Rattle.std.specs.Prelude.{ℕ, List, [], ◌∷◌, ◌++◌, codes, Option, option_map}
+use Rattle.std.specs.List.{cons_option}
 use Rattle.std.specs.Fmt.{decimal}
 use Rattle.cvss_any.specs.Answers.{rating_by, score_of_tenths, text_of}
 use Rattle.cvss_any.specs.declared.vector.Cvss.{Cvss}
 use Rattle.cvss_base.specs.SeverityText.{text_of as severity_text}
 use Rattle.cvss_json_write.specs.Json.{Member, object_text, string_text, tenths_text}
-use Rattle.cvss_json_names.specs.Versions.{version_of}
+use Rattle.cvss_json_record.specs.Versions.{version_of}
 
--- the number of the line that is explained, if it is one of a list
-abbrev pub line_members : Option ℕ → List Member
-line_members None = []
-line_members (Some line) = (codes "line", decimal line) ∷ []
+-- members, with the number of the line that is explained before them, if it is one of a list
+abbrev pub with_line : Option ℕ → List Member → List Member
+with_line line members = cons_option (option_map (λ text. (codes "line", text)) (option_map decimal line)) members
 
 abbrev pub score_member : ℕ → Member
 score_member tenths = (codes "score", tenths_text tenths)
@@ -32,13 +32,13 @@ ways_text line cvss tenths base temporal environmental scopes weights =
     object_text (
     (codes "base", object_text base)
     ∷ (codes "environmental", object_text environmental)
-    ∷ (line_members line
-    ++ (scopes
+    ∷ with_line line (
+    scopes
     ++ score_member tenths
     ∷ severity_member cvss tenths
     ∷ (codes "temporal", object_text temporal)
     ∷ vector_member cvss
     ∷ version_member cvss
     ∷ (codes "weights", object_text weights)
-    ∷ []))
+    ∷ [])
     )

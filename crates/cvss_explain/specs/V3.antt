@@ -1,9 +1,10 @@
 -- The explanations of the scores of CVSS v3: v3.1 specification, section 7; v3.0 specification, section 8. Members are
 -- in the order of their names.
-use Rattle.std.specs.Prelude.{◌≡◌, ℕ, ◌*◌, pos, Bool, true, false, List, [], ◌∷◌, codes, map, Option, unwrap_or}
+use Rattle.std.specs.Prelude.{◌≡◌, ℕ, ◌*◌, pos, Bool, true, false, List, [], ◌∷◌, codes, Option, option_map}
+use Rattle.std.specs.List.{filter_map}
 use Rattle.cvss_any.specs.declared.vector.Cvss.{Cvss}
 use Rattle.cvss_base.specs.declared.v3.MetricType.{MetricType}
-use Rattle.cvss_base.specs.declared.v3.MetricType.TheVariants.{A, AC, AR, AV, C, CR, E, I, IR, MA, MAC, MAV, MC, MI, MPR, MUI, PR, RC, RL, UI}
+use Rattle.cvss_base.specs.declared.v3.MetricType.TheVariants.{A, AC, AR, AV, C, CR, E, I, IR, MA, MAC, MAV, MC, MI, MPR, MS, MUI, PR, RC, RL, S, UI}
 use Rattle.cvss_base.specs.V3Types.{name_of}
 use Rattle.cvss_v3.specs.declared.vector.Vector.{Vector}
 use Rattle.cvss_score.specs.declared.v3.weights.Weights.{Weights}
@@ -26,18 +27,17 @@ scope_members w =
     ∷ (codes "scope", string_text (scope_letter w.changed))
     ∷ []
 
--- the metrics that weigh, which are all but the scopes, in the order of their names
-abbrev pub weighing_by_name : List MetricType
-weighing_by_name =
-    A ∷ AC ∷ AR ∷ AV ∷ C ∷ CR ∷ E ∷ I ∷ IR ∷ MA ∷ MAC ∷ MAV ∷ MC ∷ MI ∷ MPR ∷ MUI ∷ PR ∷ RC ∷ RL ∷ UI ∷ []
+-- the metrics, in the order of their names
+abbrev pub by_name : List MetricType
+by_name = A ∷ AC ∷ AR ∷ AV ∷ C ∷ CR ∷ E ∷ I ∷ IR ∷ MA ∷ MAC ∷ MAV ∷ MC ∷ MI ∷ MPR ∷ MS ∷ MUI ∷ PR ∷ RC ∷ RL ∷ S ∷ UI ∷ []
 
--- what such a metric weighs, which is hundredths
-abbrev pub weight_member : Weights → MetricType → Member
-weight_member w kind = (name_of kind, decimal_text (pos (unwrap_or (weight_in w kind) 0 * 100_000)))
+-- what a metric weighs, which is hundredths; the scopes weigh nothing
+abbrev pub weight_member : Weights → MetricType → Option Member
+weight_member w kind = option_map (λ weight. (name_of kind, decimal_text (pos (weight * 100_000)))) (weight_in w kind)
 
 -- what each metric weighs
 abbrev pub weights_members : Weights → List Member
-weights_members w = map (weight_member w) weighing_by_name
+weights_members w = filter_map (weight_member w) by_name
 
 -- a number, the score that it is rounded to, and its rating
 abbrev pub scored_members : Cvss → Scored → List Member

@@ -15,7 +15,7 @@ use Rattle.cvss_score.specs.declared.v4.scoring.next.NextClass.{NextClass}
 use Rattle.cvss_v4.specs.declared.vector.Vector.{Vector}
 use Rattle.cvss_explain.specs.Decimal.{nearest_to}
 use Rattle.cvss_explain.specs.LettersV4.{effective_members}
-use Rattle.cvss_explain.specs.Parts.{line_members, score_member, severity_member, vector_member, version_member}
+use Rattle.cvss_explain.specs.Parts.{score_member, severity_member, vector_member, version_member, with_line}
 
 -- the levels that make up a class
 abbrev pub levels : MacroVector → List ℕ
@@ -27,21 +27,6 @@ digits levels = flat_map decimal levels
 -- the six digits of a class
 abbrev pub class_text : MacroVector → List ℕ
 class_text m = digits (levels m)
-
--- the gap from a value to that of the next lower class; null where there is none
-abbrev pub gap_text : ℕ → Option NextClass → List ℕ
-gap_text value None = codes "null"
-gap_text value (Some next) = tenths_text (value - next.value)
-
--- the next lower class, its value, and what is taken of the gap; null where there is none
-abbrev pub next_members : Option NextClass → ℕ → List Member
-next_members None taken =
-    (codes "next", codes "null") ∷ (codes "nextValue", codes "null") ∷ (codes "taken", codes "null") ∷ []
-next_members (Some next) taken =
-    (codes "next", string_text (class_text next.class))
-    ∷ (codes "nextValue", tenths_text next.value)
-    ∷ (codes "taken", decimal_text (pos (nearest_to taken 8400)))
-    ∷ []
 
 -- a group of metrics: its name, its level or both levels, and what it contributes
 abbrev pub Group : Type 0
@@ -57,17 +42,34 @@ named class groups =
     ∷ (codes "EQ5", class.eq5 ∷ [], groups.eq5)
     ∷ []
 
--- what a group contributes to the score below the value
-abbrev pub group_text : ℕ → Group → List ℕ
-group_text value (name, level, group) =
+-- the gap from the value to that of the next lower class, this class, its value, and what is taken of the gap; null where
+-- there is none
+abbrev pub Next : Type 0
+Next = List ℕ × List ℕ × List ℕ × List ℕ
+
+abbrev pub next_of : ℕ → Option NextClass → ℕ → Next
+next_of value None taken = (codes "null", codes "null", codes "null", codes "null")
+next_of value (Some next) taken =
+    (tenths_text (value - next.value), string_text (class_text next.class), tenths_text next.value, decimal_text (pos (nearest_to taken 8400)))
+
+-- a group, and these of its next lower class
+abbrev pub members_text : Group → Next → List ℕ
+members_text (name, level, group) (gap, next, next_value, taken) =
     object_text (
     (codes "class", string_text (digits level))
     ∷ (codes "depth", decimal group.depth)
     ∷ (codes "distance", decimal group.distance)
-    ∷ (codes "gap", gap_text value group.next)
+    ∷ (codes "gap", gap)
     ∷ (codes "group", string_text name)
-    ∷ next_members group.next group.taken
+    ∷ (codes "next", next)
+    ∷ (codes "nextValue", next_value)
+    ∷ (codes "taken", taken)
+    ∷ []
     )
+
+-- what a group contributes to the score below the value
+abbrev pub group_text : ℕ → Group → List ℕ
+group_text value (name, level, group) = members_text (name, level, group) (next_of value group.next group.taken)
 
 -- the five groups; none without impact
 abbrev pub groups_text : MacroVector → ℕ → Option GroupExplanations → List ℕ
@@ -89,14 +91,14 @@ explanation_text line cvss tenths nomenclature explanation =
     object_text (
     (codes "effective", object_text (effective_members explanation.effective))
     ∷ (codes "groups", groups_text explanation.class explanation.value explanation.groups)
-    ∷ (line_members line
-    ++ (class_members explanation nomenclature
+    ∷ with_line line (
+    class_members explanation nomenclature
     ++ score_member tenths
     ∷ severity_member cvss tenths
     ∷ (codes "value", tenths_text explanation.value)
     ∷ vector_member cvss
     ∷ version_member cvss
-    ∷ []))
+    ∷ [])
     )
 
 -- the text explains the vector's score, of so many tenths

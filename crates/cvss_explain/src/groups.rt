@@ -1,15 +1,14 @@
 //! The groups of metrics of CVSS v4.0, and the levels that make up a class (v4.0 specification, section
 //! 8.2).
 
-ghost use Rattle.std.specs.Prelude.{◌≡◌, ◌+◌, ◌*◌, ◌<◌, ◌≤◌, ◌∷◌, [], ◌++◌, length, pos, true};
+ghost use Rattle.std.specs.Prelude.{◌≡◌, ◌+◌, ◌<◌, ◌≤◌, ◌++◌, length, pos};
 ghost use Rattle.cvss_explain.specs.Decimal.{nearest_to};
-ghost use Rattle.cvss_explain.specs.V4.{digits, gap_text, group_text, groups_text, levels, next_members};
+ghost use Rattle.cvss_explain.specs.V4.{group_text, groups_text, levels, members_text};
 ghost use Rattle.cvss_json_write.specs.declared.member.Scalar.TheVariants.{Decimal};
-ghost use Rattle.cvss_json_write.specs.Json.{WritesMembers, string_text};
 ghost use Rattle.cvss_json_write.specs.Scalars.{scalar_room, scalar_text};
 
 use crate::decimal::of_parts;
-use cvss_json_write::{Page, Scalar, put_members, put_name};
+use cvss_json_write::{Page, Scalar, Scalars, put_object};
 use cvss_score::v4::scoring::classes::MacroVector;
 use cvss_score::v4::scoring::explanation::GroupExplanation;
 use cvss_v4::Explanation;
@@ -21,31 +20,6 @@ pub fn levels(class: &MacroVector) -> [u8; 6]
     [
         class.eq1, class.eq2, class.eq3, class.eq4, class.eq5, class.eq6,
     ]
-}
-
-/// Writes the digits of levels.
-pub fn put_digits(page: &mut Page, levels: &[u8])
-    requires { length page.old + 20 * length levels.now ≤ 4096 }
-    ensures text { page.new ≡ page.old ++ digits levels.now }
-    ensures room { length page.new ≤ length page.old + 20 * length levels.now }
-{
-    for level in levels {
-        page.whole(u64::from(*level));
-    }
-}
-
-/// Writes a member whose value is a string of the digits of levels.
-pub(crate) fn put_levels(page: &mut Page, later: bool, name: &str, levels: &[u8])
-    requires { length page.old + length name.now + 20 * length levels.now + 6 ≤ 4096 }
-    ensures text { WritesMembers later ((name.now, string_text (digits levels.now)) ∷ [])
-        page.old page.new }
-    ensures room { length page.new
-        ≤ length page.old + length name.now + 20 * length levels.now + 6 }
-{
-    put_name(page, later, name);
-    page.push(b"\"");
-    put_digits(page, levels);
-    page.push(b"\"");
 }
 
 /// Writes the array of the five groups, which is empty without impact.
@@ -74,7 +48,8 @@ pub(crate) fn put_groups(page: &mut Page, explanation: &Explanation)
     page.push(b"]");
 }
 
-/// Writes what a group of metrics, of this name and level, contributes to the score below a value.
+/// Writes what a group of metrics, of this name and level, contributes to the score below a value: also
+/// the gap to the next lower class, its value, and what is taken of the gap.
 fn put_group(page: &mut Page, name: &'static str, level: &[u8], value: u8, group: &GroupExplanation)
     requires short { length name.now ≤ 7 }
     requires level { length level.now ≤ 2 }
@@ -82,62 +57,70 @@ fn put_group(page: &mut Page, name: &'static str, level: &[u8], value: u8, group
     ensures text { page.new ≡ page.old ++ group_text value (name.now, level.now, group.now) }
     ensures room { length page.new ≤ length page.old + 450 }
 {
-    page.push(b"{");
-    put_levels(page, false, "class", level);
-    put_members(
-        page,
-        &[
-            ("depth", Scalar::Whole(u64::from(group.depth))),
-            ("distance", Scalar::Whole(u64::from(group.distance))),
-            ("gap", gap(value, group)),
-            ("group", Scalar::Text(name)),
-        ],
-    );
-    put_next(page, group);
-    page.push(b"}");
-}
-
-/// The gap from a value to that of the next lower class.
-fn gap(value: u8, group: &GroupExplanation) -> Scalar
-    ensures text { scalar_text result ≡ gap_text value group.now.next }
-    ensures room { scalar_room result ≤ 32 }
-{
     match &group.next {
-        None => Scalar::Null,
-        Some(next) => Scalar::Tenths(value.saturating_sub(next.value)),
+        None => {
+            let null = Scalar::Null;
+            put_members(page, name, level, group, (null, null, null, null));
+        }
+        Some(next) => {
+            let gap = Scalar::Tenths(value.saturating_sub(next.value));
+            let class = levels(&next.class);
+            let next_value = Scalar::Tenths(next.value);
+            let next = (
+                gap,
+                Scalar::Digits(&class),
+                next_value,
+                fraction(group.taken, 8400),
+            );
+            put_members(page, name, level, group, next);
+        }
     }
 }
 
-/// Writes the next lower class, its value and what is taken of the gap to it.
-fn put_next(page: &mut Page, group: &GroupExplanation)
-    requires { length page.old + 240 ≤ 4096 }
-    ensures text { WritesMembers true (next_members group.now.next group.now.taken)
-        page.old page.new }
-    ensures room { length page.new ≤ length page.old + 240 }
+/// The gap to the next lower class, this class, its value, and what is taken of the gap.
+type Next<'a> = (Scalar<'a>, Scalar<'a>, Scalar<'a>, Scalar<'a>);
+
+/// Writes what a group contributes, with these of its next lower class.
+fn put_members<'a>(
+    page: &mut Page,
+    name: &'static str,
+    level: &'a [u8],
+    group: &GroupExplanation,
+    next: Next<'a>,
+)
+    requires short { length name.now ≤ 7 }
+    requires level { length level.now ≤ 2 }
+    requires next { scalar_room next.0 + scalar_room next.1 + scalar_room next.2
+        + scalar_room next.3 ≤ 250 }
+    requires room { length page.old + 450 ≤ 4096 }
+    ensures text { page.new ≡ page.old
+        ++ members_text (name.now, level.now, group.now) (
+          scalar_text next.entry.0,
+          scalar_text next.entry.1,
+          scalar_text next.entry.2,
+          scalar_text next.entry.3,
+        ) }
+    ensures room { length page.new ≤ length page.old + 450 }
 {
-    let Some(next) = &group.next else {
-        put_members(
-            page,
-            &[
-                ("next", Scalar::Null),
-                ("nextValue", Scalar::Null),
-                ("taken", Scalar::Null),
-            ],
-        );
-        return;
-    };
-    put_levels(page, true, "next", &levels(&next.class));
-    put_members(
+    let (gap, class, value, taken) = next;
+    put_object(
         page,
+        &Scalars {},
         &[
-            ("nextValue", Scalar::Tenths(next.value)),
-            ("taken", fraction(group.taken, 8400)),
+            ("class", Scalar::Digits(level)),
+            ("depth", Scalar::Whole(u64::from(group.depth))),
+            ("distance", Scalar::Whole(u64::from(group.distance))),
+            ("gap", gap),
+            ("group", Scalar::Text(name)),
+            ("next", class),
+            ("nextValue", value),
+            ("taken", taken),
         ],
     );
 }
 
 /// So many parts of a point.
-pub(crate) fn fraction(count: u32, parts: u32) -> Scalar
+pub(crate) fn fraction(count: u32, parts: u32) -> Scalar<'static>
     requires { 0 < parts }
     ensures { result ≡ Decimal (pos (nearest_to count parts)) }
 {

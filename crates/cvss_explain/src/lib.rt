@@ -7,7 +7,6 @@ mod explanation;
 pub mod groups;
 pub mod laws;
 mod parts;
-mod table;
 pub mod v2;
 pub mod v3;
 mod v4;

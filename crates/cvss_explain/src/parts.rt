@@ -1,118 +1,126 @@
 //! The members of explanations.
 
-ghost use Rattle.std.specs.Prelude.{◌≡◌, ◌+◌, ◌≤◌, [], ◌∷◌, ◌++◌, length, map, true};
+ghost use Rattle.std.specs.Prelude.{◌≡◌, ◌+◌, ◌≤◌, ◌++◌, [], length, unwrap_or};
 ghost use Rattle.cvss_any.specs.Answers.{rating_by, score_of_tenths};
 ghost use Rattle.cvss_base.specs.SeverityText.{text_of as severity_text};
-ghost use Rattle.cvss_explain.specs.Parts.{line_members};
-ghost use Rattle.cvss_explain.specs.private.Values.{part_view, parts_room, value_room, value_text};
-ghost use Rattle.cvss_json_write.specs.Json.{WritesMembers, object_text};
+ghost use Rattle.cvss_explain.specs.private.Values.{members_view, part_member, part_room, value_room, value_text};
+ghost use Rattle.cvss_json_write.specs.Json.{object_text};
+ghost use Rattle.cvss_json_write.specs.Scalars.{member_room, rooms};
 
-use crate::groups::{put_groups, put_levels};
-use crate::table::put_table;
-use crate::v2::BY_NAME as METRICS_OF_V2;
-use crate::v3::WEIGHING_BY_NAME as METRICS_OF_V3;
-use crate::v4::BY_NAME as METRICS_OF_V4;
+use crate::groups::{levels, put_groups};
+use crate::v2::numbers as numbers_v2;
+use crate::v3::numbers as numbers_v3;
+use crate::v4::{EFFECTIVE, Letters};
+use crate::{v2, v3};
 use cvss_any::Cvss;
 use cvss_base::TENTH;
-use cvss_json_names::{put_vector_member, version};
-use cvss_json_write::{Member, Page, Scalar, put_member, put_name, put_object_member};
+use cvss_json_record::{put_vector, version};
+use cvss_json_write::{Member, Members, Page, Scalar, Scalars, put_name, put_object};
+use cvss_score::v4::scoring::classes::MacroVector;
 use cvss_score::v4::scoring::effective::Effective;
 use cvss_v4::Explanation;
 
 /// What a member says: of the vector, or of numbers that are made of it.
 #[derive(Clone, Copy)]
-pub(crate) enum Value<'a, 'v> {
-    Scalar(Scalar),
-    /// An object.
-    Object(&'a [Member]),
-    /// The digits of levels, as a string.
-    Levels(&'a [u8]),
-    /// The rating of the vector's score of so many tenths.
-    Severity(&'v Cvss, u8),
+pub(crate) enum Value<'v> {
+    Scalar(Scalar<'static>),
+    /// The digits of a class, as a string.
+    Class(MacroVector),
+    /// The number of the line, if there is one.
+    Line(Option<u64>),
+    /// The rating of a score of so many tenths.
+    Severity(u8),
     /// The vector's canonical text.
-    Text(&'v Cvss),
+    Text,
     /// The vector's version.
-    Version(&'v Cvss),
-    /// What each metric of CVSS v2 weighs.
+    Version,
+    /// The numbers of the scores of CVSS v2, and what each metric weighs.
+    BaseV2(numbers_v2::BaseNumbers),
+    TemporalV2(numbers_v2::TemporalNumbers),
+    EnvironmentalV2(numbers_v2::EnvironmentalNumbers),
     WeightsV2(&'v cvss_v2::Vector),
-    /// What each metric of CVSS v3 weighs.
+    /// The numbers of the scores of CVSS v3, and what each metric weighs.
+    BaseV3(numbers_v3::BaseNumbers),
+    TemporalV3(numbers_v3::Scored),
+    EnvironmentalV3(numbers_v3::EnvironmentalNumbers),
     WeightsV3(&'v cvss_v3::Vector),
     /// The letters of effective values.
-    Letters(&'a Effective),
+    Letters(Effective),
     /// What each group of metrics of CVSS v4.0 contributes.
-    Groups(&'a Explanation),
+    Groups(&'v Explanation),
 }
 
 /// A member's name, and what it says.
-pub(crate) type Part<'a, 'v> = (&'static str, Value<'a, 'v>);
+pub(crate) type Part<'v> = (&'static str, Value<'v>);
 
-/// Writes an object: two members, the number of a line, if there is one, and further members.
-pub(crate) fn put_object(
-    page: &mut Page,
-    first: Part<'_, '_>,
-    second: Part<'_, '_>,
-    line: Option<u64>,
-    further: &[Part<'_, '_>],
-)
-    requires empty { page.old ≡ [] }
-    requires room { parts_room (first ∷ second ∷ further.now) ≤ 4060 }
-    ensures { page.new ≡ object_text (part_view first.entry ∷ part_view second.entry
-        ∷ (line_members line ++ map part_view further.now)) }
-{
-    page.push(b"{");
-    put_part(page, false, first.0, first.1);
-    put_part(page, true, second.0, second.1);
-    put_line(page, line);
-    put_parts(page, further);
-    page.push(b"}");
+/// The vector that is explained.
+#[derive(Drop)]
+pub(crate) struct Explained<'v> {
+    pub(crate) cvss: &'v Cvss,
 }
 
-/// Writes the number of a line, if there is one.
-fn put_line(page: &mut Page, line: Option<u64>)
-    requires { length page.old + 28 ≤ 4096 }
-    ensures text { WritesMembers true (line_members line) page.old page.new }
-    ensures room { length page.new ≤ length page.old + 28 }
-{
-    if let Some(line) = line {
-        put_member(page, true, "line", Scalar::Whole(line));
+impl<'a> Members<Part<'a>> for Explained<'_> {
+    ghost text_at = { λ explained part. part_member explained.cvss.now part };
+
+    ghost room_at = { λ _ part. part_room part };
+
+    fn put_at(&self, page: &mut Page, later: bool, part: Part<'a>) -> bool {
+        let (name, value) = part;
+        if let Value::Line(None) = value {
+            return later;
+        }
+        put_name(page, later, name);
+        put_value(page, self.cvss, value);
+        true
     }
 }
 
-/// Writes members that come after others.
-fn put_parts(page: &mut Page, parts: &[Part<'_, '_>])
-    requires { length page.old + parts_room parts.now ≤ 4096 }
-    ensures text { WritesMembers true (map part_view parts.now) page.old page.new }
-    ensures room { length page.new ≤ length page.old + parts_room parts.now }
-{
-    for (name, value) in parts {
-        put_part(page, true, name, *value);
-    }
-}
-
-/// Writes a member, after a comma where members come before.
-fn put_part(page: &mut Page, later: bool, name: &str, value: Value<'_, '_>)
-    requires { length page.old + length name.now + value_room value + 4 ≤ 4096 }
-    ensures text { WritesMembers later ((name.now, value_text value.entry) ∷ [])
-        page.old page.new }
-    ensures room { length page.new ≤ length page.old + length name.now + value_room value.entry + 4 }
+/// Writes what a member says; nothing where there is no line.
+fn put_value(page: &mut Page, cvss: &Cvss, value: Value<'_>)
+    requires { length page.old + value_room value ≤ 4096 }
+    ensures text { page.new ≡ page.old ++ unwrap_or (value_text cvss.now value.entry) [] }
+    ensures room { length page.new ≤ length page.old + value_room value.entry }
 {
     match value {
-        Value::Scalar(scalar) => put_member(page, later, name, scalar),
-        Value::Object(members) => put_object_member(page, later, name, members),
-        Value::Levels(levels) => put_levels(page, later, name, levels),
-        Value::Severity(cvss, tenths) => {
-            put_member(page, later, name, Scalar::Text(severity(cvss, tenths)));
+        Value::Scalar(scalar) => scalar.put(page),
+        Value::Class(class) => Scalar::Digits(&levels(&class)).put(page),
+        Value::Line(None) => {}
+        Value::Line(Some(line)) => page.whole(line),
+        Value::Severity(tenths) => Scalar::Text(severity(cvss, tenths)).put(page),
+        Value::Text => {
+            page.push(b"\"");
+            put_vector(page, cvss);
+            page.push(b"\"");
         }
-        Value::Text(cvss) => put_vector_member(page, later, name, cvss),
-        Value::Version(cvss) => put_member(page, later, name, Scalar::Text(version(cvss))),
-        Value::WeightsV2(vector) => put_table(page, later, name, vector, &METRICS_OF_V2),
-        Value::WeightsV3(vector) => put_table(page, later, name, vector, &METRICS_OF_V3),
-        Value::Letters(effective) => put_table(page, later, name, effective, &METRICS_OF_V4),
-        Value::Groups(explanation) => {
-            put_name(page, later, name);
-            put_groups(page, explanation);
+        Value::Version => Scalar::Text(version(cvss)).put(page),
+        Value::BaseV2(numbers) => put_scalars(page, &v2::base(numbers)),
+        Value::TemporalV2(numbers) => put_scalars(page, &v2::temporal(numbers)),
+        Value::EnvironmentalV2(numbers) => put_scalars(page, &v2::environmental(numbers)),
+        Value::WeightsV2(vector) => put_object(page, &v2::Weights { vector }, &v2::METRICS),
+        Value::BaseV3(numbers) => put_scalars(page, &v3::base(cvss, numbers)),
+        Value::TemporalV3(scored) => put_scalars(page, &v3::temporal(cvss, scored)),
+        Value::EnvironmentalV3(numbers) => put_scalars(page, &v3::environmental(cvss, numbers)),
+        Value::WeightsV3(vector) => put_object(page, &v3::Weights { vector }, &v3::METRICS),
+        Value::Letters(effective) => {
+            put_object(
+                page,
+                &Letters {
+                    effective: &effective,
+                },
+                &EFFECTIVE,
+            );
         }
+        Value::Groups(explanation) => put_groups(page, explanation),
     }
+}
+
+/// Writes an object of scalars.
+fn put_scalars(page: &mut Page, members: &[Member<'_>])
+    requires { length page.old + rooms member_room members.now + 2 ≤ 4096 }
+    ensures text { page.new ≡ page.old ++ object_text (members_view members.now) }
+    ensures room { length page.new ≤ length page.old + rooms member_room members.now + 2 }
+{
+    put_object(page, &Scalars {}, members);
 }
 
 /// The rating of the vector's score of so many tenths.

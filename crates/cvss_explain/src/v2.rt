@@ -1,56 +1,55 @@
 //! The explanations of the scores of CVSS v2 (guide, section 3.2).
 
-ghost use Rattle.std.specs.Prelude.{◌≡◌, ◌*◌, ◌≤◌, [], map, pos};
+ghost use Rattle.std.specs.Prelude.{◌≡◌, ◌≤◌, [], Some};
 ghost use Rattle.cvss_explain.specs.V2.{IsExplanationText, base_members, environmental_members, temporal_members, weight_member};
-ghost use Rattle.cvss_json_write.specs.declared.member.Scalar.TheVariants.{Decimal};
-ghost use Rattle.cvss_json_write.specs.Scalars.{member_view, members_room};
-ghost use Rattle.cvss_v2.specs.Weights.{weight_in};
+ghost use Rattle.cvss_explain.specs.private.Values.{members_view};
+ghost use Rattle.cvss_json_write.specs.Scalars.{member_room, rooms};
 
 pub mod numbers;
 
 use crate::decimal::ten_millionths;
-use crate::parts::{Value, put_object};
-use crate::table::Table;
+use crate::parts::{Explained, Value};
 use MetricType::*;
 use cvss_any::Cvss;
 use cvss_base::v2::MetricType;
-use cvss_json_write::{Member, Page, Scalar};
+use cvss_json_write::{Member, Members, Page, Scalar, put_member, put_object};
 use cvss_v2::Vector;
 use numbers::{BaseNumbers, EnvironmentalNumbers, TemporalNumbers};
 
 /// Writes why a vector has its score.
-pub(crate) fn put_explanation<'v>(
+pub(crate) fn put_explanation(
     page: &mut Page,
     line: Option<u64>,
-    cvss: &'v Cvss,
-    vector: &'v Vector,
+    cvss: &Cvss,
+    vector: &Vector,
     tenths: u8,
 )
     requires { page.old ≡ [] }
     ensures { IsExplanationText line cvss.now vector.now tenths page.new }
 {
-    let base = base(BaseNumbers::of(vector));
-    let environmental = environmental(EnvironmentalNumbers::of(vector));
-    let temporal = temporal(TemporalNumbers::of(vector));
+    let base = BaseNumbers::of(vector);
+    let environmental = EnvironmentalNumbers::of(vector);
+    let temporal = TemporalNumbers::of(vector);
     put_object(
         page,
-        ("base", Value::Object(&base)),
-        ("environmental", Value::Object(&environmental)),
-        line,
+        &Explained { cvss },
         &[
+            ("base", Value::BaseV2(base)),
+            ("environmental", Value::EnvironmentalV2(environmental)),
+            ("line", Value::Line(line)),
             ("score", Value::Scalar(Scalar::Tenths(tenths))),
-            ("severity", Value::Severity(cvss, tenths)),
-            ("temporal", Value::Object(&temporal)),
-            ("vector", Value::Text(cvss)),
-            ("version", Value::Version(cvss)),
+            ("severity", Value::Severity(tenths)),
+            ("temporal", Value::TemporalV2(temporal)),
+            ("vector", Value::Text),
+            ("version", Value::Version),
             ("weights", Value::WeightsV2(vector)),
         ],
     );
 }
 
-fn base(numbers: BaseNumbers) -> [Member; 5]
-    ensures text { map member_view result ≡ base_members numbers }
-    ensures room { members_room result ≤ 300 }
+pub(crate) fn base(numbers: BaseNumbers) -> [Member<'static>; 5]
+    ensures text { members_view result ≡ base_members numbers }
+    ensures room { rooms member_room result ≤ 300 }
 {
     [
         ("exploitability", Scalar::Decimal(numbers.exploitability)),
@@ -61,9 +60,9 @@ fn base(numbers: BaseNumbers) -> [Member; 5]
     ]
 }
 
-fn temporal(numbers: TemporalNumbers) -> [Member; 2]
-    ensures text { map member_view result ≡ temporal_members numbers }
-    ensures room { members_room result ≤ 100 }
+pub(crate) fn temporal(numbers: TemporalNumbers) -> [Member<'static>; 2]
+    ensures text { members_view result ≡ temporal_members numbers }
+    ensures room { rooms member_room result ≤ 100 }
 {
     [
         ("number", Scalar::Decimal(numbers.number)),
@@ -71,9 +70,9 @@ fn temporal(numbers: TemporalNumbers) -> [Member; 2]
     ]
 }
 
-fn environmental(numbers: EnvironmentalNumbers) -> [Member; 5]
-    ensures text { map member_view result ≡ environmental_members numbers }
-    ensures room { members_room result ≤ 300 }
+pub(crate) fn environmental(numbers: EnvironmentalNumbers) -> [Member<'static>; 5]
+    ensures text { members_view result ≡ environmental_members numbers }
+    ensures room { rooms member_room result ≤ 300 }
 {
     [
         ("adjustedBase", Scalar::Decimal(numbers.adjusted_base)),
@@ -88,22 +87,22 @@ fn environmental(numbers: EnvironmentalNumbers) -> [Member; 5]
 }
 
 /// The metrics, in the order of their names.
-pub(crate) const BY_NAME: [MetricType; 14] = [A, AC, AR, AV, Au, C, CDP, CR, E, I, IR, RC, RL, TD];
+pub(crate) const METRICS: [MetricType; 14] = [A, AC, AR, AV, Au, C, CDP, CR, E, I, IR, RC, RL, TD];
 
-impl Table for Vector {
-    type Key = MetricType;
-
-    ghost text_at = { weight_member };
-
-    /// What a metric weighs.
-    fn member(&self, kind: MetricType) -> Member {
-        (kind.name(), weight(self, kind))
-    }
+/// What each metric of a vector weighs.
+#[derive(Drop)]
+pub(crate) struct Weights<'v> {
+    pub(crate) vector: &'v Vector,
 }
 
-/// What a metric weighs.
-fn weight(vector: &Vector, kind: MetricType) -> Scalar
-    ensures { result ≡ Decimal (pos (weight_in vector.now kind * 10_000)) }
-{
-    Scalar::Decimal(ten_millionths(vector.weight(kind)))
+impl Members<MetricType> for Weights<'_> {
+    ghost text_at = { λ weights kind. Some (weight_member weights.vector.now kind) };
+
+    ghost room_at = { λ _ _. 44 };
+
+    fn put_at(&self, page: &mut Page, later: bool, kind: MetricType) -> bool {
+        let weight = Scalar::Decimal(ten_millionths(self.vector.weight(kind)));
+        put_member(page, later, kind.name(), weight);
+        true
+    }
 }

@@ -1,52 +1,52 @@
 //! The explanations of the scores of CVSS v3 (v3.1 specification, section 7; v3.0 specification, section 8).
 
-ghost use Rattle.std.specs.Prelude.{◌≡◌, ◌*◌, ◌≤◌, [], length, map, pos, unwrap_or};
+ghost use Rattle.std.specs.Prelude.{◌≡◌, ◌≤◌, [], length};
 ghost use Rattle.cvss_explain.specs.V3.{IsExplanationText, base_members, environmental_members, scope_letter, scored_members, weight_member};
-ghost use Rattle.cvss_json_write.specs.declared.member.Scalar.TheVariants.{Decimal};
-ghost use Rattle.cvss_json_write.specs.Scalars.{member_view, members_room};
-ghost use Rattle.cvss_v3.specs.VectorWeights.{weight_in, weights_of};
+ghost use Rattle.cvss_explain.specs.private.Values.{members_view};
+ghost use Rattle.cvss_json_write.specs.Scalars.{member_room, rooms};
+ghost use Rattle.cvss_v3.specs.VectorWeights.{weights_of};
 
 pub mod numbers;
 
 use crate::decimal::ten_millionths;
-use crate::parts::{Value, put_object, severity};
-use crate::table::Table;
+use crate::parts::{Explained, Value, severity};
 use MetricType::*;
 use cvss_any::Cvss;
 use cvss_base::v3::MetricType;
-use cvss_json_write::{Member, Page, Scalar};
+use cvss_json_write::{Member, Members, Page, Scalar, put_member, put_object};
 use cvss_v3::Vector;
 use numbers::{BaseNumbers, EnvironmentalNumbers, Scored};
 
 /// Writes why a vector has its score.
-pub(crate) fn put_explanation<'v>(
+pub(crate) fn put_explanation(
     page: &mut Page,
     line: Option<u64>,
-    cvss: &'v Cvss,
-    vector: &'v Vector,
+    cvss: &Cvss,
+    vector: &Vector,
     tenths: u8,
 )
     requires { page.old ≡ [] }
     ensures { IsExplanationText line cvss.now vector.now tenths page.new }
 {
-    let base = base(cvss, BaseNumbers::of(vector));
-    let environmental = environmental(cvss, EnvironmentalNumbers::of(vector));
-    let temporal = temporal(cvss, Scored::temporal(vector));
+    let base = BaseNumbers::of(vector);
+    let environmental = EnvironmentalNumbers::of(vector);
+    let temporal = Scored::temporal(vector);
     let modified = scope_letter(vector.is_modified_scope_changed());
     let scope = scope_letter(vector.is_scope_changed());
     put_object(
         page,
-        ("base", Value::Object(&base)),
-        ("environmental", Value::Object(&environmental)),
-        line,
+        &Explained { cvss },
         &[
+            ("base", Value::BaseV3(base)),
+            ("environmental", Value::EnvironmentalV3(environmental)),
+            ("line", Value::Line(line)),
             ("modifiedScope", Value::Scalar(Scalar::Text(modified))),
             ("scope", Value::Scalar(Scalar::Text(scope))),
             ("score", Value::Scalar(Scalar::Tenths(tenths))),
-            ("severity", Value::Severity(cvss, tenths)),
-            ("temporal", Value::Object(&temporal)),
-            ("vector", Value::Text(cvss)),
-            ("version", Value::Version(cvss)),
+            ("severity", Value::Severity(tenths)),
+            ("temporal", Value::TemporalV3(temporal)),
+            ("vector", Value::Text),
+            ("version", Value::Version),
             ("weights", Value::WeightsV3(vector)),
         ],
     );
@@ -59,9 +59,9 @@ fn scope_letter(changed: bool) -> &'static str
     if changed { "C" } else { "U" }
 }
 
-fn base(cvss: &Cvss, numbers: BaseNumbers) -> [Member; 6]
-    ensures text { map member_view result ≡ base_members cvss.now numbers }
-    ensures room { members_room result ≤ 300 }
+pub(crate) fn base(cvss: &Cvss, numbers: BaseNumbers) -> [Member<'static>; 6]
+    ensures text { members_view result ≡ base_members cvss.now numbers }
+    ensures room { rooms member_room result ≤ 300 }
 {
     let scored = numbers.scored;
     [
@@ -74,9 +74,9 @@ fn base(cvss: &Cvss, numbers: BaseNumbers) -> [Member; 6]
     ]
 }
 
-fn temporal(cvss: &Cvss, scored: Scored) -> [Member; 3]
-    ensures text { map member_view result ≡ scored_members cvss.now scored }
-    ensures room { members_room result ≤ 300 }
+pub(crate) fn temporal(cvss: &Cvss, scored: Scored) -> [Member<'static>; 3]
+    ensures text { members_view result ≡ scored_members cvss.now scored }
+    ensures room { rooms member_room result ≤ 300 }
 {
     [
         ("number", Scalar::Decimal(scored.number)),
@@ -85,9 +85,9 @@ fn temporal(cvss: &Cvss, scored: Scored) -> [Member; 3]
     ]
 }
 
-fn environmental(cvss: &Cvss, numbers: EnvironmentalNumbers) -> [Member; 8]
-    ensures text { map member_view result ≡ environmental_members cvss.now numbers }
-    ensures room { members_room result ≤ 500 }
+pub(crate) fn environmental(cvss: &Cvss, numbers: EnvironmentalNumbers) -> [Member<'static>; 8]
+    ensures text { members_view result ≡ environmental_members cvss.now numbers }
+    ensures room { rooms member_room result ≤ 500 }
 {
     let exploitability = numbers.exploitability;
     let scored = numbers.scored;
@@ -103,26 +103,32 @@ fn environmental(cvss: &Cvss, numbers: EnvironmentalNumbers) -> [Member; 8]
     ]
 }
 
-/// The metrics that weigh, which are all but the scopes, in the order of their names.
-pub(crate) const WEIGHING_BY_NAME: [MetricType; 20] = [
-    A, AC, AR, AV, C, CR, E, I, IR, MA, MAC, MAV, MC, MI, MPR, MUI, PR, RC, RL, UI,
+/// The metrics, in the order of their names.
+pub(crate) const METRICS: [MetricType; 22] = [
+    A, AC, AR, AV, C, CR, E, I, IR, MA, MAC, MAV, MC, MI, MPR, MS, MUI, PR, RC, RL, S, UI,
 ];
 
-impl Table for Vector {
-    type Key = MetricType;
-
-    ghost text_at = { λ vector kind. weight_member (weights_of vector) kind };
-
-    /// What a metric weighs.
-    fn member(&self, kind: MetricType) -> Member {
-        (kind.name(), weight(self, kind))
-    }
+/// What each metric of a vector weighs, which the scopes don't.
+#[derive(Drop)]
+pub(crate) struct Weights<'v> {
+    pub(crate) vector: &'v Vector,
 }
 
-/// What a metric weighs; 0 for a scope.
-fn weight(vector: &Vector, kind: MetricType) -> Scalar
-    ensures { result
-        ≡ Decimal (pos (unwrap_or (weight_in (weights_of vector.now) kind) 0 * 100_000)) }
-{
-    Scalar::Decimal(ten_millionths(vector.weight(kind).unwrap_or(0)))
+impl Members<MetricType> for Weights<'_> {
+    ghost text_at = { λ weights kind. weight_member (weights_of weights.vector.now) kind };
+
+    ghost room_at = { λ _ _. 44 };
+
+    fn put_at(&self, page: &mut Page, later: bool, kind: MetricType) -> bool {
+        let Some(weight) = self.vector.weight(kind) else {
+            return later;
+        };
+        put_member(
+            page,
+            later,
+            kind.name(),
+            Scalar::Decimal(ten_millionths(weight)),
+        );
+        true
+    }
 }

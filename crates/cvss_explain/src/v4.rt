@@ -8,12 +8,12 @@ ghost use Rattle.cvss_v4.specs.Vector.{v4};
 
 mod effective;
 
-use crate::groups::{fraction, levels};
-use crate::parts::{Value, put_object};
+use crate::groups::fraction;
+use crate::parts::{Explained, Value};
 use cvss_any::Cvss;
-use cvss_json_write::{Page, Scalar};
+use cvss_json_write::{Page, Scalar, put_object};
 use cvss_v4::{Nomenclature, Vector};
-pub(crate) use effective::BY_NAME;
+pub(crate) use effective::{EFFECTIVE, Letters};
 
 /// Writes why a complete vector has its score.
 pub(crate) fn put_explanation(
@@ -28,25 +28,25 @@ pub(crate) fn put_explanation(
     ensures { IsExplanationText line cvss.now vector.now tenths page.new }
 {
     let explanation = vector.explanation();
-    let class = levels(&explanation.class);
     let mean = fraction(explanation.mean, 504_000);
     let number = fraction(explanation.number, 504_000);
     let nomenclature = nomenclature_text(vector.nomenclature());
     put_object(
         page,
-        ("effective", Value::Letters(&explanation.effective)),
-        ("groups", Value::Groups(&explanation)),
-        line,
+        &Explained { cvss },
         &[
-            ("macroVector", Value::Levels(&class)),
+            ("effective", Value::Letters(explanation.effective)),
+            ("groups", Value::Groups(&explanation)),
+            ("line", Value::Line(line)),
+            ("macroVector", Value::Class(explanation.class)),
             ("mean", Value::Scalar(mean)),
             ("nomenclature", Value::Scalar(Scalar::Text(nomenclature))),
             ("number", Value::Scalar(number)),
             ("score", Value::Scalar(Scalar::Tenths(tenths))),
-            ("severity", Value::Severity(cvss, tenths)),
+            ("severity", Value::Severity(tenths)),
             ("value", Value::Scalar(Scalar::Tenths(explanation.value))),
-            ("vector", Value::Text(cvss)),
-            ("version", Value::Version(cvss)),
+            ("vector", Value::Text),
+            ("version", Value::Version),
         ],
     );
 }

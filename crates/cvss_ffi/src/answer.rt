@@ -12,7 +12,7 @@ use crate::refusal::read;
 use cvss_any::{Cvss, Message};
 use cvss_base::TENTH;
 use cvss_base::tenths::text_of;
-use cvss_json_names::put_vector;
+use cvss_json_record::put_vector;
 use cvss_json_write::Page;
 
 /// Writes the answer to a text.

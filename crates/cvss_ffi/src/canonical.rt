@@ -9,7 +9,7 @@ ghost use Rattle.cvss_ffi.specs.Buffer.{IsWritten};
 
 use crate::buffer::write;
 use cvss_any::{Cvss, TextBuffer};
-use cvss_json_names::put_vector;
+use cvss_json_record::put_vector;
 use cvss_json_write::Page;
 use cvss_text::print::{Printed, text_after};
 

@@ -12,7 +12,7 @@ use crate::canonical::write_canonical;
 use crate::empty::{empty_v2, empty_v3, empty_v4};
 use crate::v3;
 use cvss_any::Cvss;
-use cvss_json_names::spelled;
+use cvss_json_record::spelled;
 use cvss_text::print::Printed;
 
 /// How a metric of CVSS v2 is spelled that is not defined.

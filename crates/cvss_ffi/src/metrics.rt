@@ -6,7 +6,7 @@ ghost use Rattle.cvss_ffi.specs.Metrics.{metric_of, metrics_at, metrics_in_order
 
 use crate::buffer::write;
 use cvss_any::Cvss;
-use cvss_json_names::spelled;
+use cvss_json_record::spelled;
 use cvss_text::print::Printed;
 
 /// A metric of a vector. Each text is in eight bytes, with bytes 0 after it.

@@ -19,7 +19,7 @@ use cvss_any::Cvss;
 use cvss_base::v2::MetricType as V2;
 use cvss_base::v3::MetricType as V3;
 use cvss_base::v4::MetricType as V4;
-use cvss_json_names::spelled;
+use cvss_json_record::spelled;
 use cvss_text::print::Printed;
 
 /// The version of a vector, its published score, and the value of each of its metrics.

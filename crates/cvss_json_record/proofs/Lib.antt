@@ -1,3 +1,3 @@
-pub mod PlainLemmas
-mod ReportingLemmas
+mod RowTables
+mod ShortLemmas
 pub mod WordLemmas

@@ -13,11 +13,11 @@ use Rattle.cvss_base.specs.declared.v3.MetricType as type_v3
 use Rattle.cvss_base.specs.declared.v3.MetricType.TheVariants as kind_v3
 use Rattle.cvss_base.specs.declared.v4.MetricType as type_v4
 use Rattle.cvss_base.specs.declared.v4.MetricType.TheVariants as kind_v4
-use Rattle.cvss_json_names.specs.Versions.{version_of}
-use Rattle.cvss_json_names.specs.Words.{Row, word_in}
-use Rattle.cvss_json_names.specs.WordsV2 as words_v2
-use Rattle.cvss_json_names.specs.WordsV3 as words_v3
-use Rattle.cvss_json_names.specs.WordsV4 as words_v4
+use Rattle.cvss_json_record.specs.Versions.{version_of}
+use Rattle.cvss_json_record.specs.Words.{Row, word_in}
+use Rattle.cvss_json_record.specs.WordsV2 as words_v2
+use Rattle.cvss_json_record.specs.WordsV3 as words_v3
+use Rattle.cvss_json_record.specs.WordsV4 as words_v4
 use Rattle.cvss_json_record.specs.Fields.{name_of}
 use Rattle.cvss_json_record.specs.Groups.{tenths_at}
 use Rattle.cvss_json_record.specs.Record.{Expected, text, score, expected_of, rating_expected, rating_word, spelled_at, word_expected}

@@ -6,9 +6,9 @@ use Rattle.cvss_any.specs.declared.vector.Cvss.TheVariants.{CvssV20, CvssV30, Cv
 use Rattle.cvss_base.specs.declared.v2.MetricType.TheVariants as kind_v2
 use Rattle.cvss_base.specs.declared.v3.MetricType.TheVariants as kind_v3
 use Rattle.cvss_base.specs.declared.v4.MetricType.TheVariants as kind_v4
-use Rattle.cvss_json_names.specs.WordsV2 as words_v2
-use Rattle.cvss_json_names.specs.WordsV3 as words_v3
-use Rattle.cvss_json_names.specs.WordsV4 as words_v4
+use Rattle.cvss_json_record.specs.WordsV2 as words_v2
+use Rattle.cvss_json_record.specs.WordsV3 as words_v3
+use Rattle.cvss_json_record.specs.WordsV4 as words_v4
 use Rattle.cvss_json_record.specs.Groups.{score_member, severity_member}
 use Rattle.cvss_json_record.specs.declared.field.Field.{Field}
 use Rattle.cvss_json_record.specs.declared.field.Field.TheVariants.{V2, V3, V4, Score, Rating, Text, Version}

@@ -1,5 +1,10 @@
 pub mod Fields
 pub mod Groups
 pub mod Record
+pub mod Versions
+pub mod Words
+pub mod WordsV2
+pub mod WordsV3
+pub mod WordsV4
 pub mod laws
 pub mod private

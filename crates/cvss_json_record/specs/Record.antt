@@ -11,11 +11,11 @@ use Rattle.cvss_json_write.specs.Json.{Member, object_text, string_text, tenths_
 use Rattle.cvss_v2.specs.Vector.{v2}
 use Rattle.cvss_v3.specs.Vector.{v3}
 use Rattle.cvss_v4.specs.Vector.{v4}
-use Rattle.cvss_json_names.specs.Versions.{version_of}
-use Rattle.cvss_json_names.specs.Words.{Row, word_in}
-use Rattle.cvss_json_names.specs.WordsV2 as words_v2
-use Rattle.cvss_json_names.specs.WordsV3 as words_v3
-use Rattle.cvss_json_names.specs.WordsV4 as words_v4
+use Rattle.cvss_json_record.specs.Versions.{version_of}
+use Rattle.cvss_json_record.specs.Words.{Row, word_in}
+use Rattle.cvss_json_record.specs.WordsV2 as words_v2
+use Rattle.cvss_json_record.specs.WordsV3 as words_v3
+use Rattle.cvss_json_record.specs.WordsV4 as words_v4
 use Rattle.cvss_json_record.specs.Fields.{fields_of, name_of}
 use Rattle.cvss_json_record.specs.Groups.{AreScoresOf, has_group, tenths_at}
 use Rattle.cvss_json_record.specs.declared.expected.Expected as code

@@ -5,9 +5,11 @@ ghost use Rattle.std.specs.Option.{option_copied};
 ghost use Rattle.cvss_json_record.specs.Record.{expected_of, expected_view, spelled_at, word_expected};
 
 use crate::field::Field;
+use crate::names::{Row, v2, v3, v4, word_in};
 use crate::score::{Scores, rating};
+use crate::text::spelled;
+use crate::versions::version;
 use cvss_any::Cvss;
-use cvss_json_names::{Row, spelled, v2, v3, v4, version, word_in};
 
 /// What a member says.
 #[derive(Clone, Copy)]

@@ -58,14 +58,16 @@ impl Group {
         }
     }
 
-    fn is_in_v2(self, vector: &v2::Vector) -> bool
+    /// Whether a vector of CVSS v2 has an optional metric of the group.
+    pub fn is_in_v2(self, vector: &v2::Vector) -> bool
         ensures { result ≡ has_group (CvssV20 vector.now) self }
     {
         v2::Vector::printed().iter().any(|kind| self.is_given_by(kind.group())
             && vector.with_slash(*kind).is_some())
     }
 
-    fn is_in_v3(self, vector: &v3::Vector) -> bool
+    /// Whether a vector of CVSS v3 has an optional metric of the group.
+    pub fn is_in_v3(self, vector: &v3::Vector) -> bool
         ensures { result ≡ has_group (CvssV30 vector.now) self }
     {
         v3::Vector::printed().iter().any(|kind| self.is_given_by(kind.group())

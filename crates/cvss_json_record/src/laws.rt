@@ -1,29 +1,41 @@
-//! Laws of records, each the contract of a function that does nothing. A proof that needs a law calls
-//! it.
+//! Laws of names, words and records, each the contract of a function that does nothing. A proof that
+//! needs a law calls it.
 
-ghost use Rattle.std.specs.Prelude.{◌≡◌, ℕ, List};
-ghost use Rattle.cvss_any.specs.declared.vector.Cvss.{Cvss};
+ghost use Rattle.std.specs.Prelude.{map};
+ghost use Rattle.cvss_base.specs.declared.v2.MetricType as kind_v2;
+ghost use Rattle.cvss_base.specs.declared.v3.MetricType as kind_v3;
+ghost use Rattle.cvss_base.specs.declared.v4.MetricType as kind_v4;
 ghost use Rattle.cvss_base.specs.Equality.{ClonesAlways, ClonesByValue, EqualsByValue};
 ghost use Rattle.cvss_base.specs.V4Types.{declared};
-ghost use Rattle.cvss_laws.specs.any.GivenBack.{IsGivenBack};
 ghost use Rattle.cvss_json_record.specs.Fields.{fields_v2, fields_v3, fields_v4};
-ghost use Rattle.cvss_json_record.specs.Record.{IsRecordText};
 ghost use Rattle.cvss_json_record.specs.declared.field.Field.TheVariants.{V2, V3, V4};
+ghost use Rattle.cvss_json_record.specs.Words.{AreRowsOf, HaveOneName};
+ghost use Rattle.cvss_json_record.specs.WordsV2 as v2;
+ghost use Rattle.cvss_json_record.specs.WordsV3 as v3;
+ghost use Rattle.cvss_json_record.specs.WordsV4 as v4;
 ghost use Rattle.cvss_json_record.specs.laws.Members.{AreMembers};
 ghost use Rattle.cvss_v2_metric.specs.Table as table_v2;
 ghost use Rattle.cvss_v3_metric.specs.Table as table_v3;
+ghost use Rattle.cvss_v4_metric.specs.Table as table_v4;
 
 use crate::{Expected, Field, Group, Scores};
-use cvss_laws::any::texts_denote_one_vector;
 
-/// A record determines its vector: two vectors that their own texts give back, as each vector is that
-/// was read from a text, are equal if one text is the record of both.
-pub fn records_report_vectors()
-    ensures { (left right : Cvss) → (text : List ℕ) → IsGivenBack left → IsGivenBack right
-        → IsRecordText left text → IsRecordText right text → left ≡ right }
-{
-    texts_denote_one_vector();
-}
+/// Each value of a metric has a word, and no other value of the metric has it.
+pub fn words_report_values()
+    ensures v2 { (kind : kind_v2.MetricType) → AreRowsOf
+        (map (λ row. row.0) (table_v2.rows_of kind)) (v2.words_of kind) }
+    ensures v3 { (kind : kind_v3.MetricType) → AreRowsOf
+        (map (λ row. row.0) (table_v3.rows_of kind)) (v3.words_of kind) }
+    ensures v4 { (kind : kind_v4.MetricType) → AreRowsOf
+        (table_v4.spellings_of kind) (v4.words_of kind) }
+{}
+
+/// Each metric of a version has a member, and no other metric of the version has it.
+pub fn members_report_metrics()
+    ensures v2 { HaveOneName v2.member_of table_v2.printed }
+    ensures v3 { HaveOneName v3.member_of table_v3.printed }
+    ensures v4 { HaveOneName v4.member_of table_v4.printed }
+{}
 
 /// The members of each version are in the order of their names, no two have one name, and each metric
 /// has one.

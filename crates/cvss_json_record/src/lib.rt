@@ -1,13 +1,17 @@
 //! CVSS records: the JSON objects in which advisories give a vector, its metrics and its scores, by
-//! FIRST's JSON schemas of CVSS v2.0, v3.0, v3.1 and v4.0. [`put_record`] writes one without memory.
+//! FIRST's JSON schemas of CVSS v2.0, v3.0, v3.1 and v4.0. [`put_record`] writes one without memory;
+//! [`names`] has the schemas' names and words.
 #![tactic(auto)]
 
 mod expected;
 mod field;
 mod group;
 pub mod laws;
+pub mod names;
 mod record;
 mod score;
+mod text;
+mod versions;
 
 use cvss_v2 as v2;
 use cvss_v3 as v3;
@@ -16,3 +20,5 @@ pub use field::{Field, fields_of};
 pub use group::Group;
 pub use record::put_record;
 pub use score::{Scores, rating};
+pub use text::{put_vector, spelled};
+pub use versions::version;

@@ -1,19 +1,17 @@
 //! The record of a vector, as JSON text.
 
-ghost use Rattle.std.specs.Prelude.{◌≡◌, ◌+◌, ◌≤◌, [], ◌++◌, List, false, IfSome, codes, filter_map, length, option_and_then, option_map};
-ghost use Rattle.std.specs.List.{cons_option};
+ghost use Rattle.std.specs.Prelude.{◌≡◌, ◌≤◌, [], IfSome, option_and_then, option_map};
 ghost use Rattle.cvss_any.specs.Answers.{HasScore};
-ghost use Rattle.cvss_json_write.specs.Json.{Member, rest_of_object};
 ghost use Rattle.cvss_json_write.specs.Scalars.{scalar_room, scalar_text};
 ghost use Rattle.cvss_json_record.specs.Record.{IsRecordText, expected_text, has_member, member_at, said_at};
-ghost use Rattle.cvss_json_record.specs.private.Room.{field_room, fields_room};
+ghost use Rattle.cvss_json_record.specs.private.Room.{field_room};
 
 use crate::expected::{Expected, expected_of};
 use crate::field::{Field, fields_of};
 use crate::score::Scores;
+use crate::text::put_vector;
 use cvss_any::Cvss;
-use cvss_json_names::put_vector_member;
-use cvss_json_write::{Page, Scalar, put_member};
+use cvss_json_write::{Members, Page, Scalar, put_member, put_name, put_object};
 
 /// Writes the record of a vector that has a score: its version, its text, the word of each metric that
 /// it has, its scores and, except in CVSS v2, their ratings. The members are in the order of their
@@ -23,48 +21,44 @@ pub fn put_record(page: &mut Page, cvss: &Cvss)
     requires empty { page.old ≡ [] }
     ensures { IsRecordText cvss.now page.new }
 {
-    page.push(b"{");
-    put_fields(page, cvss, &Scores::of(cvss), fields_of(cvss));
-    page.push(b"}");
+    let scores = Scores::of(cvss);
+    put_object(page, &Recorded { cvss, scores }, fields_of(cvss));
 }
 
-/// Writes those of these members that the record has.
-fn put_fields(page: &mut Page, cvss: &Cvss, scores: &Scores, fields: &[Field])
-    requires { length page.old + fields_room fields.now ≤ 4096 }
-    ensures text { page.new ++ codes "}" ≡ page.old
-        ++ rest_of_object false (filter_map (member_at cvss.now scores.now) fields.now) }
-    ensures room { length page.new ≤ length page.old + fields_room fields.now }
-{
-    let mut later = false;
-    for field in fields {
-        later = put_field(page, later, cvss, scores, *field);
-    }
+/// A vector that has these scores.
+#[derive(Drop)]
+struct Recorded<'v> {
+    cvss: &'v Cvss,
+    scores: Scores,
 }
 
-/// Writes a member, if the record has it, and returns whether members are written now.
-#[tactic(auto, using(crate::proofs::WordLemmas::name_short))]
-fn put_field(page: &mut Page, later: bool, cvss: &Cvss, scores: &Scores, field: Field) -> bool
-    requires { length page.old + field_room field ≤ 4096 }
-    ensures text { (more : List Member) → page.new ++ rest_of_object result more
-        ≡ page.old ++ rest_of_object later (cons_option (member_at cvss.now scores.now field) more) }
-    ensures room { length page.new ≤ length page.old + field_room field }
-{
-    if let Field::Text = field {
-        put_vector_member(page, later, "vectorString", cvss);
-        return true;
-    }
-    match value_at(cvss, scores, field) {
-        Some(value) => {
-            put_member(page, later, field.name(), value);
-            true
+impl Members<Field> for Recorded<'_> {
+    ghost text_at = { λ recorded field. member_at recorded.cvss.now recorded.scores field };
+
+    ghost room_at = { λ _ field. field_room field };
+
+    #[tactic(auto, using(crate::proofs::WordLemmas::name_short))]
+    fn put_at(&self, page: &mut Page, later: bool, field: Field) -> bool {
+        if let Field::Text = field {
+            put_name(page, later, "vectorString");
+            page.push(b"\"");
+            put_vector(page, self.cvss);
+            page.push(b"\"");
+            return true;
         }
-        None => later,
+        match value_at(self.cvss, &self.scores, field) {
+            Some(value) => {
+                put_member(page, later, field.name(), value);
+                true
+            }
+            None => later,
+        }
     }
 }
 
 /// The value of a member, the vector's text aside, if the record has it.
 #[tactic(auto, using(crate::proofs::WordLemmas::text_short))]
-fn value_at(cvss: &Cvss, scores: &Scores, field: Field) -> Option<Scalar>
+fn value_at(cvss: &Cvss, scores: &Scores, field: Field) -> Option<Scalar<'static>>
     ensures text { option_map scalar_text result
         ≡ option_and_then expected_text (said_at cvss.now scores.now field) }
     ensures room { IfSome result (λ value. scalar_room value ≤ 32) }

@@ -6,5 +6,6 @@ mod text;
 mod tree;
 mod write;
 
+pub use text::text_of;
 pub use tree::{Tree, put_tree};
-pub use write::{write_object, write_tree_object};
+pub use write::write_tree_object;

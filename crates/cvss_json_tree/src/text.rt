@@ -1,7 +1,8 @@
 //! The text of a JSON value, after what waits.
 
-ghost use Rattle.std.specs.Prelude.{◌≡◌, ◌++◌, [], ◌∷◌, OnOk};
+ghost use Rattle.std.specs.Prelude.{◌≡◌, ◌++◌, [], ◌∷◌, IfOk, OnOk};
 ghost use Rattle.cvss_json_tree.specs.Trees.{members_view, tree_view, trees_view};
+ghost use Rattle.cvss_json_tree.specs.Texts.{IsTextOf};
 ghost use Rattle.cvss_json_tree.specs.private.Pushes.{PushesText};
 ghost use Rattle.json.specs.Print.{quoted};
 ghost use Rattle.serde_json.specs.Data.{array, object, string};
@@ -99,14 +100,23 @@ fn push_text(alloc: Global, text: &str, answers: &mut OutputBuffer) -> Result<()
 }
 
 /// Appends the text of a value.
-pub(crate) fn push_value(
-    alloc: Global,
-    value: &Value,
-    answers: &mut OutputBuffer,
-) -> Result<(), AllocError>
+fn push_value(alloc: Global, value: &Value, answers: &mut OutputBuffer) -> Result<(), AllocError>
     ensures { OnOk result (PushesText (view value.now)
         answers.old.bytes.items answers.new.bytes.items) }
 {
-    let text = value.to_vec(alloc)?;
+    let text = text_of(alloc, value)?;
     answers.push(&text)
+}
+
+/// The text of a value, without spaces.
+///
+/// # Errors
+///
+/// Out of memory.
+#[tactic(auto, using(crate::proofs::OneLineLemmas::one_line))]
+pub fn text_of(alloc: Global, value: &Value) -> Result<Vec<u8>, AllocError>
+    ensures { IfOk result (λ text. IsTextOf (view value.now) text.items) }
+{
+    let text = value.to_vec(alloc)?;
+    Ok(text)
 }

@@ -4,30 +4,12 @@ ghost use Rattle.std.specs.Prelude.{OnOk};
 ghost use Rattle.cvss_json_tree.specs.Texts.{WritesObject};
 ghost use Rattle.cvss_json_tree.specs.Trees as trees;
 ghost use Rattle.serde_json.specs.Data.{object};
-ghost use Rattle.serde_json.specs.View.{members_view};
 
-use crate::text::{push_members, push_value};
+use crate::text::push_members;
 use crate::tree::Tree;
 use cvss_lines::OutputBuffer;
-use serde_json::{Map, Value};
+use serde_json::Map;
 use std::alloc::{AllocError, Global};
-
-/// Writes an object as JSON without spaces, and a byte 10.
-///
-/// # Errors
-///
-/// Out of memory.
-pub fn write_object(
-    alloc: Global,
-    members: Map<String, Value>,
-    answers: &mut OutputBuffer,
-) -> Result<(), AllocError>
-    ensures { OnOk result (WritesObject (object (members_view members.entries))
-        answers.old.bytes.items answers.new.bytes.items) }
-{
-    push_value(alloc, &Value::Object(members), answers)?;
-    answers.push(b"\n")
-}
 
 /// Writes an object of which parts may be borrowed, as JSON without spaces, and a byte 10.
 ///

@@ -1,5 +1,6 @@
 -- JSON text without spaces: RFC 8259. Its strings are ones that need no escape.
-use Rattle.std.specs.Prelude.{◌≡◌, ℕ, Bool, true, false, ◌+◌, ◌*◌, ◌/◌, ◌%◌, nat_eq, if◌then◌else◌, ℤ, pos, int_lt, unsigned_abs, List, [], ◌∷◌, ◌++◌, codes, map}
+use Rattle.std.specs.Prelude.{◌≡◌, ℕ, Bool, true, false, ◌+◌, ◌*◌, ◌/◌, ◌%◌, nat_eq, if◌then◌else◌, ℤ, pos, int_lt, unsigned_abs, List, [], ◌∷◌, ◌++◌, codes, map, Option}
+use Rattle.std.specs.List.{cons_option}
 use Rattle.std.specs.Fmt.{decimal}
 
 -- a string
@@ -31,6 +32,11 @@ object_text members = 123 ∷ rest_of_object false members
 abbrev pub WritesMembers : Bool → List Member → List ℕ → List ℕ → Type 0
 WritesMembers later members old new =
     (more : List Member) → new ++ rest_of_object true more ≡ old ++ rest_of_object later (members ++ more)
+
+-- a member, or none, is written after a part of an object, and then members are there or none
+abbrev pub WritesMember : Bool → Option Member → Bool → List ℕ → List ℕ → Type 0
+WritesMember before member after old new =
+    (more : List Member) → new ++ rest_of_object after more ≡ old ++ rest_of_object before (cons_option member more)
 
 -- values that follow another, and the bracket after them
 abbrev pub further_values : List (List ℕ) → List ℕ

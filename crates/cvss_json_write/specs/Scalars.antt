@@ -1,15 +1,16 @@
 -- Values of members that are no objects or arrays, as the code has them.
-use Rattle.std.specs.Prelude.{ℕ, ◌+◌, List, [], ◌∷◌, codes, length}
+use Rattle.std.specs.Prelude.{ℕ, ◌+◌, ◌*◌, List, [], ◌∷◌, codes, flat_map, length}
 use Rattle.std.specs.Borrow.{Bor}
 use Rattle.std.specs.Fmt.{decimal}
 use Rattle.cvss_json_write.specs.Json.{Member, decimal_text, string_text, tenths_text}
 use Rattle.cvss_json_write.specs.declared.member.Scalar.{Scalar}
-use Rattle.cvss_json_write.specs.declared.member.Scalar.TheVariants.{Decimal, Tenths, Whole, Text, Null}
+use Rattle.cvss_json_write.specs.declared.member.Scalar.TheVariants.{Decimal, Tenths, Whole, Digits, Text, Null}
 
 abbrev pub scalar_text : Scalar → List ℕ
 scalar_text (Decimal count) = decimal_text count
 scalar_text (Tenths tenths) = tenths_text tenths
 scalar_text (Whole number) = decimal number
+scalar_text (Digits numbers) = string_text (flat_map decimal numbers.now)
 scalar_text (Text text) = string_text text.now
 scalar_text Null = codes "null"
 
@@ -22,10 +23,15 @@ abbrev pub scalar_room : Scalar → ℕ
 scalar_room (Decimal count) = 32
 scalar_room (Tenths tenths) = 32
 scalar_room (Whole number) = 20
+scalar_room (Digits numbers) = 2 + 20 * length numbers.now
 scalar_room (Text text) = 2 + length text.now
 scalar_room Null = 4
 
--- and for members
-abbrev pub members_room : List (Bor (List ℕ) × Scalar) → ℕ
-members_room [] = 0
-members_room (member ∷ members) = length member.0.now + scalar_room member.1 + 4 + members_room members
+-- and for a member
+abbrev pub member_room : Bor (List ℕ) × Scalar → ℕ
+member_room member = length member.0.now + scalar_room member.1 + 4
+
+-- the room for several items, where this is the room for each
+abbrev pub rooms : {X : Type 0} → (X → ℕ) → List X → ℕ
+rooms room [] = 0
+rooms room (item ∷ items) = room item + rooms room items

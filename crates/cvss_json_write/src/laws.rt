@@ -9,12 +9,12 @@ use crate::Scalar;
 
 /// A clone of a value is that value.
 pub fn clones_are_equal()
-    ensures scalar { (x clone : Scalar) → ⟦<Scalar as Clone>⟧.is_clone x clone → clone ≡ x }
+    ensures scalar { (x clone : Scalar) → ⟦<Scalar<'static> as Clone>⟧.is_clone x clone → clone ≡ x }
 {}
 
 /// Cloning a value takes no memory, so it never fails.
 pub fn values_are_cloned_without_memory()
-    ensures scalar { (x : Scalar) → ⟦<Scalar as Clone>⟧.is_infallible x }
+    ensures scalar { (x : Scalar) → ⟦<Scalar<'static> as Clone>⟧.is_infallible x }
 {}
 
 /// A decimal has exactly the value of its ten-millionths, at least one place, and no zero at the end of

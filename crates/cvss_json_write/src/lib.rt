@@ -5,5 +5,5 @@ pub mod laws;
 mod member;
 mod page;
 
-pub use member::{Member, Scalar, put_member, put_members, put_name, put_object_member};
+pub use member::{Member, Members, Scalar, Scalars, put_member, put_name, put_object};
 pub use page::Page;

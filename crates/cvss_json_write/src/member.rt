@@ -1,20 +1,23 @@
 //! Members of JSON objects, and objects of them.
 
-ghost use Rattle.std.specs.Prelude.{◌≡◌, ◌+◌, ◌≤◌, [], ◌∷◌, ◌++◌, true, length, map};
-ghost use Rattle.cvss_json_write.specs.Json.{WritesMembers, comma_if, object_text, string_text};
-ghost use Rattle.cvss_json_write.specs.Scalars.{member_view, members_room, scalar_room, scalar_text};
+ghost use Rattle.std.specs.Prelude.{◌≡◌, ◌+◌, ◌≤◌, [], ◌∷◌, ◌++◌, Some, length, map};
+ghost use Rattle.std.specs.List.{filter_map};
+ghost use Rattle.cvss_json_write.specs.Json.{Member as MemberText, WritesMember, WritesMembers, comma_if, object_text, string_text};
+ghost use Rattle.cvss_json_write.specs.Scalars.{member_room, member_view, rooms, scalar_room, scalar_text};
 
 use crate::page::Page;
 
 /// The value of a member.
 #[derive(Clone, Copy)]
-pub enum Scalar {
+pub enum Scalar<'a> {
     /// So many ten-millionths, as a decimal.
     Decimal(i64),
     /// So many tenths, as a decimal.
     Tenths(u8),
     /// A whole number.
     Whole(u64),
+    /// Whole numbers one after another, as a string.
+    Digits(&'a [u8]),
     /// A string that needs no escape.
     Text(&'static str),
     /// Null.
@@ -22,18 +25,24 @@ pub enum Scalar {
 }
 
 /// A member's name, which needs no escape, and its value.
-pub type Member = (&'static str, Scalar);
+pub type Member<'a> = (&'static str, Scalar<'a>);
 
-impl Scalar {
-    fn put(self, page: &mut Page)
+impl Scalar<'_> {
+    /// Writes the value.
+    pub fn put(self, page: &mut Page)
         requires { length page.old + scalar_room self ≤ 4096 }
-        ensures text { page.new ≡ page.old ++ scalar_text self }
-        ensures room { length page.new ≤ length page.old + scalar_room self }
+        ensures text { page.new ≡ page.old ++ scalar_text self.entry }
+        ensures room { length page.new ≤ length page.old + scalar_room self.entry }
     {
         match self {
             Scalar::Decimal(count) => page.decimal(count),
             Scalar::Tenths(tenths) => page.decimal(i64::from(tenths) * 1_000_000),
             Scalar::Whole(number) => page.whole(number),
+            Scalar::Digits(numbers) => {
+                page.push(b"\"");
+                page.digits(numbers);
+                page.push(b"\"");
+            }
             Scalar::Text(text) => {
                 page.push(b"\"");
                 page.push_text(text.as_bytes());
@@ -59,49 +68,62 @@ pub fn put_name(page: &mut Page, later: bool, name: &str)
 }
 
 /// Writes a member of an object, after a comma where members come before.
-pub fn put_member(page: &mut Page, later: bool, name: &str, value: Scalar)
+pub fn put_member(page: &mut Page, later: bool, name: &str, value: Scalar<'_>)
     requires { length page.old + length name.now + scalar_room value + 4 ≤ 4096 }
-    ensures text { WritesMembers later ((name.now, scalar_text value) ∷ []) page.old page.new }
-    ensures room { length page.new ≤ length page.old + length name.now + scalar_room value + 4 }
+    ensures text { WritesMembers later ((name.now, scalar_text value.entry) ∷ [])
+        page.old page.new }
+    ensures room { length page.new
+        ≤ length page.old + length name.now + scalar_room value.entry + 4 }
 {
     put_name(page, later, name);
     value.put(page);
 }
 
-/// Writes members of an object that come after others.
-pub fn put_members(page: &mut Page, members: &[Member])
-    requires { length page.old + members_room members.now ≤ 4096 }
-    ensures text { WritesMembers true (map member_view members.now) page.old page.new }
-    ensures room { length page.new ≤ length page.old + members_room members.now }
-{
-    for (name, value) in members {
-        put_member(page, true, name, *value);
-    }
+/// What has at most one member for each key.
+pub trait Members<K: Copy> {
+    ghost use Rattle.std.specs.Prelude.{ℕ, Option};
+
+    /// The member of a key, if there is one.
+    ghost text_at: { Self → K → Option MemberText };
+
+    /// No more bytes than these are written for it.
+    ghost room_at: { Self → K → ℕ };
+
+    /// Writes the member of a key, if there is one, after a comma where members come before. Says
+    /// whether members are written now.
+    fn put_at(&self, page: &mut Page, later: bool, key: K) -> bool
+        requires { length page.old + room_at self.now key ≤ 4096 }
+        ensures text { WritesMember later (text_at self.now key) result page.old page.new }
+        ensures room { length page.new ≤ length page.old + room_at self.now key };
 }
 
-/// Writes an object.
-fn put_object(page: &mut Page, members: &[Member])
-    requires { length page.old + members_room members.now + 2 ≤ 4096 }
-    ensures text { page.new ≡ page.old ++ object_text (map member_view members.now) }
-    ensures room { length page.new ≤ length page.old + members_room members.now + 2 }
+/// Writes the object of the members of these keys.
+pub fn put_object<K: Copy, T: Members<K>>(page: &mut Page, table: &T, keys: &[K])
+    requires { length page.old + rooms (T.room_at table.now) keys.now + 2 ≤ 4096 }
+    ensures text { page.new
+        ≡ page.old ++ object_text (filter_map (T.text_at table.now) keys.now) }
+    ensures room { length page.new ≤ length page.old + rooms (T.room_at table.now) keys.now + 2 }
 {
     page.push(b"{");
     let mut later = false;
-    for (name, value) in members {
-        put_member(page, later, name, *value);
-        later = true;
+    for key in keys {
+        later = table.put_at(page, later, *key);
     }
     page.push(b"}");
 }
 
-/// Writes a member whose value is an object, after a comma where members come before.
-pub fn put_object_member(page: &mut Page, later: bool, name: &str, members: &[Member])
-    requires { length page.old + length name.now + members_room members.now + 6 ≤ 4096 }
-    ensures text { WritesMembers later
-        ((name.now, object_text (map member_view members.now)) ∷ []) page.old page.new }
-    ensures room { length page.new
-        ≤ length page.old + length name.now + members_room members.now + 6 }
-{
-    put_name(page, later, name);
-    put_object(page, members);
+/// Members whose values are scalars.
+#[derive(Drop)]
+pub struct Scalars {}
+
+impl<'a> Members<Member<'a>> for Scalars {
+    ghost text_at = { λ _ member. Some (member_view member) };
+
+    ghost room_at = { λ _ member. member_room member };
+
+    fn put_at(&self, page: &mut Page, later: bool, member: Member<'a>) -> bool {
+        let (name, value) = member;
+        put_member(page, later, name, value);
+        true
+    }
 }

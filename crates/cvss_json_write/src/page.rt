@@ -1,6 +1,6 @@
 //! Text that is put together without memory.
 
-ghost use Rattle.std.specs.Prelude.{◌≡◌, ◌+◌, ◌%◌, ◌≤◌, ◌++◌, [], true, ltb, length, decimal};
+ghost use Rattle.std.specs.Prelude.{◌≡◌, ◌+◌, ◌*◌, ◌%◌, ◌≤◌, ◌++◌, [], true, ltb, length, decimal, flat_map};
 ghost use Rattle.std.specs.List.{list_all};
 ghost use Rattle.cvss_json_write.specs.Json.{decimal_text, places_text};
 
@@ -87,6 +87,17 @@ impl Page {
             self.whole(number / 10);
         }
         self.push(&[digit(number)]);
+    }
+
+    /// Writes whole numbers one after another.
+    pub fn digits(&mut self, numbers: &[u8])
+        requires { length self.old + 20 * length numbers.now ≤ 4096 }
+        ensures text { self.new ≡ self.old ++ flat_map decimal numbers.now }
+        ensures room { length self.new ≤ length self.old + 20 * length numbers.now }
+    {
+        for number in numbers {
+            self.whole(u64::from(*number));
+        }
     }
 
     /// Writes so many ten-millionths, as a decimal.

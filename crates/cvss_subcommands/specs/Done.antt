@@ -15,8 +15,8 @@ use Rattle.cvss_subcommands.specs.declared.requests.Request.{Request}
 use Rattle.cvss_subcommands.specs.declared.requests.Request.TheVariants.{Help, Version, Wrong, Run}
 use Rattle.cvss_subcommands.specs.declared.subcommand.Subcommand.{Subcommand}
 use Rattle.cvss_subcommands.specs.declared.subcommand.Subcommand.TheVariants.{Score, Find, Explain, Set, Triage, Audit}
-use Rattle.cvss_explain_json.specs.Answers as json
-use Rattle.cvss_explain_text.specs.Answers as text
+use Rattle.cvss_explain_answers.specs.Json as json
+use Rattle.cvss_explain_answers.specs.Text as text
 use Rattle.cvss_find.specs.Answers.{find_rule}
 use Rattle.cvss_find.specs.declared.form.Form.{Form}
 use Rattle.cvss_find.specs.declared.form.Form.TheVariants.{Annotated, Located, Object}

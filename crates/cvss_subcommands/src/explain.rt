@@ -2,14 +2,13 @@
 
 ghost use Rattle.cvss_subcommands.specs.Done.{explain_ends};
 ghost use Rattle.cvss_subcommands.specs.private.OneText.{explained_by_one_text};
-ghost use Rattle.cvss_explain_json.specs.Answers as json;
-ghost use Rattle.cvss_explain_text.specs.Answers as text;
+ghost use Rattle.cvss_explain_answers.specs.Json as json;
+ghost use Rattle.cvss_explain_answers.specs.Text as text;
 ghost use Rattle.cvss_lines.specs.Runs.{Ends};
 ghost use Rattle.cvss_program.specs.Operands.{ServesAll};
 
 use crate::flags::Flags;
-use cvss_explain_json::Explaining;
-use cvss_explain_text::answer_explained;
+use cvss_explain_answers::{Explaining, answer_explained};
 use cvss_lines::{OutputBuffer, RunFault, Summary, serve};
 use cvss_program::{EachLine, Files, LineAnswer, Served, Task, WatchedReader, serve_operands};
 use std::alloc::{AllocError, Global};

@@ -1,49 +1,65 @@
 -- What members say, as the code has it.
-use Rattle.std.specs.Prelude.{ℕ, ◌+◌, ◌*◌, List, [], ◌∷◌, length, map}
+use Rattle.std.specs.Prelude.{ℕ, ◌+◌, ◌*◌, List, length, Option, Some, option_map}
 use Rattle.std.specs.Borrow.{Bor}
+use Rattle.std.specs.Fmt.{decimal}
+use Rattle.std.specs.List.{filter_map}
 use Rattle.cvss_any.specs.Answers.{rating_by, score_of_tenths, text_of}
+use Rattle.cvss_any.specs.declared.vector.Cvss.{Cvss}
 use Rattle.cvss_base.specs.SeverityText.{text_of as severity_text}
 use Rattle.cvss_explain.specs.LettersV4.{effective_members}
 use Rattle.cvss_explain.specs.V2 as v2
 use Rattle.cvss_explain.specs.V3 as v3
-use Rattle.cvss_explain.specs.V4.{digits, groups_text}
+use Rattle.cvss_explain.specs.V4.{class_text, groups_text}
 use Rattle.cvss_explain.specs.declared.parts.Value.{Value}
-use Rattle.cvss_explain.specs.declared.parts.Value.TheVariants.{Scalar, Object, Levels, Severity, Text, Version, WeightsV2, WeightsV3, Letters, Groups}
-use Rattle.cvss_json_names.specs.Versions.{version_of}
+use Rattle.cvss_explain.specs.declared.parts.Value.TheVariants.{Scalar, Class, Line, Severity, Text, Version, BaseV2, TemporalV2, EnvironmentalV2, WeightsV2, BaseV3, TemporalV3, EnvironmentalV3, WeightsV3, Letters, Groups}
+use Rattle.cvss_json_record.specs.Versions.{version_of}
 use Rattle.cvss_json_write.specs.Json.{Member, object_text, string_text}
-use Rattle.cvss_json_write.specs.Scalars.{member_view, members_room, scalar_room, scalar_text}
+use Rattle.cvss_json_write.specs.Scalars.{member_view, scalar_room, scalar_text}
+use Rattle.cvss_json_write.specs.declared.member.Scalar as scalar
 use Rattle.cvss_v3.specs.VectorWeights.{weights_of}
 
-abbrev pub value_text : Value → List ℕ
-value_text (Scalar scalar) = scalar_text scalar
-value_text (Object members) = object_text (map member_view members.now)
-value_text (Levels levels) = string_text (digits levels.now)
-value_text (Severity cvss tenths) = string_text (severity_text (rating_by cvss.now (score_of_tenths tenths)))
-value_text (Text cvss) = string_text (text_of cvss.now)
-value_text (Version cvss) = string_text (version_of cvss.now)
-value_text (WeightsV2 vector) = object_text (v2.weights_members vector.now)
-value_text (WeightsV3 vector) = object_text (v3.weights_members (weights_of vector.now))
-value_text (Letters effective) = object_text (effective_members effective.now)
-value_text (Groups explanation) = groups_text explanation.now.class explanation.now.value explanation.now.groups
+-- the members of an object of scalars
+abbrev pub members_view : List (Bor (List ℕ) × scalar.Scalar) → List Member
+members_view members = filter_map (λ member. Some (member_view member)) members
 
--- a member's name, and the text of what it says
-abbrev pub part_view : Bor (List ℕ) × Value → Member
-part_view part = (part.0.now, value_text part.1)
+-- what is said of a vector
+abbrev pub value_text : Cvss → Value → Option (List ℕ)
+value_text cvss (Scalar scalar) = Some (scalar_text scalar)
+value_text cvss (Class class) = Some (string_text (class_text class))
+value_text cvss (Line line) = option_map decimal line
+value_text cvss (Severity tenths) = Some (string_text (severity_text (rating_by cvss (score_of_tenths tenths))))
+value_text cvss Text = Some (string_text (text_of cvss))
+value_text cvss Version = Some (string_text (version_of cvss))
+value_text cvss (BaseV2 numbers) = Some (object_text (v2.base_members numbers))
+value_text cvss (TemporalV2 numbers) = Some (object_text (v2.temporal_members numbers))
+value_text cvss (EnvironmentalV2 numbers) = Some (object_text (v2.environmental_members numbers))
+value_text cvss (WeightsV2 vector) = Some (object_text (v2.weights_members vector.now))
+value_text cvss (BaseV3 numbers) = Some (object_text (v3.base_members cvss numbers))
+value_text cvss (TemporalV3 scored) = Some (object_text (v3.scored_members cvss scored))
+value_text cvss (EnvironmentalV3 numbers) = Some (object_text (v3.environmental_members cvss numbers))
+value_text cvss (WeightsV3 vector) = Some (object_text (v3.weights_members (weights_of vector.now)))
+value_text cvss (Letters effective) = Some (object_text (effective_members effective))
+value_text cvss (Groups explanation) = Some (groups_text explanation.now.class explanation.now.value explanation.now.groups)
+
+-- a member's name, and what it says
+abbrev pub part_member : Cvss → Bor (List ℕ) × Value → Option Member
+part_member cvss part = option_map (λ text. (part.0.now, text)) (value_text cvss part.1)
 
 -- no more bytes than these are written for a value
 abbrev pub value_room : Value → ℕ
 value_room (Scalar scalar) = scalar_room scalar
-value_room (Object members) = members_room members.now + 2
-value_room (Levels levels) = 20 * length levels.now + 2
-value_room (Severity _ _) = 10
-value_room (Text _) = 352
-value_room (Version _) = 30
+value_room (Class _) = 122
+value_room (Line _) = 20
+value_room (Severity _) = 10
+value_room Text = 352
+value_room Version = 30
 value_room (WeightsV2 _) = 618
-value_room (WeightsV3 _) = 882
+value_room (WeightsV3 _) = 970
 value_room (Letters _) = 662
 value_room (Groups _) = 2300
+value_room (EnvironmentalV3 _) = 502
+value_room _ = 302
 
--- and for members
-abbrev pub parts_room : List (Bor (List ℕ) × Value) → ℕ
-parts_room [] = 0
-parts_room (part ∷ parts) = length part.0.now + value_room part.1 + 4 + parts_room parts
+-- and for a member
+abbrev pub part_room : Bor (List ℕ) × Value → ℕ
+part_room part = length part.0.now + value_room part.1 + 4

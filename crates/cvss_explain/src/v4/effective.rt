@@ -1,30 +1,40 @@
 //! The letters of effective values.
 
-ghost use Rattle.std.specs.Prelude.{◌≡◌, ◌≤◌, length};
+ghost use Rattle.std.specs.Prelude.{◌≡◌, ◌≤◌, Some, length};
 ghost use Rattle.cvss_explain.specs.LettersV4.{safety_impact_letter, requirement_letter, letter_at, letter_member};
 
-use crate::table::Table;
 use MetricType::*;
 use cvss_base::v4::MetricType;
-use cvss_json_write::{Member, Scalar};
+use cvss_json_write::{Members, Page, Scalar, put_member};
 use cvss_score::v4::scoring::effective::{
     Effective, ExploitMaturity, Requirement, SafetyImpact, SubsequentImpact, VulnerableImpact,
 };
 use cvss_v4_metric::Metric;
 
 /// The metrics that have an effective value, in the order of their names.
-pub(crate) const BY_NAME: [MetricType; 15] = [
+pub(crate) const EFFECTIVE: [MetricType; 15] = [
     AC, AR, AT, AV, CR, E, IR, PR, SA, SC, SI, UI, VA, VC, VI,
 ];
 
-impl Table for Effective {
-    type Key = MetricType;
+/// The letters of effective values.
+#[derive(Drop)]
+pub(crate) struct Letters<'e> {
+    pub(crate) effective: &'e Effective,
+}
 
-    ghost text_at = { letter_member };
+impl Members<MetricType> for Letters<'_> {
+    ghost text_at = { λ letters kind. Some (letter_member letters.effective.now kind) };
 
-    /// The letter of an effective value.
-    fn member(&self, kind: MetricType) -> Member {
-        (kind.name(), Scalar::Text(letter(self, kind)))
+    ghost room_at = { λ _ _. 44 };
+
+    fn put_at(&self, page: &mut Page, later: bool, kind: MetricType) -> bool {
+        put_member(
+            page,
+            later,
+            kind.name(),
+            Scalar::Text(letter(self.effective, kind)),
+        );
+        true
     }
 }
 

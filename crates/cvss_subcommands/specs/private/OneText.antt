@@ -2,7 +2,7 @@
 use Rattle.std.specs.Prelude.{ℕ, Bool, true, false, List, [], ◌∷◌, refl}
 use Rattle.cvss_answer.specs.Answers.{IsAnswer, IsCompleteAnswer, score_rule}
 use Rattle.cvss_answer.specs.Setting.{IsSetAnswer}
-use Rattle.cvss_explain_text.specs.Answers as text
+use Rattle.cvss_explain_answers.specs.Text as text
 use Rattle.cvss_lines.specs.Answers.{Accepted, Refused}
 use Rattle.cvss_lines.specs.Prefixed.{AnswersByOneText}
 

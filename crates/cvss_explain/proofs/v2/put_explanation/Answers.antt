@@ -2,11 +2,11 @@ use Rattle.cvss_explain.proofs.v2.put_explanation.Goals as goal
 
 pub returns : goal.returns
 returns c = record {
-  base = c.of.result;
-  temporal = c.of-3.result;
-  environmental = c.of-2.result;
-  are_base = c.of.ensures;
-  are_temporal = c.of-3.ensures;
-  are_environmental = c.of-2.ensures;
-  is = rw (c.base-base.ensures.text, c.environmental-environmental.ensures.text, c.temporal-temporal.ensures.text) at c.put_object.ensures;
+  base = c.of-base.result;
+  temporal = c.of-temporal.result;
+  environmental = c.of-environmental.result;
+  are_base = c.of-base.ensures;
+  are_temporal = c.of-temporal.ensures;
+  are_environmental = c.of-environmental.ensures;
+  is = rw c.requires at c.put_object.ensures.text;
 }

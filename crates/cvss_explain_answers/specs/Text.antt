@@ -1,0 +1,45 @@
+-- The answers to lines, each of which is the text of a vector: explanations for people, each with an empty line after it.
+use Rattle.std.specs.Prelude.{◌≡◌, ℕ, Bool, true, false, List, [], ◌∷◌, ◌++◌, None}
+use Rattle.std.specs.Str.{IsUtf8}
+use Rattle.cvss_any.specs.Answers.{IsScoreOf, score_of_tenths, vector_answer}
+use Rattle.cvss_any.specs.Complete.{missing_by}
+use Rattle.cvss_answer.specs.Answers.{score_rule}
+use Rattle.cvss_any.specs.Dispatch.{DenotesCvss}
+use Rattle.cvss_any.specs.declared.vector.Cvss.{Cvss}
+use Rattle.cvss_explain_answers.specs.Explanation.{AreLines}
+use Rattle.cvss_explain_answers.specs.WhatIf.{IsTable}
+use Rattle.cvss_lines.specs.Answers.{Answer, Accepted, Refused, written_text}
+
+-- what follows the heading: the lines that explain the score of so many tenths, or the scores that other values would give
+abbrev pub Follows : Bool → Cvss → ℕ → List ℕ → Type 0
+Follows true cvss tenths = IsTable cvss
+Follows false cvss tenths = AreLines cvss tenths
+
+-- the text is a heading, which is the vector's answer, and what follows it, each line with a byte 10 at its end
+pub record Shows (what_if : Bool) (cvss : Cvss) (text : List ℕ) : Type 0 where
+  pub tenths : ℕ
+  pub scored : IsScoreOf cvss (score_of_tenths tenths)
+  pub rest : List ℕ
+  pub follows : Follows what_if cvss tenths rest
+  pub is : text ≡ written_text (vector_answer cvss tenths) ++ rest
+
+-- the line is a text that denotes a vector, which lacks no base metric unless it may, and the answer shows this of it
+pub record IsAcceptance (what_if allow_incomplete : Bool) (line text : List ℕ) : Type 0 where
+  pub utf8 : IsUtf8 line
+  pub cvss : Cvss
+  pub denoted : DenotesCvss line cvss
+  pub complete : missing_by allow_incomplete cvss ≡ None
+  pub shows : Shows what_if cvss text
+
+-- the line is rejected as where it is scored
+pub record IsRefusal (allow_incomplete : Bool) (number : ℕ) (line text : List ℕ) : Type 0 where
+  pub error : List ℕ
+  pub rejected : score_rule allow_incomplete number line (Refused (error ∷ []))
+  pub is : text ≡ written_text error
+
+-- this is an answer to the line, whatever its number: one text, whose lines each have a byte 10 at their end, so that an
+-- empty line follows
+unfoldable pub IsAnswer : Bool → Bool → ℕ → List ℕ → Answer → Type 0
+IsAnswer what_if allow_incomplete number line (Accepted (text ∷ [])) = IsAcceptance what_if allow_incomplete line text
+IsAnswer what_if allow_incomplete number line (Refused (text ∷ [])) = IsRefusal allow_incomplete number line text
+IsAnswer what_if allow_incomplete number line answer = ⊥

@@ -1,0 +1,116 @@
+//! The explanations of the scores of CVSS v3 (v3.1 specification, section 7; v3.0 specification, section 8).
+
+ghost use Rattle.std.specs.Prelude.{◌≡◌, OnOk, map};
+ghost use Rattle.cvss_base.specs.V3Types.{description_of};
+ghost use Rattle.cvss_explain_answers.specs.V3.{AreLines, base_rows, environmental_rows, temporal_rows, weight_text};
+ghost use Rattle.cvss_explain_answers.specs.private.Amounts.{row_view};
+ghost use Rattle.cvss_explain_answers.specs.private.Writing.{Writes};
+ghost use Rattle.cvss_json_record.specs.WordsV3.{words_of};
+
+use crate::lines::{Amount, Row, Title, rated, write_ways};
+use crate::metrics::{Explained, write_metrics};
+use Amount::*;
+use Title::*;
+use cvss_base::v3::MetricType;
+use cvss_explain::decimal::ten_millionths;
+use cvss_explain::v3::numbers::{BaseNumbers, EnvironmentalNumbers, Scored};
+use cvss_json_record::Group;
+use cvss_json_record::names::{self, v3};
+use cvss_json_write::Page;
+use cvss_lines::OutputBuffer;
+use cvss_v3::Vector;
+use std::alloc::AllocError;
+
+/// Writes the lines that explain a vector's scores.
+pub(crate) fn write_lines(vector: &Vector, answers: &mut OutputBuffer) -> Result<(), AllocError>
+    ensures { OnOk result (Writes (AreLines vector.now)
+        answers.old.bytes.items answers.new.bytes.items) }
+{
+    let base = BaseNumbers::of(vector);
+    let temporal = Scored::temporal(vector);
+    let environmental = EnvironmentalNumbers::of(vector);
+    write_metrics(vector, &(), answers)?;
+    write_ways(
+        &base_rows(base),
+        Group::Temporal.is_in_v3(vector),
+        &temporal_rows(temporal),
+        Group::Environmental.is_in_v3(vector),
+        &environmental_rows(environmental),
+        answers,
+    )
+}
+
+impl Explained for Vector {
+    type Class = ();
+
+    ghost description = { description_of };
+
+    ghost words = { words_of };
+
+    ghost figure = { λ vector _. weight_text vector };
+
+    fn description(kind: MetricType) -> &'static str {
+        kind.description()
+    }
+
+    fn rows(kind: MetricType) -> &'static [names::Row] {
+        v3::entry(kind).1
+    }
+
+    /// Writes what a metric weighs, which the scopes don't.
+    fn put_figure(&self, _class: &(), kind: MetricType, page: &mut Page) {
+        match self.weight(kind) {
+            Some(weight) => page.decimal(ten_millionths(weight)),
+            None => page.push(b"-"),
+        }
+    }
+}
+
+fn base_rows(numbers: BaseNumbers) -> [Row<'static>; 5]
+    ensures { map row_view result ≡ base_rows numbers }
+{
+    let scored = numbers.scored;
+    [
+        (Words("Impact sub-score (ISS)"), Decimal(numbers.iss)),
+        (Words("Impact"), Decimal(numbers.impact)),
+        (Words("Exploitability"), Decimal(numbers.exploitability)),
+        (Words("Before rounding"), Decimal(scored.number)),
+        (Words("Base score"), rated(scored.score)),
+    ]
+}
+
+fn temporal_rows(scored: Scored) -> [Row<'static>; 2]
+    ensures { map row_view result ≡ temporal_rows scored }
+{
+    [
+        (Words("Before rounding"), Decimal(scored.number)),
+        (Words("Temporal score"), rated(scored.score)),
+    ]
+}
+
+fn environmental_rows(numbers: EnvironmentalNumbers) -> [Row<'static>; 7]
+    ensures { map row_view result ≡ environmental_rows numbers }
+{
+    let scored = numbers.scored;
+    [
+        (
+            Words("Modified impact sub-score (MISS)"),
+            Decimal(numbers.miss),
+        ),
+        (Words("Modified impact"), Decimal(numbers.impact)),
+        (
+            Words("Modified exploitability"),
+            Decimal(numbers.exploitability),
+        ),
+        (
+            Words("Before the first rounding"),
+            Decimal(numbers.first.number),
+        ),
+        (
+            Words("After the first rounding"),
+            Tenths(numbers.first.score),
+        ),
+        (Words("Before rounding"), Decimal(scored.number)),
+        (Words("Environmental score"), rated(scored.score)),
+    ]
+}

@@ -1,6 +1,0 @@
-//! Explanations of scores as JSON: one object for each line.
-#![tactic(auto)]
-
-mod answer;
-
-pub use answer::Explaining;

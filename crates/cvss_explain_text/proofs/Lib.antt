@@ -1,2 +1,0 @@
-mod JoinLemmas
-mod PartLemmas

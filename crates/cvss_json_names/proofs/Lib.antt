@@ -1,2 +1,0 @@
-mod RowTables
-pub mod ShortLemmas

@@ -1,0 +1,55 @@
+//! The members and words of FIRST's JSON schemas of CVSS v3.0 and v3.1.
+
+ghost use Rattle.std.specs.Prelude.{◌≡◌, map};
+ghost use Rattle.cvss_json_record.specs.WordsV3.{entry_of};
+
+use crate::names::rows::{Row, X};
+use MetricType::*;
+use cvss_base::v3::MetricType;
+
+/// The values of an impact.
+const IMPACTS: &[Row] = &[("N", "NONE"), ("L", "LOW"), ("H", "HIGH")];
+
+/// The values of a security requirement.
+const REQUIREMENTS: &[Row] = &[X, ("H", "HIGH"), ("M", "MEDIUM"), ("L", "LOW")];
+
+/// The values of a modified impact.
+const MODIFIED_IMPACTS: &[Row] = &[X, ("N", "NONE"), ("L", "LOW"), ("H", "HIGH")];
+
+/// The name of the member that holds the metric's value, and how its values are spelled, each
+/// with its word.
+// A line for each metric, as the schema has them.
+#[rattlefmt::skip]
+pub fn entry(kind: MetricType) -> (&'static str, &'static [Row])
+    ensures { (result.0.now, map (λ row. (row.0.now, row.1.now)) result.1.now) ≡ entry_of kind }
+{
+    match kind {
+        AV => ("attackVector",
+            &[("P", "PHYSICAL"), ("L", "LOCAL"), ("A", "ADJACENT_NETWORK"), ("N", "NETWORK")]),
+        AC => ("attackComplexity", &[("H", "HIGH"), ("L", "LOW")]),
+        PR => ("privilegesRequired", &[("H", "HIGH"), ("L", "LOW"), ("N", "NONE")]),
+        UI => ("userInteraction", &[("R", "REQUIRED"), ("N", "NONE")]),
+        S => ("scope", &[("U", "UNCHANGED"), ("C", "CHANGED")]),
+        C => ("confidentialityImpact", IMPACTS),
+        I => ("integrityImpact", IMPACTS),
+        A => ("availabilityImpact", IMPACTS),
+        E => ("exploitCodeMaturity",
+            &[X, ("H", "HIGH"), ("F", "FUNCTIONAL"), ("P", "PROOF_OF_CONCEPT"), ("U", "UNPROVEN")]),
+        RL => ("remediationLevel",
+            &[X, ("U", "UNAVAILABLE"), ("W", "WORKAROUND"), ("T", "TEMPORARY_FIX"),
+              ("O", "OFFICIAL_FIX")]),
+        RC => ("reportConfidence", &[X, ("C", "CONFIRMED"), ("R", "REASONABLE"), ("U", "UNKNOWN")]),
+        CR => ("confidentialityRequirement", REQUIREMENTS),
+        IR => ("integrityRequirement", REQUIREMENTS),
+        AR => ("availabilityRequirement", REQUIREMENTS),
+        MAV => ("modifiedAttackVector",
+            &[X, ("P", "PHYSICAL"), ("L", "LOCAL"), ("A", "ADJACENT_NETWORK"), ("N", "NETWORK")]),
+        MAC => ("modifiedAttackComplexity", &[X, ("H", "HIGH"), ("L", "LOW")]),
+        MPR => ("modifiedPrivilegesRequired", &[X, ("H", "HIGH"), ("L", "LOW"), ("N", "NONE")]),
+        MUI => ("modifiedUserInteraction", &[X, ("R", "REQUIRED"), ("N", "NONE")]),
+        MS => ("modifiedScope", &[X, ("U", "UNCHANGED"), ("C", "CHANGED")]),
+        MC => ("modifiedConfidentialityImpact", MODIFIED_IMPACTS),
+        MI => ("modifiedIntegrityImpact", MODIFIED_IMPACTS),
+        MA => ("modifiedAvailabilityImpact", MODIFIED_IMPACTS),
+    }
+}
