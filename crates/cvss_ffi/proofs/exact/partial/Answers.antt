@@ -1,10 +1,12 @@
-use Rattle.std.proofs.Common.{[], refl, sym, ap, ◌∙◌, subst, arith}
+use Rattle.std.proofs.Common.{[], length, refl, sym, ap, ◌∙◌, subst, arith}
 use Rattle.std.proofs.lemmas.Bool.Decides.{nat_tests}
 use Rattle.cvss_base.specs.Text.{pieces}
 use Rattle.cvss_base.specs.Version.{AreComponentsOf}
 use Rattle.cvss_text.specs.Setting.{components_in}
-use Rattle.cvss_text.proofs.SettingLemmas.{components_in-none, components_in-some, right_held}
-use Rattle.cvss_text.proofs.WalkLemmas.{HasRead-none}
+use Rattle.cvss_text.proofs.DenotesLemmas.{no_fault_held}
+use Rattle.cvss_text.proofs.JoinLemmas.{piece_is_component}
+use Rattle.cvss_text.proofs.SettingLemmas.{components_in-none, components_in-some, right_before}
+use Rattle.cvss_text.proofs.WalkLemmas.{AreComponentsOf-all, HasRead-none, HasReadTo-all}
 use Rattle.cvss_ffi.proofs.exact.partial.Goals as goal
 
 pub returns-then-is_empty-clause-is : goal.returns-then-is_empty-clause-is
@@ -19,11 +21,30 @@ returns-then-is_empty-clause-is g c =
           (HasRead-none version g.met.V.Components.version_laws [] c.args.empty c.requires).components;
     }
 
+pub returns-in-Ok-read_given-clause-is : goal.returns-in-Ok-read_given-clause-is
+returns-in-Ok-read_given-clause-is g c =
+    let version = g.V.Components.version in
+    let version_laws = g.met.V.Components.version_laws in
+    let parts = pieces c.in-Ok.metrics.now in
+    let vector = c.in-Ok-read_given.vector in
+    let same = sym (components_in-some c.in-Ok.metrics.now (grind (arith, nat_tests))) in
+    record {
+      utf8 = c.in-Ok.ensures.cases.1;
+      front_is = c.in-Ok-read_given.ensures.front;
+      components = subst (λ each. AreComponentsOf version each vector) (sym same ∙ ap components_in c.in-Ok.ensures.cases.0)
+          (AreComponentsOf-all version version_laws parts vector (HasReadTo-all version version_laws parts [] vector refl c.in-Ok-read_given.ensures.read).0);
+    }
+
 pub returns-in-Err-clause-none : goal.returns-in-Err-clause-none
 returns-in-Err-clause-none g c =
     let version = g.V.Components.version in
+    let version_laws = g.met.V.Components.version_laws in
+    let parts = pieces c.in-Ok.metrics.now in
     let wrong = c.in-Err.ensures.refused in
     let same = ap components_in (sym c.in-Ok.ensures.cases.0) ∙ sym (components_in-some c.in-Ok.metrics.now (grind (arith, nat_tests))) in
     record {
-      none = λ v is. right_held version g.met.V.Components.version_laws v (pieces c.in-Ok.metrics.now) _ (subst (λ parts. AreComponentsOf version parts v) same is.components) wrong.within _ wrong.is;
+      none = λ v is.
+          let are = subst (λ each. AreComponentsOf version each v) same is.components in
+          let right = right_before version version_laws parts (length parts) (record { each = piece_is_component version version_laws v parts are }) (record { none = λ place fault below. no_fault_held version version_laws v parts place are below fault }) in
+          right.none _ _ wrong.within wrong.is;
     }

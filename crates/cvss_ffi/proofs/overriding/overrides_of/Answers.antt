@@ -1,16 +1,24 @@
-use Rattle.std.proofs.Common.{◌∙◌, [], ◌∷◌, length, refl, sym, subst, arith, length-append}
+use Rattle.std.proofs.Common.{◌≡◌, ◌∙◌, ◌<◌, ℕ, List, [], ◌∷◌, ap, length, refl, sym, subst, arith, length-append, get_or}
 use Rattle.std.proofs.lemmas.Bool.Decides.{nat_tests}
+use Rattle.std.proofs.lemmas.List.{get_or_default}
 use Rattle.std.proofs.lemmas.List.Splits.{length-slice_split}
 use Rattle.std.proofs.lemmas.List.Sums.{count_by-le-length}
 use Rattle.std.proofs.lemmas.Iterator.Consumers.{YieldsList-end, YieldsList-turn}
 use Rattle.std.proofs.lemmas.Iterator.Splits.{YieldsList-from_str_split}
+use Rattle.cvss_base.specs.Refusal.{piece_at}
 use Rattle.cvss_base.specs.Text.{pieces}
-use Rattle.cvss_text.proofs.SettingLemmas.{components_in-none, components_in-some, piece_here}
+use Rattle.cvss_text.proofs.SettingLemmas.{components_in-none, components_in-some}
 use Rattle.cvss_text.proofs.TextLemmas.{is_slash}
 use Rattle.cvss_v4.proofs.OverridingLemmas.{AreOverrides-all, HasReadOverrides-more, HasReadOverrides-none, IsFirstObjection-at, no_objection_held}
 use Rattle.cvss_v4.specs.Overriding.{AreOverrides, IsFirstObjection}
 use Rattle.cvss_v4.specs.private.OverridingSteps.{HasReadOverrides, objection_of}
 use Rattle.cvss_ffi.proofs.overriding.overrides_of.Goals as goal
+
+-- a piece that was yielded after so many others
+piece_here : (parts : List (List ℕ)) (index yielded : ℕ) (bytes piece : List ℕ) → index ≡ yielded → bytes ≡ piece → yielded < length parts → piece ≡ get_or parts yielded piece
+    → (index < length parts) × (bytes ≡ piece_at parts index)
+piece_here parts index yielded bytes piece at is within here =
+    (omega (arith, within), is ∙ here ∙ get_or_default parts yielded piece [] within ∙ ap (piece_at parts) (sym at))
 
 pub returns-then-is_empty-clause-accepted : goal.returns-then-is_empty-clause-accepted
 returns-then-is_empty-clause-accepted c =
