@@ -62,7 +62,7 @@ module _ {V K : Type 0} (version : Version V K) (version_laws : VersionLaws vers
     none earlier (BadComponent piece) below wrong = wrong.1 (components.each earlier below)
     none earlier reason below wrong = faultless.none earlier reason below wrong.1
 
-  right_held : (v : V) (parts : List (List ℕ)) (index : ℕ) → AreComponentsOf version parts v → index < length parts → (reason : Refusal K) → IsWrongAt version parts index reason → ⊥
+  pub right_held : (v : V) (parts : List (List ℕ)) (index : ℕ) → AreComponentsOf version parts v → index < length parts → (reason : Refusal K) → IsWrongAt version parts index reason → ⊥
   right_held v parts index are within reason =
       (right_before parts (length parts) (record { each = piece_is_component version version_laws v parts are }) (record { none = λ place fault below. no_fault_held version version_laws v parts place are below fault })).none index reason within
 

@@ -57,7 +57,10 @@ pub fn build<'a, V: Components>(
 
 /// Reads components that a text joins by slashes into a vector without values; or else the index of
 /// the first with which something is wrong, and what.
-pub fn read_given<'a, V: Components>(text: &'a str, empty: V) -> Result<V, (usize, Fault<'a, V::Kind>)>
+pub fn read_given<'a, V: Components>(
+    text: &'a str,
+    empty: V,
+) -> Result<V, (usize, Fault<'a, V::Kind>)>
     requires { HasNoValue V.version empty }
     ensures read { IfOk result (HasReadTo V.version (pieces text.now) []) }
     ensures front { IfOk result (λ given. V.version.front given ≡ V.version.front empty) }

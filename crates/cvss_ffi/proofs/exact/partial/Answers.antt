@@ -1,11 +1,9 @@
-use Rattle.std.proofs.Common.{[], length, refl, sym, ap, ◌∙◌, subst, arith}
+use Rattle.std.proofs.Common.{[], refl, sym, ap, ◌∙◌, subst, arith}
 use Rattle.std.proofs.lemmas.Bool.Decides.{nat_tests}
 use Rattle.cvss_base.specs.Text.{pieces}
 use Rattle.cvss_base.specs.Version.{AreComponentsOf}
 use Rattle.cvss_text.specs.Setting.{components_in}
-use Rattle.cvss_text.proofs.DenotesLemmas.{no_fault_held}
-use Rattle.cvss_text.proofs.JoinLemmas.{piece_is_component}
-use Rattle.cvss_text.proofs.SettingLemmas.{components_in-none, components_in-some, right_before}
+use Rattle.cvss_text.proofs.SettingLemmas.{components_in-none, components_in-some, right_held}
 use Rattle.cvss_text.proofs.WalkLemmas.{AreComponentsOf-all, HasRead-none, HasReadTo-all}
 use Rattle.cvss_ffi.proofs.exact.partial.Goals as goal
 
@@ -43,8 +41,5 @@ returns-in-Err-clause-none g c =
     let wrong = c.in-Err.ensures.refused in
     let same = ap components_in (sym c.in-Ok.ensures.cases.0) ∙ sym (components_in-some c.in-Ok.metrics.now (grind (arith, nat_tests))) in
     record {
-      none = λ v is.
-          let are = subst (λ each. AreComponentsOf version each v) same is.components in
-          let right = right_before version version_laws parts (length parts) (record { each = piece_is_component version version_laws v parts are }) (record { none = λ place fault below. no_fault_held version version_laws v parts place are below fault }) in
-          right.none _ _ wrong.within wrong.is;
+      none = λ v is. right_held version version_laws v parts _ (subst (λ each. AreComponentsOf version each v) same is.components) wrong.within _ wrong.is;
     }
