@@ -1,6 +1,6 @@
 //! Members of JSON objects, and objects of them.
 
-ghost use Rattle.std.specs.Prelude.{◌≡◌, ◌+◌, ◌≤◌, [], ◌∷◌, ◌++◌, Some, length, map};
+ghost use Rattle.std.specs.Prelude.{◌≡◌, ◌+◌, ◌≤◌, [], ◌∷◌, ◌++◌, Some, length};
 ghost use Rattle.std.specs.List.{filter_map};
 ghost use Rattle.cvss_json_write.specs.Json.{Member as MemberText, WritesMember, WritesMembers, comma_if, object_text, string_text};
 ghost use Rattle.cvss_json_write.specs.Scalars.{member_room, member_view, rooms, scalar_room, scalar_text};

@@ -1,5 +1,5 @@
 -- What members say, as the code has it.
-use Rattle.std.specs.Prelude.{ℕ, ◌+◌, ◌*◌, List, length, Option, Some, option_map}
+use Rattle.std.specs.Prelude.{ℕ, ◌+◌, List, length, Option, Some, option_map}
 use Rattle.std.specs.Borrow.{Bor}
 use Rattle.std.specs.Fmt.{decimal}
 use Rattle.std.specs.List.{filter_map}
