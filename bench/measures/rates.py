@@ -46,8 +46,13 @@ def documents(count):
     return subprocess.run(script, stdout=subprocess.PIPE, check=True).stdout.splitlines()
 
 
-def program(name):
-    return str(Path(sys.argv[1]) / name if sys.argv[1:] else ROOT / f"crates/{name}/out/{name}")
+def program(crate):
+    """The program of a crate: in the folder that is given by its installed name, else as `rt run` has built it."""
+    if not sys.argv[1:]:
+        return str(ROOT / f"crates/{crate}/out/{crate}")
+    listed = (ROOT / "release/programs").read_text().splitlines()
+    names = dict(line.split() for line in listed if not line.startswith("#"))
+    return str(Path(sys.argv[1]) / names[crate])
 
 
 def measure(name, command, text, locale="C"):

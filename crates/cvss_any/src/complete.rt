@@ -48,8 +48,7 @@ pub(crate) fn missing_of_v3(vector: &v3::Vector) -> Option<MetricType>
     }
 }
 
-// One test after another: after the fast path, which has seen all eight, the compiler drops each of
-// them, but not one match over all.
+/// The first base metric that a vector of CVSS v3 lacks.
 #[inline(always)]
 fn first_missing_base(vector: &v3::Vector) -> Option<base_v3::MetricType>
     ensures { result ≡ first_missing_base vector.now }
