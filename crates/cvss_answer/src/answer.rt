@@ -16,9 +16,10 @@ use std::fmt::{self, Write};
 pub struct Vectors {}
 
 impl Answering for Vectors {
-    ghost rule = { IsAnswer };
+    ghost rule = { λ _. IsAnswer };
 
     fn answer_line(
+        &self,
         _alloc: Global,
         _number: u64,
         line: &[u8],

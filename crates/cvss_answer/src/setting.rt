@@ -1,10 +1,9 @@
 //! The answer to one line whose vector has metrics set.
 
-ghost use Rattle.std.specs.Prelude.{◌≡◌, ◌++◌, ℕ, None, IfOk, IfErr, codes};
-ghost use Rattle.cvss_answer.specs.Setting.{IsSetAnswer, IsSetIn, IsSetRefusal};
+ghost use Rattle.std.specs.Prelude.{◌≡◌, ℕ, None, IfOk, IfErr};
+ghost use Rattle.cvss_answer.specs.Setting.{IsSetError, IsSetIn, set_rule};
 ghost use Rattle.cvss_any.specs.Answers.{HasScore};
 ghost use Rattle.cvss_any.specs.Complete.{first_missing};
-ghost use Rattle.cvss_any.specs.Reasons.{error_message};
 ghost use Rattle.cvss_lines.specs.Answers.{WritesAnswer};
 
 use crate::answer::{write_error, write_vector};
@@ -23,7 +22,7 @@ pub fn answer_with_metrics(
     metrics: &str,
     answers: &mut OutputBuffer,
 ) -> Result<bool, AllocError>
-    ensures { (number : ℕ) → IfOk result (WritesAnswer (IsSetAnswer metrics.now) number line.now
+    ensures { (number : ℕ) → IfOk result (WritesAnswer (set_rule metrics.now) number line.now
         answers.old.bytes.items answers.new.bytes.items) }
 {
     match vector_with(line, metrics) {
@@ -43,13 +42,9 @@ fn vector_with<'a>(line: &'a [u8], metrics: &'a str) -> Result<Cvss, ReadError<'
     ensures set { IfOk result (IsSetIn metrics.now line.now) }
     ensures complete { IfOk result (λ new. first_missing new ≡ None) }
     ensures scored { IfOk result (λ new. HasScore new) }
-    ensures rejected { IfErr result
-        (λ error. IsSetRefusal metrics.now line.now (codes "error: " ++ error_message error)) }
+    ensures rejected { IfErr result (IsSetError metrics.now line.now) }
 {
-    let vector = match Cvss::read(line) {
-        Ok(vector) => vector,
-        Err(error) => return Err(error),
-    };
+    let vector = Cvss::read(line)?;
     let new = match vector.with_metrics(metrics) {
         Ok(new) => new,
         Err(error) => return Err(ReadError::Invalid(error.reason)),

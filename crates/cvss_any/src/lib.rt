@@ -9,6 +9,7 @@ mod metrics;
 mod one_version;
 mod published;
 mod publishing;
+mod read_by;
 mod reading;
 mod refusal;
 mod segment;

@@ -128,14 +128,15 @@ fn is_utf8(bytes: &[u8]) -> bool
     is_ascii(bytes) || str::from_utf8(bytes).is_ok()
 }
 
-/// Whether bytes are ASCII, by the greatest of them, which the compiler finds many at once.
+/// Whether bytes are ASCII, by the bits of all, which the compiler joins many at once.
 #[inline(always)]
+#[tactic(auto, using(Rattle::std::proofs::lemmas::Nat::le_or_l, Rattle::std::proofs::lemmas::Nat::le_or_r))]
 fn is_ascii(bytes: &[u8]) -> bool
     ensures { IsTrue result → IsAscii bytes.now }
 {
-    let mut greatest = 0;
+    let mut bits = 0;
     for byte in bytes {
-        greatest = greatest.max(*byte);
+        bits |= *byte;
     }
-    greatest < 128
+    bits < 128
 }

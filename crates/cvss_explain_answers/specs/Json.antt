@@ -10,7 +10,7 @@ use Rattle.cvss_any.specs.declared.metric_type.MetricType.{MetricType}
 use Rattle.cvss_any.specs.declared.vector.Cvss.{Cvss}
 use Rattle.cvss_base.specs.Refusal.{Missing}
 use Rattle.cvss_explain.specs.Explanation.{IsExplanationText}
-use Rattle.cvss_lines.specs.Answers.{Answer, Accepted, Refused}
+use Rattle.cvss_lines.specs.Answers.{Rule, by_one_text}
 use Rattle.cvss_json_tree.specs.Texts.{IsTextOf}
 use Rattle.cvss_json_tree.specs.Objects.{Member, object_of}
 use Rattle.cvss_rows.specs.Cells.{object_start}
@@ -63,11 +63,9 @@ pub record IsInFile (prefix : List ℕ) (IsOwn : List ℕ → Type 0) (text : Li
   pub is_own : IsOwn own
   pub is : text ≡ in_file prefix own
 
--- this is an answer to the line of this number, which is read of an input whose answers have a prefix or an empty one: one
+-- which answers the line of this number has, which is read of an input whose answers have a prefix or an empty one: one
 -- text. Vectors of CVSS v3 may lack base metrics, or not.
-unfoldable pub IsAnswer : Bool → List ℕ → ℕ → List ℕ → Answer → Type 0
-IsAnswer allow_incomplete prefix number line (Accepted (text ∷ [])) =
-    IsInFile prefix (IsAcceptance allow_incomplete number line) text
-IsAnswer allow_incomplete prefix number line (Refused (text ∷ [])) =
-    IsInFile prefix (λ own. IsRefusal number line own ⊎ IsIncomplete allow_incomplete number line own) text
-IsAnswer allow_incomplete prefix number line answer = ⊥
+abbrev pub IsAnswer : Bool → List ℕ → Rule
+IsAnswer allow_incomplete prefix =
+    by_one_text (λ number line. IsInFile prefix (IsAcceptance allow_incomplete number line))
+    (λ number line. IsInFile prefix (λ own. IsRefusal number line own ⊎ IsIncomplete allow_incomplete number line own))

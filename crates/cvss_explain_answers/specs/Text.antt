@@ -1,14 +1,14 @@
 -- The answers to lines, each of which is the text of a vector: explanations for people, each with an empty line after it.
-use Rattle.std.specs.Prelude.{◌≡◌, ℕ, Bool, true, false, List, [], ◌∷◌, ◌++◌, None}
+use Rattle.std.specs.Prelude.{◌≡◌, ℕ, Bool, true, false, List, ◌++◌, None}
 use Rattle.std.specs.Str.{IsUtf8}
 use Rattle.cvss_any.specs.Answers.{IsScoreOf, score_of_tenths, vector_answer}
 use Rattle.cvss_any.specs.Complete.{missing_by}
-use Rattle.cvss_answer.specs.Answers.{score_rule}
+use Rattle.cvss_answer.specs.Answers.{IsRejection}
 use Rattle.cvss_any.specs.Dispatch.{DenotesCvss}
 use Rattle.cvss_any.specs.declared.vector.Cvss.{Cvss}
 use Rattle.cvss_explain_answers.specs.Explanation.{AreLines}
 use Rattle.cvss_explain_answers.specs.WhatIf.{IsTable}
-use Rattle.cvss_lines.specs.Answers.{Answer, Accepted, Refused, written_text}
+use Rattle.cvss_lines.specs.Answers.{Rule, by_one_text, written_text}
 
 -- what follows the heading: the lines that explain the score of so many tenths, or the scores that other values would give
 abbrev pub Follows : Bool → Cvss → ℕ → List ℕ → Type 0
@@ -32,14 +32,13 @@ pub record IsAcceptance (what_if allow_incomplete : Bool) (line text : List ℕ)
   pub shows : Shows what_if cvss text
 
 -- the line is rejected as where it is scored
-pub record IsRefusal (allow_incomplete : Bool) (number : ℕ) (line text : List ℕ) : Type 0 where
+pub record IsRefusal (allow_incomplete : Bool) (line text : List ℕ) : Type 0 where
   pub error : List ℕ
-  pub rejected : score_rule allow_incomplete number line (Refused (error ∷ []))
+  pub rejected : IsRejection allow_incomplete line error
   pub is : text ≡ written_text error
 
--- this is an answer to the line, whatever its number: one text, whose lines each have a byte 10 at their end, so that an
--- empty line follows
-unfoldable pub IsAnswer : Bool → Bool → ℕ → List ℕ → Answer → Type 0
-IsAnswer what_if allow_incomplete number line (Accepted (text ∷ [])) = IsAcceptance what_if allow_incomplete line text
-IsAnswer what_if allow_incomplete number line (Refused (text ∷ [])) = IsRefusal allow_incomplete number line text
-IsAnswer what_if allow_incomplete number line answer = ⊥
+-- which answers a line has, whatever its number: one text, whose lines each have a byte 10 at their end, so that an empty
+-- line follows
+abbrev pub IsAnswer : Bool → Bool → Rule
+IsAnswer what_if allow_incomplete =
+    by_one_text (λ number. IsAcceptance what_if allow_incomplete) (λ number. IsRefusal allow_incomplete)

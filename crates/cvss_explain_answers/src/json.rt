@@ -10,18 +10,17 @@ ghost use Rattle.cvss_explain_answers.specs.Json.{IsAnswer, IsInFile, given_memb
 ghost use Rattle.cvss_explain_answers.specs.private.Writing.{WritesLine};
 ghost use Rattle.cvss_json_tree.specs.Objects.{with_members};
 ghost use Rattle.cvss_json_tree.specs.Texts.{IsTextOf};
-ghost use Rattle.cvss_lines.specs.Answers.{WritesAnswer, written_text};
+ghost use Rattle.cvss_lines.specs.Answers.{written_text};
 ghost use Rattle.serde_json.specs.View.{members_view};
 
 use cvss_any::{Cvss, MetricType};
 use cvss_explain::put_explanation;
 use cvss_json_tree::text_of;
 use cvss_json_write::Page;
-use cvss_lines::{OutputBuffer, RunFault, Service};
+use cvss_lines::{Answering, OutputBuffer};
 use cvss_rows::write_object_start;
 use serde_json::{Map, Value, put};
 use std::alloc::{AllocError, Global};
-use std::io::Write;
 
 /// Lines, each answered by an object that explains the score of its vector, or by one that says why the
 /// line is rejected: a vector of CVSS v3 that lacks base metrics by the first of them, unless they may
@@ -34,57 +33,33 @@ pub struct Explaining<'a> {
     pub prefix: &'a [u8],
 }
 
-impl Service for Explaining<'_> {
+impl Answering for Explaining<'_> {
     ghost rule = { λ explaining. IsAnswer explaining.allow_incomplete explaining.prefix.now };
 
-    ghost beginning = { λ _ _ _ _. ⊥ };
-
-    fn serve_line<W: Write>(
+    fn answer_line(
         &self,
         alloc: Global,
         number: u64,
         line: &[u8],
         answers: &mut OutputBuffer,
-        _writer: &mut W,
-    ) -> Result<bool, RunFault> {
-        Ok(answer_explained(
-            alloc,
-            self.prefix,
-            number,
-            line,
-            self.allow_incomplete,
-            answers,
-        )?)
-    }
-}
-
-fn answer_explained(
-    alloc: Global,
-    prefix: &[u8],
-    number: u64,
-    line: &[u8],
-    allow_incomplete: bool,
-    answers: &mut OutputBuffer,
-) -> Result<bool, AllocError>
-    ensures { IfOk result (WritesAnswer (IsAnswer allow_incomplete prefix.now) number line.now
-        answers.old.bytes.items answers.new.bytes.items) }
-{
-    match Cvss::from_bytes(alloc, line) {
-        Ok(vector) => match vector.missing_by(allow_incomplete) {
-            None => {
-                write_explanation(prefix, number, &vector, answers)?;
-                Ok(true)
-            }
-            Some(metric) => {
-                let missing = missing_text(alloc, metric)?;
-                write_refusal(alloc, prefix, number, line, missing, answers)?;
+    ) -> Result<bool, AllocError> {
+        match Cvss::from_bytes(alloc, line) {
+            Ok(vector) => match vector.missing_by(self.allow_incomplete) {
+                None => {
+                    write_explanation(self.prefix, number, &vector, answers)?;
+                    Ok(true)
+                }
+                Some(metric) => {
+                    let missing = missing_text(alloc, metric)?;
+                    write_refusal(alloc, self.prefix, number, line, missing, answers)?;
+                    Ok(false)
+                }
+            },
+            Err(error) => {
+                let reason = error.to_string(alloc)?;
+                write_refusal(alloc, self.prefix, number, line, reason, answers)?;
                 Ok(false)
             }
-        },
-        Err(error) => {
-            let reason = error.to_string(alloc)?;
-            write_refusal(alloc, prefix, number, line, reason, answers)?;
-            Ok(false)
         }
     }
 }

@@ -1,9 +1,7 @@
 //! The answer to one line as text for people.
 
-ghost use Rattle.std.specs.Prelude.{◌≡◌, ◌≤◌, ◌++◌, ℕ, IfErr, IfOk, IsUtf8, None, OnOk};
+ghost use Rattle.std.specs.Prelude.{◌≡◌, ◌≤◌, ◌++◌, ℕ, IfOk, OnOk};
 ghost use Rattle.cvss_any.specs.Answers.{HasScore, text_of, vector_answer};
-ghost use Rattle.cvss_any.specs.Complete.{IsReadErrorBy, missing_by};
-ghost use Rattle.cvss_any.specs.Dispatch.{DenotesCvss};
 ghost use Rattle.cvss_explain_answers.specs.Text.{IsAnswer, Shows};
 ghost use Rattle.cvss_explain_answers.specs.Explanation.{AreLines};
 ghost use Rattle.cvss_explain_answers.specs.private.Writing.{Writes};
@@ -12,7 +10,7 @@ ghost use Rattle.cvss_lines.specs.Answers.{WritesAnswer, written_text};
 use crate::what_if::write_table;
 use crate::{v2, v3, v4};
 use cvss_answer::write_error;
-use cvss_any::{Cvss, ReadError, Refusal};
+use cvss_any::Cvss;
 use cvss_base::TENTH;
 use cvss_base::tenths::text_of as text_of_tenths;
 use cvss_lines::OutputBuffer;
@@ -36,7 +34,7 @@ pub fn answer_explained(
     ensures { (number : ℕ) → IfOk result (WritesAnswer (IsAnswer what_if allow_incomplete) number
         line.now answers.old.bytes.items answers.new.bytes.items) }
 {
-    match read(line, allow_incomplete) {
+    match Cvss::read_by(line, allow_incomplete) {
         Ok(cvss) => {
             write_shown(alloc, &cvss, what_if, answers)?;
             answers.push(b"\n")?;
@@ -47,21 +45,6 @@ pub fn answer_explained(
             answers.push(b"\n")?;
             Ok(false)
         }
-    }
-}
-
-/// The vector that a line denotes, which lacks no base metric unless it may.
-fn read(line: &[u8], allow_incomplete: bool) -> Result<Cvss, ReadError<'_>>
-    ensures utf8 { OnOk result (IsUtf8 line.now) }
-    ensures denoted { IfOk result (DenotesCvss line.now) }
-    ensures complete { IfOk result (λ cvss. missing_by allow_incomplete cvss ≡ None) }
-    ensures scored { IfOk result (λ cvss. HasScore cvss) }
-    ensures error { IfErr result (IsReadErrorBy allow_incomplete line.now) }
-{
-    let cvss = Cvss::read(line)?;
-    match cvss.missing_by(allow_incomplete) {
-        Some(metric) => Err(ReadError::Invalid(Refusal::Missing(metric))),
-        None => Ok(cvss),
     }
 }
 

@@ -8,43 +8,24 @@ use Rattle.std.proofs.lemmas.List.Folds.{list_all-append}
 use Rattle.std.specs.Prelude.{bytes_eq}
 use Rattle.cvss_any.specs.Complete.{IsPublishedOfComplete}
 use Rattle.cvss_any.specs.declared.published.Published.{Published}
-use Rattle.cvss_answer.specs.Answers.{IsAnswer, IsCompleteAnswer, score_rule}
+use Rattle.cvss_answer.specs.Answers.{score_rule}
 use Rattle.cvss_lines.specs.Answers.{Accepted, Refused, WritesAnswer, is_accepted, written_answer, written_text}
-use Rattle.cvss_lines.specs.Prefixed.{AnswersByOneText}
+use Rattle.cvss_lines.specs.Prefixed.{AnswersByOneText, is_one_text}
 use Rattle.cvss_find.specs.Answers.{AreReported, Asked, IsReported, Reported, all_accepted, answer_with, answered_bytes, answers_as, before_answer, place_text, reported_texts, shows_all, texts_for}
 use Rattle.cvss_find.specs.Decoding.{decoded}
 use Rattle.cvss_find.specs.declared.form.Form.{Form}
 use Rattle.cvss_find.specs.declared.form.Form.TheVariants.{Annotated, Located, Object}
 use Rattle.cvss_find.specs.private.Reporting.{AnswersLine, Reports, WritesReported, WritesShown, closing, opening, written_as}
-use Rattle.cvss_rows.proofs.RowLemmas.{one_text_of_cells}
-use Rattle.cvss_rows.specs.declared.format.Format.TheVariants.{Json}
 use Rattle.cvss_scan.proofs.AcceptedLemmas.{accepted_alone, accepted_whole}
 use Rattle.cvss_scan.specs.Mentions.{AreFound, IsAccepted, IsFound, Placed, mentions_of}
 use Rattle.cvss_scan.specs.MentionsLeft.{IsFirstFound, NoneFound}
 use Rattle.cvss_find.proofs.DecodingLemmas.{written_decoded}
 use Rattle.cvss_scan.proofs.FoundLemmas.{AreFound-first, AreFound-none}
 
--- one text answers a vector
-one_text_of : AnswersByOneText IsAnswer
-unfolding IsAnswer
-one_text_of number line (Accepted (text ∷ [])) is = (text, refl)
-one_text_of number line (Refused (text ∷ [])) is = (text, refl)
-one_text_of number line _ is = absurd is
-
-one_text_of_complete : AnswersByOneText IsCompleteAnswer
-unfolding IsCompleteAnswer
-one_text_of_complete number line (Accepted (text ∷ [])) is = (text, refl)
-one_text_of_complete number line (Refused (text ∷ [])) is = (text, refl)
-one_text_of_complete number line _ is = absurd is
-
-one_text_of_score : (allow : Bool) → AnswersByOneText (score_rule allow)
-one_text_of_score true = one_text_of
-one_text_of_score false = one_text_of_complete
-
 one_text : (form : Form) (allow : Bool) → AnswersByOneText (answers_as form allow)
-one_text Located = one_text_of_score
-one_text Object = one_text_of_cells Json
-one_text (Annotated all) = one_text_of_score
+one_text Located allow = is_one_text _ _
+one_text Object allow = is_one_text _ _
+one_text (Annotated all) allow = is_one_text _ _
 
 -- a mention is reported of, once its answer is written after what is before it, and the byte 10 stays or is taken off
 pub WritesReported-answer : (asked : Asked) (mention : Placed) (old middle full new : List ℕ) (accepted : Bool) → middle ≡ old ++ before_answer asked.form asked mention

@@ -8,7 +8,7 @@ use Rattle.cvss_find.specs.declared.form.Form.{Form}
 use Rattle.cvss_find.specs.declared.form.Form.TheVariants.{Annotated, Located, Object}
 use Rattle.cvss_lines.specs.Answers.{Answer, Accepted, Refused, Rule, is_accepted, texts_of}
 use Rattle.cvss_rows.specs.Cells.{given_text, object_start}
-use Rattle.cvss_rows.specs.Rows.{AreCells}
+use Rattle.cvss_rows.specs.Rows.{cells_rule}
 use Rattle.cvss_rows.specs.declared.format.Format.TheVariants.{Json}
 use Rattle.cvss_scan.specs.Mentions.{AreFound, Placed, mentions_of}
 use Rattle.cvss_scan.specs.MentionsLeft.{IsFirstFound, NoneFound}
@@ -58,7 +58,7 @@ before_answer (Annotated all) asked mention = codes "\t"
 -- given text
 abbrev pub answers_as : Form → Bool → Rule
 answers_as Located = score_rule
-answers_as Object = AreCells Json
+answers_as Object = cells_rule Json
 answers_as (Annotated all) = score_rule
 
 -- reported is an answer to the mention's bytes, decoded, as a line by themselves

@@ -4,10 +4,9 @@ ghost use Rattle.cvss_find.specs.Answers.{find_rule};
 
 use crate::form::Form;
 use crate::line::Line;
-use cvss_lines::{OutputBuffer, RunFault, Service};
-use std::alloc::Global;
+use cvss_lines::{Answering, OutputBuffer};
+use std::alloc::{AllocError, Global};
 use std::cell::Cell;
-use std::io::Write;
 
 /// Lines of any bytes, each answered by what is found in it. A line counts as accepted if each vector
 /// is that is reported.
@@ -23,19 +22,16 @@ pub struct Finding<'a> {
     pub loose_prefix: &'a Cell<bool>,
 }
 
-impl Service for Finding<'_> {
+impl Answering for Finding<'_> {
     ghost rule = { λ finding. find_rule finding.form finding.allow_incomplete finding.prefix.now };
 
-    ghost beginning = { λ _ _ _ _. ⊥ };
-
-    fn serve_line<W: Write>(
+    fn answer_line(
         &self,
         alloc: Global,
         number: u64,
         line: &[u8],
         answers: &mut OutputBuffer,
-        _writer: &mut W,
-    ) -> Result<bool, RunFault> {
+    ) -> Result<bool, AllocError> {
         let line = Line {
             form: self.form,
             prefix: self.prefix,
@@ -44,6 +40,6 @@ impl Service for Finding<'_> {
             bytes: line,
             loose_prefix: self.loose_prefix,
         };
-        Ok(line.answer(alloc, answers)?)
+        line.answer(alloc, answers)
     }
 }

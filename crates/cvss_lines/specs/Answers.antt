@@ -24,6 +24,12 @@ is_refused (Refused texts) = true
 abbrev pub Rule : Type 1
 Rule = ℕ → List ℕ → Answer → Type 0
 
+-- each answer is one text, which accepts its line or refuses it as is said here
+unfoldable pub by_one_text : (ℕ → List ℕ → List ℕ → Type 0) → (ℕ → List ℕ → List ℕ → Type 0) → Rule
+by_one_text Accepts Refuses number line (Accepted (text ∷ [])) = Accepts number line text
+by_one_text Accepts Refuses number line (Refused (text ∷ [])) = Refuses number line text
+by_one_text Accepts Refuses number line answer = ⊥
+
 -- the number of the next line, as a `u64` that stops at its maximum
 abbrev pub next_number : ℕ → ℕ
 next_number number = min (number + 1) (2 ^ 64 - 1)

@@ -1,6 +1,6 @@
 -- Answers after a prefix, as the name of a file and a colon where several files are read.
-use Rattle.std.specs.Prelude.{◌≡◌, ℕ, List, [], ◌∷◌, ◌++◌, map}
-use Rattle.cvss_lines.specs.Answers.{Answer, Accepted, Refused, Rule, texts_of}
+use Rattle.std.specs.Prelude.{◌≡◌, ℕ, List, [], ◌∷◌, ◌++◌, map, refl}
+use Rattle.cvss_lines.specs.Answers.{Answer, Accepted, Refused, Rule, by_one_text, texts_of}
 
 -- the answer, each text of which begins with this
 abbrev pub with_prefix : List ℕ → Answer → Answer
@@ -16,3 +16,9 @@ pub record IsPrefixed (prefix : List ℕ) (rule : Rule) (number : ℕ) (line : L
 -- each answer by the rule is one text
 abbrev pub AnswersByOneText : Rule → Type 0
 AnswersByOneText rule = (number : ℕ) (line : List ℕ) (answer : Answer) → rule number line answer → (text : List ℕ) × (texts_of answer ≡ text ∷ [])
+
+pub is_one_text : (Accepts Refuses : ℕ → List ℕ → List ℕ → Type 0) → AnswersByOneText (by_one_text Accepts Refuses)
+unfolding by_one_text
+is_one_text Accepts Refuses number line (Accepted (text ∷ [])) is = (text, refl)
+is_one_text Accepts Refuses number line (Refused (text ∷ [])) is = (text, refl)
+is_one_text Accepts Refuses number line _ is = absurd is

@@ -1,6 +1,6 @@
 //! Programs that answer each line of an input: how the input is cut into lines, in what pieces it is
 //! read and its answers are written, and how a run ends. What answers a line is
-//! an [`Answering`], or a [`Service`] where its rule depends on a value or an answer may be long.
+//! an [`Answering`], or a [`Service`] where an answer may be long.
 #![tactic(auto)]
 
 mod answering;

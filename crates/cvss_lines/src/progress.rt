@@ -46,7 +46,7 @@ impl Progress {
             (W.contents writer.old) (W.contents writer.new) self.old) }
     {
         let accepted = service.serve_line(alloc, self.number, line, &mut self.answers, writer)?;
-        self.summary = self.summary.with(accepted);
+        self.summary.count(accepted);
         self.number = self.number.saturating_add(1);
         Ok(())
     }

@@ -1,10 +1,10 @@
 ghost use Rattle.cvss_lines.specs.Runs.{Ends};
 ghost use Rattle.cvss_lines.specs.Streaming.{StreamEnds};
 
+use crate::answering::Whole;
 use crate::pending::Pending;
 use crate::reading::read_buffer;
-use crate::service::{Fixed, Service};
-use crate::{Answering, RunFault, Summary};
+use crate::{Answering, RunFault, Service, Summary};
 use std::alloc::Global;
 use std::io::{Read, Write};
 
@@ -15,18 +15,18 @@ use std::io::{Read, Write};
 /// line's text. Each line that a byte 10 ends is answered before the next read.
 #[tactic(auto, using(crate::proofs::RunLemmas::ends_whole))]
 pub fn run<A: Answering, R: Read, W: Write>(
+    answering: &A,
     alloc: Global,
     reader: &mut R,
     writer: &mut W,
 ) -> Result<Summary, RunFault>
-    ensures { Ends A.rule (R.remaining reader.old) (R.remaining reader.new)
+    ensures { Ends (A.rule answering.now) (R.remaining reader.old) (R.remaining reader.new)
         (W.contents writer.old) (W.contents writer.new) result }
 {
-    serve(&Fixed::<A>::new(), alloc, reader, writer)
+    serve(&Whole { answering }, alloc, reader, writer)
 }
 
-/// Answers lines as [`run`] does, by a rule that is known when the program runs, where an answer may be
-/// written before it is whole.
+/// Answers lines as [`run`] does, where an answer may be written before it is whole.
 pub fn serve<S: Service, R: Read, W: Write>(
     service: &S,
     alloc: Global,

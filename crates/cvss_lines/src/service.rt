@@ -1,17 +1,15 @@
-//! What answers the lines of an input by a rule that may depend on a value.
+//! What answers the lines of an input where an answer may be long.
 
 ghost use Rattle.std.specs.Prelude.{IfErr, IfOk};
 ghost use Rattle.cvss_lines.specs.Answers.{Rule};
 ghost use Rattle.cvss_lines.specs.Streaming.{Beginning, Stops, Streams};
 
-use crate::{Answering, OutputBuffer, RunFault};
+use crate::{OutputBuffer, RunFault};
 use std::alloc::Global;
 use std::io::Write;
-use std::marker::PhantomData;
 
-/// A way to answer lines that depends on a value, as on the options of a command. Where an answer may be
-/// long, the answers that wait may be written in the midst of it. Each answer is some texts, and accepts
-/// its line or refuses it.
+/// A way to answer lines that may write the answers that wait in the midst of a long one. Each answer is
+/// some texts, and accepts its line or refuses it.
 pub trait Service {
     /// Which answers a line has.
     ghost rule: { Self → Rule };
@@ -39,34 +37,4 @@ pub trait Service {
             (W.contents writer.old) (W.contents writer.new)) }
         ensures stopped { IfErr result (Stops (beginning self.now) number line.now
             answers.old.bytes.items (W.contents writer.old) (W.contents writer.new)) };
-}
-
-/// The service that answers as an [`Answering`] does, whose rule is known when the program is compiled.
-/// It writes nothing of an answer that is not whole.
-#[derive(Drop)]
-pub(crate) struct Fixed<A> {
-    of: PhantomData<A>,
-}
-
-impl<A> Fixed<A> {
-    pub(crate) fn new() -> Fixed<A> {
-        Fixed { of: PhantomData }
-    }
-}
-
-impl<A: Answering> Service for Fixed<A> {
-    ghost rule = { λ _. A.rule };
-
-    ghost beginning = { λ _ _ _ _. ⊥ };
-
-    fn serve_line<W: Write>(
-        &self,
-        alloc: Global,
-        number: u64,
-        line: &[u8],
-        answers: &mut OutputBuffer,
-        _writer: &mut W,
-    ) -> Result<bool, RunFault> {
-        Ok(A::answer_line(alloc, number, line, answers)?)
-    }
 }

@@ -21,20 +21,14 @@ impl Summary {
         }
     }
 
-    /// The counts with one more answer.
-    pub(crate) fn with(self, accepted: bool) -> Summary
-        ensures { (answer : Answer) → accepted ≡ is_accepted answer → Counts self answer result }
+    /// Counts one more answer.
+    pub(crate) fn count(&mut self, accepted: bool)
+        ensures { (answer : Answer) → accepted ≡ is_accepted answer → Counts self.old answer self.new }
     {
         if accepted {
-            Summary {
-                accepted: self.accepted.saturating_add(1),
-                ..self
-            }
+            self.accepted = self.accepted.saturating_add(1);
         } else {
-            Summary {
-                refused: self.refused.saturating_add(1),
-                ..self
-            }
+            self.refused = self.refused.saturating_add(1);
         }
     }
 }

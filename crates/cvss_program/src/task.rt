@@ -1,12 +1,11 @@
 //! What a command does with each input.
 
-ghost use Rattle.std.specs.Prelude.{◌≡◌, ◌++◌, ℕ, IfOk, OnOk};
-ghost use Rattle.cvss_lines.specs.Answers.{Rule, WritesAnswer};
+ghost use Rattle.std.specs.Prelude.{◌≡◌, ◌++◌, OnOk};
 ghost use Rattle.cvss_lines.specs.Prefixed.{AnswersByOneText, IsPrefixed};
 ghost use Rattle.cvss_lines.specs.Runs.{Ends};
 ghost use Rattle.cvss_program.specs.Operands.{Endings};
 
-use cvss_lines::{OutputBuffer, RunFault, Service, Summary, serve};
+use cvss_lines::{Answering, OutputBuffer, RunFault, Summary, run};
 use std::alloc::{AllocError, Global};
 use std::io::{Read, Write};
 
@@ -32,26 +31,8 @@ pub trait Task {
 }
 
 /// A way to answer each line by one text.
-pub trait LineAnswer {
-    /// Which answers a line has.
-    ghost rule: { Self → Rule };
-
-    ghost one_text: { (answer : Self) → AnswersByOneText (rule answer) };
-
-    /// Appends an answer to the line of this number, and a byte 10. Says whether the line was
-    /// accepted.
-    ///
-    /// # Errors
-    ///
-    /// Out of memory.
-    fn answer_line(
-        &self,
-        number: u64,
-        line: &[u8],
-        answers: &mut OutputBuffer,
-    ) -> Result<bool, AllocError>
-        ensures { IfOk result (WritesAnswer (rule self.now) number line.now
-            answers.old.bytes.items answers.new.bytes.items) };
+pub trait LineAnswer: Answering {
+    ghost one_text: { (answer : Self) → AnswersByOneText (Self.rule answer) };
 }
 
 /// The task to answer each line of an input by one text.
@@ -70,11 +51,11 @@ impl<A: LineAnswer> Task for EachLine<A> {
         reader: &mut R,
         writer: &mut W,
     ) -> Result<Summary, RunFault> {
-        let service = Prefixed {
+        let prefixed = Prefixed {
             answer: &self.answer,
             prefix,
         };
-        serve(&service, alloc, reader, writer)
+        run(&prefixed, alloc, reader, writer)
     }
 }
 
@@ -85,38 +66,19 @@ struct Prefixed<'a, A> {
     prefix: &'a [u8],
 }
 
-impl<A: LineAnswer> Prefixed<'_, A> {
+impl<A: LineAnswer> Answering for Prefixed<'_, A> {
+    ghost rule = { λ prefixed. IsPrefixed prefixed.prefix.now (A.rule prefixed.answer.now) };
+
     #[inline(always)]
     fn answer_line(
         &self,
+        alloc: Global,
         number: u64,
         line: &[u8],
         answers: &mut OutputBuffer,
-    ) -> Result<bool, AllocError>
-        ensures { IfOk result (WritesAnswer
-            (IsPrefixed self.now.prefix.now (A.rule self.now.answer.now)) number line.now
-            answers.old.bytes.items answers.new.bytes.items) }
-    {
+    ) -> Result<bool, AllocError> {
         push_if_any(self.prefix, answers)?;
-        self.answer.answer_line(number, line, answers)
-    }
-}
-
-impl<A: LineAnswer> Service for Prefixed<'_, A> {
-    ghost rule = { λ prefixed. IsPrefixed prefixed.prefix.now (A.rule prefixed.answer.now) };
-
-    ghost beginning = { λ _ _ _ _. ⊥ };
-
-    #[inline(always)]
-    fn serve_line<W: Write>(
-        &self,
-        _alloc: Global,
-        number: u64,
-        line: &[u8],
-        answers: &mut OutputBuffer,
-        _writer: &mut W,
-    ) -> Result<bool, RunFault> {
-        Ok(self.answer_line(number, line, answers)?)
+        self.answer.answer_line(alloc, number, line, answers)
     }
 }
 

@@ -1,12 +1,8 @@
 -- The vector of a line, or why it has none.
-use Rattle.std.specs.Prelude.{◌≡◌, ◌⊎◌, ℕ, Bool, List, [], ◌∷◌, ◌++◌, None, Some}
-use Rattle.cvss_any.specs.Complete.{missing_by}
+use Rattle.std.specs.Prelude.{◌≡◌, ℕ, Bool, List, [], ◌∷◌, ◌++◌, None}
+use Rattle.cvss_any.specs.Complete.{IsReadErrorBy, missing_by}
 use Rattle.cvss_any.specs.Dispatch.{DenotesCvss}
-use Rattle.cvss_any.specs.Refusals.{IsReadError}
-use Rattle.cvss_any.specs.declared.metric_type.MetricType.{MetricType}
 use Rattle.cvss_any.specs.declared.refusal.ReadError.{ReadError}
-use Rattle.cvss_any.specs.declared.refusal.ReadError.TheVariants.{Invalid}
-use Rattle.cvss_any.specs.declared.refusal.Refusal.TheVariants.{Missing}
 use Rattle.cvss_any.specs.declared.vector.Cvss.{Cvss}
 use Rattle.cvss_scan.specs.Mentions.{AreFound, IsFound, Placed, mentions_of}
 use Rattle.cvss_rank.specs.declared.reading.Reason.{Reason}
@@ -36,19 +32,11 @@ pub record IsVectorOf (allow_incomplete : Bool) (line : List ℕ) (cvss : Cvss) 
   pub denoted : DenotesCvss text cvss
   pub complete : missing_by allow_incomplete cvss ≡ None
 
--- the text denotes a vector that lacks base metrics and may not, and the error reports the first of them
-pub record IsIncomplete (allow_incomplete : Bool) (text : List ℕ) (error : ReadError) : Type 0 where
-  pub cvss : Cvss
-  pub denoted : DenotesCvss text cvss
-  pub metric : MetricType
-  pub missing : missing_by allow_incomplete cvss ≡ Some metric
-  pub is : error ≡ Invalid (Missing metric)
-
 -- the line's only match is rejected
 pub record IsRejected (allow_incomplete : Bool) (line : List ℕ) (error : ReadError) : Type 0 where
   pub text : List ℕ
   pub only : IsOnlyMatch line text
-  pub why : IsReadError text error ⊎ IsIncomplete allow_incomplete text error
+  pub is_right : IsReadErrorBy allow_incomplete text error
 
 -- why the line has no vector
 abbrev pub IsReason : Bool → List ℕ → Reason → Type 0

@@ -1,13 +1,10 @@
 //! The vector of a line.
 
-ghost use Rattle.std.specs.Prelude.{◌≡◌, ◌⊎◌, Bool, IfErr, IfOk, None};
+ghost use Rattle.std.specs.Prelude.{Bool, IfErr, IfOk};
 ghost use Rattle.cvss_any.specs.Answers.{HasScore};
-ghost use Rattle.cvss_any.specs.Dispatch.{DenotesCvss};
-ghost use Rattle.cvss_any.specs.Refusals.{IsReadError};
-ghost use Rattle.cvss_rank.specs.Reading.{IsIncomplete, IsOnlyMatch, IsReason, IsVectorOf};
-ghost use Rattle.cvss_any.specs.Complete.{missing_by};
+ghost use Rattle.cvss_rank.specs.Reading.{IsOnlyMatch, IsReason, IsVectorOf};
 
-use cvss_any::{Cvss, ReadError, Refusal};
+use cvss_any::{Cvss, ReadError};
 use cvss_scan::Mentions;
 
 /// Why a line has no vector.
@@ -32,7 +29,7 @@ pub fn vector_of(line: &[u8], allow_incomplete: bool) -> Result<Cvss, Reason<'_>
     ensures reason { IfErr result (IsReason allow_incomplete line.now) }
 {
     let text = only_match(line)?;
-    match read(text, allow_incomplete) {
+    match Cvss::read_by(text, allow_incomplete) {
         Ok(cvss) => Ok(cvss),
         Err(error) => Err(Reason::Rejected(error)),
     }
@@ -51,20 +48,5 @@ fn only_match(line: &[u8]) -> Result<&[u8], Reason<'_>>
     match matches.next() {
         Some(_) => Err(Reason::SeveralVectors),
         None => Ok(only.text),
-    }
-}
-
-/// The vector that a text denotes, which lacks no base metric unless it may.
-fn read(text: &[u8], allow_incomplete: bool) -> Result<Cvss, ReadError<'_>>
-    ensures denoted { IfOk result (λ cvss. DenotesCvss text.now cvss) }
-    ensures complete { IfOk result (λ cvss. missing_by allow_incomplete cvss ≡ None) }
-    ensures scored { IfOk result (λ cvss. HasScore cvss) }
-    ensures error { IfErr result (λ error. IsReadError text.now error
-        ⊎ IsIncomplete allow_incomplete text.now error) }
-{
-    let cvss = Cvss::read(text)?;
-    match cvss.missing_by(allow_incomplete) {
-        Some(metric) => Err(ReadError::Invalid(Refusal::Missing(metric))),
-        None => Ok(cvss),
     }
 }

@@ -1,15 +1,16 @@
 -- The row of a line: CVSS v2 guide, section 3.2; v3.1 specification, section 7; v4.0 specification, section 8.
 use Rattle.std.specs.Prelude.{◌≡◌, ℕ, Bool, List, [], ◌∷◌, ◌++◌, codes, flat_map, if◌then◌else◌, None, ℤ}
 use Rattle.std.specs.Str.{IsUtf8}
-use Rattle.cvss_answer.specs.Answers.{score_rule}
 use Rattle.cvss_any.specs.Answers.{IsScoreOf, rating_by, score_of_tenths, text_of}
-use Rattle.cvss_any.specs.Complete.{missing_by}
+use Rattle.cvss_any.specs.Complete.{IsReadErrorBy, missing_by}
 use Rattle.cvss_any.specs.Dispatch.{DenotesCvss}
+use Rattle.cvss_any.specs.Reasons.{error_message}
+use Rattle.cvss_any.specs.declared.refusal.ReadError.{ReadError}
 use Rattle.cvss_any.specs.declared.vector.Cvss.{Cvss}
 use Rattle.cvss_any.specs.declared.vector.Cvss.TheVariants.{CvssV20, CvssV30, CvssV31, CvssV40}
 use Rattle.cvss_base.specs.SeverityText.{text_of as severity_text}
 use Rattle.cvss_base.specs.Tenths.{tenths_text}
-use Rattle.cvss_lines.specs.Answers.{Answer, Accepted, Refused}
+use Rattle.cvss_lines.specs.Answers.{Rule, by_one_text}
 use Rattle.cvss_lines.specs.Prefixed.{IsPrefixed}
 use Rattle.cvss_score.specs.v2.Scores as scores_v2
 use Rattle.cvss_score.specs.v3.Scores as scores_v3
@@ -114,22 +115,21 @@ pub record AreVectorCells (format : Format) (allow_incomplete : Bool) (line text
   pub are : AreFields vector fields
   pub is : text ≡ cells_text format fields
 
--- the line is rejected for this reason, as it is without rows, and this follows it in its row
-pub record AreErrorCells (format : Format) (allow_incomplete : Bool) (number : ℕ) (line text : List ℕ) : Type 0 where
-  pub reason : List ℕ
-  pub rejected : score_rule allow_incomplete number line (Refused ((codes "error: " ++ reason) ∷ []))
-  pub is : text ≡ cells_text format (rejected_fields reason)
+-- the line is the text of no vector, or of one that lacks base metrics and may not, and the first reason follows it in its row
+pub record AreErrorCells (format : Format) (allow_incomplete : Bool) (line text : List ℕ) : Type 0 where
+  pub error : ReadError
+  pub is_right : IsReadErrorBy allow_incomplete line error
+  pub is : text ≡ cells_text format (rejected_fields (error_message error))
 
--- this follows the line in its row: one text
-unfoldable pub AreCells : Format → Bool → ℕ → List ℕ → Answer → Type 0
-AreCells format allow_incomplete number line (Accepted (text ∷ [])) = AreVectorCells format allow_incomplete line text
-AreCells format allow_incomplete number line (Refused (text ∷ [])) = AreErrorCells format allow_incomplete number line text
-AreCells format allow_incomplete number line answer = ⊥
+-- what follows the line in its row: one text
+abbrev pub cells_rule : Format → Bool → Rule
+cells_rule format allow_incomplete =
+    by_one_text (λ number. AreVectorCells format allow_incomplete) (λ number. AreErrorCells format allow_incomplete)
 
 -- this is an answer to the line, which is read of an input whose answers have a prefix or an empty one: one row
-unfoldable pub IsRow : Format → Bool → List ℕ → ℕ → List ℕ → Answer → Type 0
+unfoldable pub IsRow : Format → Bool → List ℕ → Rule
 IsRow format allow_incomplete prefix number line =
-    IsPrefixed (opening format prefix ++ given_text format line) (AreCells format allow_incomplete) number line
+    IsPrefixed (opening format prefix ++ given_text format line) (cells_rule format allow_incomplete) number line
 
 -- the names of the columns, where answers have a prefix or not
 abbrev pub header_text : Bool → List ℕ

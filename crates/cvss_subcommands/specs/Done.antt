@@ -3,7 +3,7 @@ use Rattle.std.specs.Prelude.{◌≡◌, ◌⊎◌, ℕ, ◌-◌, ◌==◌, Bool
 use Rattle.std.specs.Global.{Vec}
 use Rattle.std.specs.Io.KnownBytes.{Keeps}
 use Rattle.std.specs.Str.{IsUtf8}
-use Rattle.cvss_answer.specs.Setting.{IsSetAnswer}
+use Rattle.cvss_answer.specs.Setting.{set_rule}
 use Rattle.cvss_subcommands.specs.Scoring.{AnswersLines, Scores, WritesText}
 use Rattle.cvss_subcommands.specs.Triaging.{settings_of}
 use Rattle.cvss_audit.specs.Task.{audit_ends}
@@ -81,7 +81,7 @@ Answers ends options arguments contents unread unread' written written' result =
 -- the metrics are set in the vectors of the operands, unless they are no text or memory runs out
 abbrev pub SetsMetrics : List ℕ → Options → List (Vec ℕ) → (List ℕ → Option (List ℕ)) → Option (List ℕ) → Option (List ℕ) → Option (List ℕ) → Option (List ℕ) → Result Served ℕ → Type 0
 SetsMetrics metrics options arguments contents unread unread' written written' result =
-    Answers (AnswersLines (IsSetAnswer metrics)) options arguments contents unread unread' written written' result
+    Answers (AnswersLines (set_rule metrics)) options arguments contents unread unread' written written' result
     ⊎ (¬ (IsUtf8 metrics) × Idle unread unread' written written' result (Err (length arguments - 1)))
     ⊎ Idle unread unread' written written' result (Ok (after nothing_served (Err Memory)))
 

@@ -4,4 +4,3 @@ pub mod Requests
 pub mod Scoring
 pub mod Subcommands
 pub mod Triaging
-pub mod private

@@ -1,15 +1,15 @@
 //! `cvss explain`.
 
 ghost use Rattle.cvss_subcommands.specs.Done.{explain_ends};
-ghost use Rattle.cvss_subcommands.specs.private.OneText.{explained_by_one_text};
 ghost use Rattle.cvss_explain_answers.specs.Json as json;
 ghost use Rattle.cvss_explain_answers.specs.Text as text;
+ghost use Rattle.cvss_lines.specs.Prefixed.{is_one_text};
 ghost use Rattle.cvss_lines.specs.Runs.{Ends};
 ghost use Rattle.cvss_program.specs.Operands.{ServesAll};
 
 use crate::flags::Flags;
 use cvss_explain_answers::{Explaining, answer_explained};
-use cvss_lines::{OutputBuffer, RunFault, Summary, serve};
+use cvss_lines::{Answering, OutputBuffer, RunFault, Summary, run};
 use cvss_program::{EachLine, Files, LineAnswer, Served, Task, WatchedReader, serve_operands};
 use std::alloc::{AllocError, Global};
 use std::io::{Read, Write};
@@ -35,7 +35,6 @@ pub(crate) fn explain<F: Files, R: Read, W: Write, E: Write>(
         serve_operands(alloc, &task, operands, files, reader, writer, report)
     } else {
         let answer = ExplainText {
-            alloc,
             what_if: flags.what_if,
             allow_incomplete,
         };
@@ -65,37 +64,33 @@ impl Task for ExplainObjects {
             allow_incomplete: self.allow_incomplete,
             prefix,
         };
-        serve(&explaining, alloc, reader, writer)
+        run(&explaining, alloc, reader, writer)
     }
 }
 
 /// Explains the score by a text for people.
 #[derive(Drop)]
 struct ExplainText {
-    alloc: Global,
     /// Shows the scores that other values would give.
     what_if: bool,
     /// A vector of CVSS v3 may lack base metrics.
     allow_incomplete: bool,
 }
 
-impl LineAnswer for ExplainText {
+impl Answering for ExplainText {
     ghost rule = { λ explain. text.IsAnswer explain.what_if explain.allow_incomplete };
-
-    ghost one_text = { λ explain. explained_by_one_text explain.what_if explain.allow_incomplete };
 
     fn answer_line(
         &self,
+        alloc: Global,
         _number: u64,
         line: &[u8],
         answers: &mut OutputBuffer,
     ) -> Result<bool, AllocError> {
-        answer_explained(
-            self.alloc,
-            line,
-            self.what_if,
-            self.allow_incomplete,
-            answers,
-        )
+        answer_explained(alloc, line, self.what_if, self.allow_incomplete, answers)
     }
+}
+
+impl LineAnswer for ExplainText {
+    ghost one_text = { λ _. is_one_text _ _ };
 }

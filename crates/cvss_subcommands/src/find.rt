@@ -6,7 +6,7 @@ ghost use Rattle.cvss_program.specs.Operands.{ServesAll};
 
 use crate::flags::Flags;
 use cvss_find::{Finding, Form};
-use cvss_lines::{RunFault, Summary, serve, write_whole};
+use cvss_lines::{RunFault, Summary, run, write_whole};
 use cvss_program::{Files, Served, Task, WatchedReader, serve_operands};
 use std::alloc::Global;
 use std::cell::Cell;
@@ -83,6 +83,6 @@ impl Task for Find<'_> {
             prefix,
             loose_prefix: self.loose_prefix,
         };
-        serve(&finding, alloc, reader, writer)
+        run(&finding, alloc, reader, writer)
     }
 }

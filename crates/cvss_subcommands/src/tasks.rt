@@ -1,13 +1,13 @@
 //! What the subcommands do with a line.
 
 ghost use Rattle.cvss_answer.specs.Answers.{score_rule};
-ghost use Rattle.cvss_answer.specs.Setting.{IsSetAnswer};
-ghost use Rattle.cvss_subcommands.specs.private.OneText.{score_by_one_text, set_by_one_text};
+ghost use Rattle.cvss_answer.specs.Setting.{set_rule};
+ghost use Rattle.cvss_lines.specs.Prefixed.{is_one_text};
 ghost use Rattle.cvss_lines.specs.Runs.{Ends};
 ghost use Rattle.cvss_rows.specs.Rows.{IsRow};
 
 use cvss_answer::{answer_score, answer_with_metrics};
-use cvss_lines::{OutputBuffer, RunFault, Summary, serve};
+use cvss_lines::{Answering, OutputBuffer, RunFault, Summary, run};
 use cvss_program::{LineAnswer, Task};
 use cvss_rows::{Format, Rows};
 use std::alloc::{AllocError, Global};
@@ -20,20 +20,23 @@ pub(crate) struct Score {
     pub(crate) allow_incomplete: bool,
 }
 
-impl LineAnswer for Score {
+impl Answering for Score {
     ghost rule = { λ score. score_rule score.allow_incomplete };
-
-    ghost one_text = { λ score. score_by_one_text score.allow_incomplete };
 
     #[inline(always)]
     fn answer_line(
         &self,
+        _alloc: Global,
         _number: u64,
         line: &[u8],
         answers: &mut OutputBuffer,
     ) -> Result<bool, AllocError> {
         answer_score(line, self.allow_incomplete, answers)
     }
+}
+
+impl LineAnswer for Score {
+    ghost one_text = { λ _. is_one_text _ _ };
 }
 
 /// Scores the vector, in a row.
@@ -59,7 +62,7 @@ impl Task for ScoreRow {
             allow_incomplete: self.allow_incomplete,
             prefix,
         };
-        serve(&rows, alloc, reader, writer)
+        run(&rows, alloc, reader, writer)
     }
 }
 
@@ -70,17 +73,20 @@ pub(crate) struct Set<'a> {
     pub(crate) metrics: &'a str,
 }
 
-impl LineAnswer for Set<'_> {
-    ghost rule = { λ set. IsSetAnswer set.metrics.now };
-
-    ghost one_text = { λ set. set_by_one_text set.metrics.now };
+impl Answering for Set<'_> {
+    ghost rule = { λ set. set_rule set.metrics.now };
 
     fn answer_line(
         &self,
+        _alloc: Global,
         _number: u64,
         line: &[u8],
         answers: &mut OutputBuffer,
     ) -> Result<bool, AllocError> {
         answer_with_metrics(line, self.metrics, answers)
     }
+}
+
+impl LineAnswer for Set<'_> {
+    ghost one_text = { λ _. is_one_text _ _ };
 }

@@ -125,7 +125,7 @@ fn ends_so(
     alloc: Global,
     ended: &Ended<'_>,
 ) {
-    let outcome = run::<Vectors, Steps<'_>, Narrow>(alloc, &mut reader, &mut writer);
+    let outcome = run(&Vectors {}, alloc, &mut reader, &mut writer);
     assert!(rt; outcome == ended.outcome && writer.taken.as_slice() == ended.written);
     assert!(rt; exit_status(&outcome) == ended.status);
 }
@@ -209,7 +209,7 @@ fn long_line(alloc: Global) -> Result<String, AllocError> {
 fn reads_many_bytes_at_once(rt: HostRuntime) {
     let mut reader = steps_of(b"", 1, None);
     let mut writer = writer_of(rt.alloc(), 0, None);
-    let outcome = run::<Vectors, Steps<'_>, Narrow>(rt.alloc(), &mut reader, &mut writer);
+    let outcome = run(&Vectors {}, rt.alloc(), &mut reader, &mut writer);
     assert!(rt; outcome.is_ok());
     assert!(rt; reader.room == 65_536);
 }

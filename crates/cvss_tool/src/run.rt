@@ -16,5 +16,5 @@ pub fn run<R: Read, W: Write>(
     ensures { Ends IsAnswer (R.remaining reader.old) (R.remaining reader.new)
         (W.contents writer.old) (W.contents writer.new) result }
 {
-    cvss_lines::run::<Vectors, R, W>(alloc, reader, writer)
+    cvss_lines::run(&Vectors {}, alloc, reader, writer)
 }

@@ -1,23 +1,19 @@
 use Rattle.std.proofs.Common.{inl, inr, refl}
-use Rattle.cvss_any.specs.Reasons.{error_message, not_utf8_text, reason_text}
-use Rattle.cvss_any.specs.Refusals.{refusal_of}
-use Rattle.cvss_any.proofs.ErrorLemmas.{said_of_bytes}
+use Rattle.std.proofs.lemmas.Result.{err_from_is_err_and}
 use Rattle.cvss_answer.proofs.setting.vector_with.Goals as goal
 
-pub returns-in-Err-clause-rejected : goal.returns-in-Err-clause-rejected
-returns-in-Err-clause-rejected c = inl (record {
-  reason = error_message c.in-Err.error;
-  is_reason = said_of_bytes reason_text not_utf8_text c.args.line.now c.in-Err.error c.in-Err.ensures.refused;
-  is = refl;
-})
+pub returns-in_err-vector-clause-rejected : goal.returns-in_err-vector-clause-rejected
+returns-in_err-vector-clause-rejected c =
+    let exit = err_from_is_err_and c.from_residual.result c.from_residual.ensures.1 in
+    rw (exit.1, exit.2) (inl c.in_err-vector.ensures.refused)
 
-pub returns-in-Err-with_metrics-clause-rejected : goal.returns-in-Err-with_metrics-clause-rejected
-returns-in-Err-with_metrics-clause-rejected c = inr (inl (record {
-  utf8 = c.in-Ok.ensures.utf8;
-  vector = c.in-Ok.vector;
-  denoted = c.in-Ok.ensures.denoted;
-  index = c.in-Err-with_metrics.error.index;
-  reason = refusal_of c.in-Err-with_metrics.error.reason;
-  first = c.in-Err-with_metrics.ensures.refused;
+pub returns-in-Err-clause-rejected : goal.returns-in-Err-clause-rejected
+returns-in-Err-clause-rejected c = inr (inl (record {
+  utf8 = c.in_ok-vector.ensures.utf8;
+  vector = c.in_ok-vector.vector;
+  denoted = c.in_ok-vector.ensures.denoted;
+  index = c.in-Err.error.index;
+  refusal = c.in-Err.error.reason;
+  first = c.in-Err.ensures.refused;
   is = refl;
 }))

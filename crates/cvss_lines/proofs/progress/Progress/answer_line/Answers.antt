@@ -9,4 +9,4 @@ returns-in_err-accepted-clause-stopped g c =
 
 pub returns-clause-answered : goal.returns-clause-answered
 returns-clause-answered g c = λ start lines s. Stands_line (g.S.Service.rule c.args.service.now) (g.S.Service.beginning c.args.service.now) start (g.W.Write.contents c.args.writer.now)
-    (g.W.Write.contents c.serve_line.new.writer) lines c.args.self.now s _ c.args.line.now c.in_ok-accepted.accepted c.in_ok-accepted.ensures.streamed c.with-self.ensures c.saturating_add-self.ensures
+    (g.W.Write.contents c.serve_line.new.writer) lines c.args.self.now s _ c.args.line.now c.in_ok-accepted.accepted c.in_ok-accepted.ensures.streamed c.count.ensures c.saturating_add-self.ensures

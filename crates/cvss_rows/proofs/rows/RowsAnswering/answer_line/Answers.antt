@@ -1,10 +1,10 @@
 use Rattle.std.proofs.Common.{◌++◌}
 use Rattle.std.proofs.lemmas.Result.{IfOk-weaker}
+use Rattle.cvss_lines.specs.Prefixed.{is_one_text}
 use Rattle.cvss_program.proofs.PrefixedLemmas.{WritesAnswer-prefixed}
 use Rattle.cvss_rows.specs.Cells.{given_text, opening}
-use Rattle.cvss_rows.specs.Rows.{AreCells, IsRow}
-use Rattle.cvss_rows.proofs.RowLemmas.{one_text_of_cells}
-use Rattle.cvss_rows.proofs.rows.Rows.answer_line.Goals as goal
+use Rattle.cvss_rows.specs.Rows.{IsRow, cells_rule}
+use Rattle.cvss_rows.proofs.rows.RowsAnswering.answer_line.Goals as goal
 
 pub returns : goal.returns
 unfolding IsRow
@@ -13,7 +13,7 @@ returns c =
     let line = c.args.line.now in
     IfOk-weaker c.write_cells.result _ _
     (λ accepted written.
-    let row = WritesAnswer-prefixed (AreCells rows.format rows.allow_incomplete) (one_text_of_cells rows.format rows.allow_incomplete)
+    let row = WritesAnswer-prefixed (cells_rule rows.format rows.allow_incomplete) (is_one_text _ _)
     (opening rows.format rows.prefix.now ++ given_text rows.format line) c.args.number line c.args.answers.now.bytes.items _ _ accepted
     c.in_ok-push_start.ensures written in
     record { answer = row.answer; answers = row.answers; reported = row.reported; written = row.written })

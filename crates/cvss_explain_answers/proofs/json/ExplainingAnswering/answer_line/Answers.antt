@@ -1,0 +1,54 @@
+use Rattle.std.proofs.Common.{inl, inr, sym, subst}
+use Rattle.cvss_json_tree.specs.Texts.{IsTextOf}
+use Rattle.cvss_lines.proofs.TextsLemmas.{accepted_by, refused_by}
+use Rattle.cvss_explain_answers.specs.Json.{refusal_value}
+use Rattle.cvss_explain_answers.proofs.json.ExplainingAnswering.answer_line.Goals as goal
+
+pub returns-in_ok-write_explanation-in-None : goal.returns-in_ok-write_explanation-in-None
+returns-in_ok-write_explanation-in-None c =
+    let written = c.in_ok-write_explanation-in-None.ensures in
+    accepted_by _ _ c.args.number c.args.line.now written.text _ _ written.written
+    (record {
+      own = written.holds.own;
+      is_own = record {
+        utf8 = c.in-Ok.ensures.utf8;
+        cvss = c.in-Ok.vector;
+        denoted = c.in-Ok.ensures.denoted;
+        complete = sym c.in-None.ensures;
+        explains = written.holds.is_own;
+      };
+      is = written.holds.is;
+    })
+
+pub returns-in_ok-write_refusal-in-Some : goal.returns-in_ok-write_refusal-in-Some
+returns-in_ok-write_refusal-in-Some c =
+    let written = c.in_ok-write_refusal-in-Some.ensures in
+    let own = written.holds.own in
+    refused_by _ _ c.args.number c.args.line.now written.text _ _ written.written
+    (record {
+      own = own;
+      is_own = inr (record {
+        utf8 = c.in-Ok.ensures.utf8;
+        cvss = c.in-Ok.vector;
+        denoted = c.in-Ok.ensures.denoted;
+        metric = c.in-Some.metric;
+        missing = sym c.in-Some.ensures;
+        is_text = subst (λ reason. IsTextOf (refusal_value c.args.number c.args.line.now reason) own) c.in_ok-missing-in-Some.ensures written.holds.is_own;
+      });
+      is = written.holds.is;
+    })
+
+pub returns-in_ok-write_refusal-in-Err : goal.returns-in_ok-write_refusal-in-Err
+returns-in_ok-write_refusal-in-Err c =
+    let written = c.in_ok-write_refusal-in-Err.ensures in
+    let own = written.holds.own in
+    refused_by _ _ c.args.number c.args.line.now written.text _ _ written.written
+    (record {
+      own = own;
+      is_own = inl (record {
+        error = c.in-Err.error;
+        reported = c.in-Err.ensures.refused;
+        is_text = subst (λ reason. IsTextOf (refusal_value c.args.number c.args.line.now reason) own) c.in_ok-reason-in-Err.ensures.ok written.holds.is_own;
+      });
+      is = written.holds.is;
+    })
