@@ -130,7 +130,7 @@ fn is_utf8(bytes: &[u8]) -> bool
 
 /// Whether bytes are ASCII, by the bits of all, which the compiler joins many at once.
 #[inline(always)]
-#[tactic(auto, using(Rattle::std::proofs::lemmas::Nat::le_or_l, Rattle::std::proofs::lemmas::Nat::le_or_r))]
+#[tactic(auto, using(std::proofs::lemmas::Nat::le_or_l, std::proofs::lemmas::Nat::le_or_r))]
 fn is_ascii(bytes: &[u8]) -> bool
     ensures { IsTrue result → IsAscii bytes.now }
 {
