@@ -1,15 +1,15 @@
 -- The components of a vector, and the pieces that stand for them.
-use Rattle.std.proofs.Common.{◌≡◌, ◌≢◌, ◌⊎◌, inl, inr, ℕ, ◌<◌, List, [], ◌∷◌, ◌++◌, length, get_or, map, Option, Some, None, refl, sym, ap, ◌∙◌, subst, arith, IsPermutation, option_map}
+use Rattle.std.proofs.Common.{◌≡◌, ◌≢◌, ◌⊎◌, inl, inr, ℕ, ◌<◌, ◌≤◌, List, [], ◌∷◌, ◌++◌, length, get_or, map, take, Option, Some, None, IsSome, refl, sym, ap, ◌∙◌, subst, arith, IsPermutation, option_map}
 use Rattle.std.specs.List.{All, Contains, filter_map, cons_option}
-use Rattle.std.proofs.lemmas.List.{map-append, length-map, get_or-map}
+use Rattle.std.proofs.lemmas.List.{map-append, length-map, get_or-map, get_or-take, length-take-le, take_all}
 use Rattle.std.proofs.lemmas.List.Elements.{All-nil, All-cons, All-head, All-tail, All-map, All-get_or, Contains-append_right, filter_map-append}
 use Rattle.std.proofs.lemmas.List.Sorted.{IsPermutation-middle, IsPermutation-cons, IsPermutation-to_front, IsPermutation-sym, IsPermutation-trans, All-permutation, Contains-permutation}
-use Rattle.cvss_base.specs.Text.{IsComponent, name_part, value_part, component}
+use Rattle.cvss_base.specs.Text.{name_part, value_part, component}
 use Rattle.cvss_base.specs.Version.{Version, read, component_of, components_of, AreComponentsOf}
-use Rattle.cvss_base.specs.Refusal.{piece_at}
+use Rattle.cvss_base.specs.Refusal.{IsNamedBefore, piece_at}
 use Rattle.cvss_text.specs.private.Walk.{VersionLaws, Adds}
-use Rattle.cvss_text.proofs.TextLemmas.{read-component, component-parts}
-use Rattle.cvss_text.proofs.LawLemmas.{IsCutAt, component_read, printed_once}
+use Rattle.cvss_text.proofs.TextLemmas.{read-component, name_part-read, value_part-read, name_part-component, value_part-component}
+use Rattle.cvss_text.proofs.LawLemmas.{IsCutAt, component_read, name_plain, names_differ, printed_once}
 
 -- what holds unless something else does
 unless : {A B : Type 0} → A ⊎ B → (A → ⊥) → B
@@ -30,10 +30,6 @@ IsPermutation-insert_push xs ys zs x same =
 
 IsPermutation-along : {X : Type 0} {xs ys us vs : List X} → xs ≡ us → ys ≡ vs → IsPermutation us vs → IsPermutation xs ys
 IsPermutation-along left right same = rw (left, right) same
-
--- a component, as it is read, is its name, the colon and its value, as they are read
-pub piece_read : {V K : Type 0} (version : Version V K) (piece : List ℕ) → IsComponent piece → read version piece ≡ component (read version (name_part piece)) (read version (value_part piece))
-piece_read version piece is = ap (read version) (component-parts piece is) ∙ read-component version.any_case (name_part piece) (value_part piece)
 
 -- the text is the component of one of the vector's values, as it is read
 pub record IsHeldAs {V K : Type 0} (version : Version V K) (v : V) (text : List ℕ) : Type 0 where
@@ -67,8 +63,8 @@ module _ {V K : Type 0} (version : Version V K) (version_laws : VersionLaws vers
       ap (map (read version)) (components_cut v kind cut) ∙ rw empty (map-append (read version) _ _)
 
   -- the vector after a component has one component more
-  pub adds_component : (old new : V) (parts : List (List ℕ)) (piece : List ℕ) → Adds version old piece new → IsComponent piece → AreComponentsOf version parts old → AreComponentsOf version (parts ++ piece ∷ []) new
-  adds_component old new parts piece adds is components =
+  pub adds_component : (old new : V) (parts : List (List ℕ)) (piece : List ℕ) → Adds version old piece new → AreComponentsOf version parts old → AreComponentsOf version (parts ++ piece ∷ []) new
+  adds_component old new parts piece adds components =
       let kind = adds.kind in
       let cut = printed_once version version_laws kind in
       let kept : (list : List K) → All (λ other. other ≢ kind) list → filter_map (component_of version new) list ≡ filter_map (component_of version old) list =
@@ -79,7 +75,7 @@ module _ {V K : Type 0} (version : Version V K) (version_laws : VersionLaws vers
       let new_is : map (read version) (components_of version new) ≡ before ++ added ∷ after =
       components_with new kind adds.puts.fills.value cut adds.puts.fills.filled ∙ rw (kept cut.before cut.not_before, kept cut.after cut.not_after) in
       let piece_is : read version piece ≡ added =
-      piece_read version piece is ∙ rw (adds.named, adds.puts.fills.spelled) in
+      ap (read version) adds.cut ∙ read-component version.any_case (name_part piece) (value_part piece) ∙ rw (adds.named, adds.puts.fills.spelled) in
       let parts_are : map (read version) (parts ++ piece ∷ []) ≡ map (read version) parts ++ added ∷ [] =
       map-append (read version) parts (piece ∷ []) ∙ rw piece_is in
       record { each_once = IsPermutation-along new_is parts_are (IsPermutation-insert_push before after (map (read version) parts) added (IsPermutation-along (sym (components_without old kind cut adds.puts.fills.was_empty)) refl components.each_once)) }
@@ -113,3 +109,38 @@ module _ {V K : Type 0} (version : Version V K) (version_laws : VersionLaws vers
       let held = holds_of_components (IsHeldAs version v) v version.printed (λ k d inside value held. record { kind = get_or version.printed k d; value = value; held = held; is = refl }) in
       let all = All-permutation (IsHeldAs version v) _ _ components.each_once held in
       subst (IsHeldAs version v) (get_or-map (read version) parts place [] (read version []) within) (All-get_or (IsHeldAs version v) (map (read version) parts) place (read version []) (omega (arith, length-map parts (read version))) all)
+
+-- the value that is there
+pub value_from : {A : Type 0} (option : Option A) → IsSome option → (value : A) × (option ≡ Some value)
+value_from None is = cc
+value_from (Some value) is = (value, refl)
+
+module _ {V K : Type 0} (version : Version V K) (version_laws : VersionLaws version) where
+  -- the name and the value of a piece that stands for a component
+  pub name_from : (piece : List ℕ) (kind : K) (text : List ℕ) → read version piece ≡ component (version.name kind) text → read version (name_part piece) ≡ version.name kind
+  name_from piece kind text is =
+      sym (name_part-read version.any_case piece) ∙ (ap name_part is ∙ name_part-component (version.name kind) text (name_plain version version_laws kind))
+
+  pub value_from_piece : (piece : List ℕ) (kind : K) (text : List ℕ) → read version piece ≡ component (version.name kind) text → read version (value_part piece) ≡ text
+  value_from_piece piece kind text is =
+      sym (value_part-read version.any_case piece) ∙ (ap value_part is ∙ value_part-component (version.name kind) text (name_plain version version_laws kind))
+
+  -- where the vector holds the components before a place, its values are the metrics named there
+  module _ (v : V) (parts : List (List ℕ)) (place : ℕ) (within : place ≤ length parts) (components : AreComponentsOf version (take place parts) v) where
+    pub named_is_held : (kind : K) → IsNamedBefore version parts place kind → IsSome (version.value_of v kind)
+    named_is_held kind named =
+        let held = piece_held version version_laws v (take place parts) named.earlier components (omega (arith, length-take-le place parts within, named.is_before)) in
+        let here = get_or-take place parts named.earlier [] named.is_before in
+        let is_kind : held.kind ≡ kind = names_differ version version_laws held.kind kind (sym (name_from (piece_at parts named.earlier) held.kind _ (ap (read version) (sym here) ∙ held.is)) ∙ named.same_name) in
+        subst (λ each. IsSome (version.value_of v each)) is_kind (rw held.held)
+
+    pub held_is_named : (kind : K) → IsSome (version.value_of v kind) → IsNamedBefore version parts place kind
+    held_is_named kind held =
+        let value = value_from (version.value_of v kind) held in
+        let stands = held_stands version version_laws v (take place parts) kind value.0 components value.1 in
+        let before : stands.place < place = omega (arith, length-take-le place parts within, stands.within) in
+        record { earlier = stands.place; is_before = before; same_name = name_from (piece_at parts stands.place) kind _ (ap (read version) (sym (get_or-take place parts stands.place [] before)) ∙ stands.is) }
+
+-- pieces are the first of themselves
+pub all_taken : {V K : Type 0} (version : Version V K) (v : V) (parts : List (List ℕ)) → AreComponentsOf version parts v → AreComponentsOf version (take (length parts) parts) v
+all_taken version v parts components = rw (take_all (length parts) parts (omega arith)) components

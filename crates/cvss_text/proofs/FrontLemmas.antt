@@ -1,8 +1,8 @@
 -- What is answered of a whole text, whether a version piece is before the components or not; and texts after a version
 -- piece.
 use Rattle.std.proofs.Common.{◌≡◌, ℕ, List, [], ◌++◌, length, drop, Ok, Err, sym, ap, ◌∙◌, subst, zero, suc, ◌∷◌, get_or, codes, refl, arith, All, Contains, IsUtf8}
-use Rattle.std.proofs.lemmas.List.{get_or-map, drop_at}
-use Rattle.std.proofs.lemmas.List.Elements.{All-append, All-nil, All-cons, All-drop}
+use Rattle.std.proofs.lemmas.List.{get_or-map}
+use Rattle.std.proofs.lemmas.List.Elements.{All-append, All-nil, All-cons}
 use Rattle.std.proofs.lemmas.List.Splits.{join_with_byte-slice_split}
 use Rattle.cvss_text.specs.declared.walk.Fault.{Fault}
 use Rattle.cvss_base.specs.Text.{slash, pieces, joined, IsComponent}
@@ -13,7 +13,7 @@ use Rattle.cvss_text.specs.private.Walk.{VersionLaws, IsFirstOfPieces, IsBare, r
 use Rattle.cvss_text.proofs.CanonicalLemmas.{denoted_once}
 use Rattle.cvss_text.proofs.DenotesLemmas.{pieces_of_complete, no_reason, pieces_of_denoted}
 use Rattle.cvss_text.proofs.JoinLemmas.{are_parts, IsUtf8-parts}
-use Rattle.cvss_text.proofs.PieceLemmas.{IsUtf8-pieces}
+use Rattle.cvss_text.proofs.PieceLemmas.{All-left, IsUtf8-pieces}
 use Rattle.cvss_text.proofs.RefusalLemmas.{one_refusal, one_refusal_after}
 use Rattle.cvss_text.proofs.TextLemmas.{IsPart, IsPart-component, name_part-component, value_part-component}
 
@@ -58,8 +58,7 @@ Denotes-pieces version text front left cut v front_is components = record {
 
 -- the pieces that are left of a text in UTF-8
 pub IsUtf8-left : (text : List ℕ) (front left : List (List ℕ)) → pieces text ≡ front ++ left → IsUtf8 text → All IsUtf8 left
-IsUtf8-left text front left cut is =
-    subst (All IsUtf8) (ap (drop (length front)) cut ∙ drop_at front left (length front) refl) (All-drop IsUtf8 (length front) (pieces text) (IsUtf8-pieces text is))
+IsUtf8-left text front left cut is = All-left IsUtf8 (pieces text) front left cut (IsUtf8-pieces text is)
 
 module _ {V K : Type 0} (version : Version V K) (version_laws : VersionLaws version) (text : List ℕ) where
   -- a text that denotes a complete vector is UTF-8, and all its pieces are components

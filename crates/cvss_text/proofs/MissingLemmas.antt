@@ -1,13 +1,15 @@
 -- The first mandatory metric that a vector lacks, by its place.
-use Rattle.std.proofs.Common.{◌≡◌, true, false, List, ℕ, length, Option, Some, None, IsSome, Result, Ok, Err, OnOk, IfErr, Contains, is_none, refl, subst}
-use Rattle.std.proofs.lemmas.Option.{slice_get_within, get_or_from_slice_get}
-use Rattle.cvss_base.specs.Version.{Version, IsComplete}
-use Rattle.cvss_base.specs.Refusal.{AreComponentsBefore}
+use Rattle.std.proofs.Common.{◌≡◌, true, false, List, ℕ, length, Option, Some, None, IsSome, Result, Ok, Err, OnOk, IfErr, Contains, is_none, refl, sym, ◌∙◌, subst, arith}
+use Rattle.std.proofs.lemmas.Option.{slice_get_within, get_or_from_slice_get, none-some}
+use Rattle.cvss_base.specs.Version.{Version, AreComponentsOf, IsComplete}
+use Rattle.cvss_base.specs.Refusal.{IsFirstMissing, IsNamedBefore}
+use Rattle.cvss_base.proofs.FindLemmas.{found_first, not_found}
 use Rattle.cvss_text.specs.declared.walk.Fault.{Fault}
 use Rattle.cvss_text.specs.declared.walk.Fault.TheVariants.{MissingMandatoryMetric}
-use Rattle.cvss_text.specs.private.Walk.{first_missing, HasRead, IsMissingFault, IsReadLeft, LacksFirst, VersionLaws}
-use Rattle.cvss_text.proofs.WalkLemmas.{AreComponentsOf-all, IsFirstMissing-from}
-use Rattle.cvss_base.proofs.FindLemmas.{found_first, not_found}
+use Rattle.cvss_text.specs.private.Walk.{first_missing, IsMissingFault, IsReadLeft, LacksFirst, VersionLaws}
+use Rattle.cvss_text.proofs.ComponentLemmas.{all_taken, held_is_named, named_is_held, value_from}
+use Rattle.cvss_text.proofs.DenotesLemmas.{no_fault_before}
+use Rattle.cvss_text.proofs.JoinLemmas.{piece_is_component}
 
 is_none_true : {X : Type 0} (o : Option X) → is_none o ≡ true → o ≡ None
 is_none_true None is = refl
@@ -45,20 +47,35 @@ module _ {V K : Type 0} (version : Version V K) (v : V) where
         get_or_from_slice_get version.mandatory lacks.place kind kind lacks.is,
       )
 
+module _ {V K : Type 0} (version : Version V K) (version_laws : VersionLaws version) (parts : List (List ℕ)) (v : V) (components : AreComponentsOf version parts v) where
+  -- the first mandatory metric that the vector lacks is the first that no component names
+  pub IsFirstMissing-from : (kind : K) → first_missing version v ≡ Some kind → IsFirstMissing version parts kind
+  IsFirstMissing-from kind missing =
+      let lacks = LacksFirst-from version v kind missing in
+      let all = all_taken version v parts components in
+      let held : (other : K) → IsNamedBefore version parts (length parts) other → IsSome (version.value_of v other) = named_is_held version version_laws v parts (length parts) (omega arith) all in
+      record {
+        faultless = no_fault_before version version_laws v parts (length parts) (omega arith) all;
+        place = lacks.place;
+        is = lacks.is;
+        absent = λ named. let value = value_from (version.value_of v kind) (held kind named) in none-some value.0 (sym lacks.absent ∙ value.1);
+        earlier = λ before other below is. held_is_named version version_laws v parts (length parts) (omega arith) all other (lacks.earlier before other below is);
+      }
+
   -- all pieces are read, and then it was asked whether the vector is complete
-  pub IsReadLeft-checked : VersionLaws version → (parts : List (List ℕ)) (empty : V) (answer : Result (Unit {0}) (Fault K)) → HasRead version parts (length parts) v → AreComponentsBefore parts (length parts) → version.front v ≡ version.front empty → OnOk answer (first_missing version v ≡ None) → IfErr answer (IsMissingFault version v) → IsReadLeft version parts empty answer v
-  IsReadLeft-checked version_laws parts empty (Ok _) all components front complete missing = record {
-    components = AreComponentsOf-all version version_laws parts v all;
+  pub IsReadLeft-checked : (empty : V) (answer : Result (Unit {0}) (Fault K)) → version.front v ≡ version.front empty → OnOk answer (first_missing version v ≡ None) → IfErr answer (IsMissingFault version v) → IsReadLeft version parts empty answer v
+  IsReadLeft-checked empty (Ok _) front complete missing = record {
+    components = components;
     front = front;
-    complete = IsComplete-from complete;
+    complete = IsComplete-from version v complete;
     refused = tt;
     printable = λ utf8. tt;
   }
-  IsReadLeft-checked version_laws parts empty (Err (MissingMandatoryMetric kind)) all components front complete missing = record {
+  IsReadLeft-checked empty (Err (MissingMandatoryMetric kind)) front complete missing = record {
     components = tt;
     front = tt;
     complete = tt;
-    refused = (components, IsFirstMissing-from version version_laws parts v kind all (LacksFirst-from kind missing));
-    printable = λ utf8. Contains-missing kind missing;
+    refused = (record { each = piece_is_component version version_laws v parts components }, IsFirstMissing-from kind missing);
+    printable = λ utf8. Contains-missing version v kind missing;
   }
-  IsReadLeft-checked version_laws parts empty (Err other) all components front complete missing = absurd missing
+  IsReadLeft-checked empty (Err other) front complete missing = absurd missing

@@ -1,5 +1,5 @@
 -- How pieces come off a text, and that those of a text in UTF-8 are UTF-8.
-use Rattle.std.proofs.Common.{append_assoc, IfSome, get_or, ◌-◌, ◌≡◌, ℕ, ◌+◌, ◌<◌, ◌≤◌, Bool, false, cond, ltb, List, [], ◌∷◌, inl, inr, length, take, drop, Option, Some, None, refl, sym, ap, ◌∙◌, Bor, arith, ◌++◌, subst, ltb-true, ltb-false, IsUtf8}
+use Rattle.std.proofs.Common.{append_assoc, append-nil, ◌≡◌, ℕ, ◌+◌, ◌<◌, ◌≤◌, Bool, false, cond, ltb, List, [], ◌∷◌, inl, inr, length, take, drop, Option, Some, None, refl, sym, ap, ◌∙◌, Bor, arith, ◌++◌, subst, ltb-true, ltb-false, IsUtf8}
 use Rattle.std.specs.List.{position, position_or_len, All, onto_first}
 use Rattle.std.specs.Option.{option_map_or, unwrap_or}
 use Rattle.std.specs.Slice.{IsGetRangeResult}
@@ -13,7 +13,7 @@ use Rattle.std.proofs.lemmas.Option.{cond_some, none-some}
 use Rattle.cvss_text.specs.private.Pieces.{AreParts, IsAfterComponent, IsAfterComponents, IsWithoutColon}
 use Rattle.cvss_base.specs.Text.{pieces, slash, colon, joined, component, IsComponent}
 use Rattle.cvss_text.proofs.TextLemmas.{is_slash, is_colon, position-within, colon-parts, count_by-cons}
-use Rattle.std.proofs.lemmas.List.Elements.{All-nil, All-cons, All-append}
+use Rattle.std.proofs.lemmas.List.Elements.{All-nil, All-cons, All-append, All-drop}
 use Rattle.std.proofs.lemmas.Str.{IsUtf8-take, IsUtf8-drop, IsCharBoundary-before_ascii, IsCharBoundary-after_ascii}
 use Rattle.cvss_base.specs.Refusal.{AreComponentsBefore, IsFirstBadPiece, piece_at}
 
@@ -97,35 +97,24 @@ IsAfterComponents-more parts left after is first = record {
   components = All-append IsComponent is.before (first.piece ∷ []) is.components (All-cons IsComponent first.piece [] first.component (All-nil IsComponent));
 }
 
-components_before : (parts left : List (List ℕ)) (is : IsAfterComponents parts left) → AreComponentsBefore parts (length is.before)
-components_before parts left is = record {
-  each = λ place below. rw (ap (λ list. piece_at list place) is.cut ∙ get_or_append_left is.before left [] place below) (is.components place [] below);
-}
+module _ (parts left : List (List ℕ)) (is : IsAfterComponents parts left) where
+  components_before : AreComponentsBefore parts (length is.before)
+  components_before = record {
+    each = λ place below. rw (ap (λ list. piece_at list place) is.cut ∙ get_or_append_left is.before left [] place below) (is.components place [] below);
+  }
 
-pub IsFirstBadPiece-after : (parts left : List (List ℕ)) (piece : List ℕ) (rest : List (List ℕ)) → IsAfterComponents parts left → left ≡ piece ∷ rest → ¬ (IsComponent piece) → IsFirstBadPiece parts piece
-IsFirstBadPiece-after parts left piece rest is first bad = record {
-  place = length is.before;
-  within = omega (arith, ap length is.cut, length-append is.before left, ap length first);
-  is = sym (ap (λ list. piece_at list (length is.before)) (is.cut ∙ ap (λ list. is.before ++ list) first) ∙ get_or_at is.before piece rest [] (length is.before) refl);
-  bad = bad;
-  earlier = components_before parts left is;
-}
+  pub AreComponents-after : left ≡ [] → AreComponentsBefore parts (length parts)
+  AreComponents-after none = subst (AreComponentsBefore parts) (sym (ap length (is.cut ∙ ap (λ list. is.before ++ list) none ∙ append-nil is.before))) components_before
 
--- a component stays one with a letter before it
-IsAfterComponent-letter : (text : List ℕ) (after : List (List ℕ)) → 64 < get_or text 0 0 → IsAfterComponent (pieces (take (length text - 1) (drop 1 text))) after → IsAfterComponent (pieces text) after
-IsAfterComponent-letter [] after letter is = absurd (omega (arith, letter))
-IsAfterComponent-letter (byte ∷ rest) after letter is =
-    let no_slash : is_slash byte ≡ false = grind (arith, nat_tests) in
-    let no_colon : is_colon byte ≡ false = grind (arith, nat_tests) in
-    let none : cond {A = ℕ} (is_colon byte) 1 0 ≡ 0 = ap (λ test. cond {A = ℕ} test 1 0) no_colon in
-    let whole : take (length (byte ∷ rest) - 1) rest ≡ rest = take_all (length (byte ∷ rest) - 1) rest (omega arith) in
-    let first : pieces rest ≡ is.piece ∷ after = ap pieces (sym whole) ∙ is.first in
-    record {
-      piece = byte ∷ is.piece;
-      first = slice_split-cons_no is_slash byte rest no_slash ∙ ap (onto_first byte) first;
-      component = record { one_colon = omega (arith, count_by-cons is_colon byte is.piece, none, is.component.one_colon) };
-    }
+  pub IsFirstBadPiece-after : (piece : List ℕ) (rest : List (List ℕ)) → left ≡ piece ∷ rest → ¬ (IsComponent piece) → IsFirstBadPiece parts piece
+  IsFirstBadPiece-after piece rest first bad = record {
+    place = length is.before;
+    within = omega (arith, ap length is.cut, length-append is.before left, ap length first);
+    is = sym (ap (λ list. piece_at list (length is.before)) (is.cut ∙ ap (λ list. is.before ++ list) first) ∙ get_or_at is.before piece rest [] (length is.before) refl);
+    bad = bad;
+    earlier = components_before;
+  }
 
-pub IsAfterComponent-found : (text : List ℕ) (found : Option (Bor (List ℕ))) → 64 < get_or text 0 0 → IfSome found (λ rest. IsAfterComponent (pieces (take (length text - 1) (drop 1 text))) (pieces rest.now)) → IfSome found (λ rest. IsAfterComponent (pieces text) (pieces rest.now))
-IsAfterComponent-found text None letter is = tt
-IsAfterComponent-found text (Some rest) letter is = IsAfterComponent-letter text (pieces rest.now) letter is
+-- the pieces after others
+pub All-left : (P : List ℕ → Type 0) (parts before left : List (List ℕ)) → parts ≡ before ++ left → All P parts → All P left
+All-left P parts before left cut all = subst (All P) (ap (drop (length before)) cut ∙ drop_at before left (length before) refl) (All-drop P (length before) parts all)

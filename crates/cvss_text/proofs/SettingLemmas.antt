@@ -1,22 +1,23 @@
 -- Components that are read one after another to be set, and the vector that has their values.
-use Rattle.std.proofs.Common.{◌≡◌, inl, inr, ℕ, ◌+◌, ◌<◌, ◌≤◌, List, [], ◌∷◌, length, take, Option, Some, None, IsSome, IfSome, Ok, Err, refl, sym, ap, ◌∙◌, subst, arith, slice_get}
+use Rattle.std.proofs.Common.{◌≡◌, ◌⊎◌, inl, inr, ℕ, ◌+◌, ◌<◌, ◌≤◌, List, [], ◌∷◌, length, take, Option, Some, None, IsSome, IfSome, Ok, Err, refl, sym, ap, ◌∙◌, subst, arith, slice_get}
 use Rattle.std.specs.List.{cons_option, filter_map}
 use Rattle.std.specs.Option.{option_or}
-use Rattle.std.proofs.lemmas.List.{get_or-drop, length-drop, length-map, length-take-le}
+use Rattle.std.proofs.lemmas.List.{get_or-take, length-append, length-map, length-take-le}
 use Rattle.std.proofs.lemmas.List.Sorted.{length_permutation}
 use Rattle.std.proofs.lemmas.Bool.{cases_lt}
 use Rattle.std.proofs.lemmas.Option.{same_Some, slice_get_within}
-use Rattle.cvss_base.specs.Refusal.{AreComponentsBefore, Refusal, BadComponent, HasNoFaultBefore, Missing, piece_at}
+use Rattle.cvss_base.specs.Refusal.{Refusal, BadComponent, Missing, piece_at}
 use Rattle.cvss_base.specs.Text.{IsComponent, pieces}
 use Rattle.cvss_base.specs.Version.{Version, AreComponentsOf, IsComplete, component_of, components_of, read}
 use Rattle.cvss_text.specs.Setting.{AreRightBefore, IsBuildReason, IsBuilt, IsFirstWrong, IsSet, IsSetReason, IsWrongAt, components_in}
 use Rattle.cvss_text.specs.private.SettingSteps.{IsAnswered, IsCopied, IsWrongFor}
 use Rattle.cvss_text.specs.private.Walk.{HasNoValue, HasReadTo, IsFaultOf, VersionLaws, place_of, reason_of}
 use Rattle.cvss_text.specs.declared.walk.Fault.{Fault}
-use Rattle.cvss_text.proofs.DenotesLemmas.{no_fault_held, no_reason, values_same, vectors_same}
+use Rattle.cvss_text.proofs.ComponentLemmas.{all_taken}
+use Rattle.cvss_text.proofs.DenotesLemmas.{no_fault_before, no_reason, values_same, vectors_same}
 use Rattle.cvss_text.proofs.JoinLemmas.{piece_is_component}
 use Rattle.cvss_text.proofs.RefusalLemmas.{faults_same, reasons_same, same_place}
-use Rattle.cvss_text.proofs.WalkLemmas.{HasRead-none, fault_at}
+use Rattle.cvss_text.proofs.WalkLemmas.{AreComponentsOf-none, fault_at, first_left, taken}
 
 -- the components of a text that is not empty are its pieces
 pub components_in-some : (text : List ℕ) → 0 < length text → pieces text ≡ components_in text
@@ -40,49 +41,59 @@ or_some : {X : Type 0} (one other : Option X) → IsSome other → IsSome (optio
 or_some None other some = some
 or_some (Some value) other some = refl
 
+or_twice : {X : Type 0} (one other : Option X) → option_or (option_or one other) other ≡ option_or one other
+or_twice None None = refl
+or_twice None (Some value) = refl
+or_twice (Some value) other = refl
+
 or_none : {X : Type 0} (one other : Option X) → one ≡ None → option_or one other ≡ other
 or_none one other none = ap (λ each. option_or each other) none
 
--- the values for the metrics before an index are copied, and those from there on are not yet
+-- the vector has the given value for a metric or, without one, its own
+abbrev IsCompletedAt : {V K : Type 0} → Version V K → V → V → V → K → Type 0
+IsCompletedAt version given own v kind =
+    version.value_of v kind ≡ option_or (version.value_of given kind) (version.value_of own kind)
+
+-- the metrics that are printed before an index are completed, and others are completed or as they were given
 pub record IsCompletedTo {V K : Type 0} (version : Version V K) (given own : V) (index : ℕ) (v : V) : Type 0 where
-  pub copied : (kind : K) → place_of version kind < index → version.value_of v kind ≡ option_or (version.value_of given kind) (version.value_of own kind)
-  pub kept : (kind : K) → index ≤ place_of version kind → version.value_of v kind ≡ version.value_of given kind
+  pub completed : (kind : K) → place_of version kind < index → IsCompletedAt version given own v kind
+  pub either : (kind : K) → (version.value_of v kind ≡ version.value_of given kind) ⊎ IsCompletedAt version given own v kind
   pub front : version.front v ≡ version.front given
 
 module _ {V K : Type 0} (version : Version V K) (version_laws : VersionLaws version) where
-  -- a component with a fault is wrong
-  pub wrong_for : (v : V) (piece : List ℕ) (reason : Refusal K) → IsComponent piece → IsFaultOf version v piece reason → IsWrongFor version v piece reason
-  wrong_for v piece (BadComponent _) is fault = absurd fault
-  wrong_for v piece reason is fault = (is, fault)
+  -- nothing is wrong with the first pieces, where they are a vector's components
+  right_taken : (v : V) (parts : List (List ℕ)) (n : ℕ) → n ≤ length parts → AreComponentsOf version (take n parts) v → AreRightBefore version parts n
+  right_taken v parts n fits components = record { none = none } where
+    none : (earlier : ℕ) (reason : Refusal K) → earlier < n → IsWrongAt version parts earlier reason → ⊥
+    none earlier (BadComponent piece) below wrong = wrong.1 (subst IsComponent (get_or-take n parts earlier [] below) (piece_is_component version version_laws v (take n parts) components earlier (omega (arith, below, length-take-le n parts fits))))
+    none earlier reason below wrong = (no_fault_before version version_laws v parts n fits components).none earlier reason below wrong.1
 
-  -- nothing is wrong with components that have no fault
-  pub right_before : (parts : List (List ℕ)) (index : ℕ) → AreComponentsBefore parts index → HasNoFaultBefore version parts index → AreRightBefore version parts index
-  right_before parts index components faultless = record { none = none } where
-    none : (earlier : ℕ) (reason : Refusal K) → earlier < index → IsWrongAt version parts earlier reason → ⊥
-    none earlier (BadComponent piece) below wrong = wrong.1 (components.each earlier below)
-    none earlier reason below wrong = faultless.none earlier reason below wrong.1
+  pub right_all : (v : V) (parts : List (List ℕ)) → AreComponentsOf version parts v → AreRightBefore version parts (length parts)
+  right_all v parts components = right_taken v parts (length parts) (omega arith) (all_taken version v parts components)
 
   pub right_held : (v : V) (parts : List (List ℕ)) (index : ℕ) → AreComponentsOf version parts v → index < length parts → (reason : Refusal K) → IsWrongAt version parts index reason → ⊥
-  right_held v parts index are within reason =
-      (right_before parts (length parts) (record { each = piece_is_component version version_laws v parts are }) (record { none = λ place fault below. no_fault_held version version_laws v parts place are below fault })).none index reason within
+  right_held v parts index components within reason = (right_all v parts components).none index reason within
 
   -- where the vector holds the components before those that are left, what is wrong with the next is the first that is
   module _ (parts left : List (List ℕ)) (v : V) (to : HasReadTo version parts left v) (index : ℕ) (at : index + length left ≡ length parts) where
-    at_place : to.place ≡ index
-    at_place = omega (arith, at, to.within, ap length to.left_is, length-drop to.place parts)
-
-    wrong_at : (reason : Refusal K) → IsWrongFor version v (piece_at parts to.place) reason → IsWrongAt version parts to.place reason
-    wrong_at (BadComponent text) is = is
-    wrong_at reason is = (is.0, fault_at version version_laws v parts to.place to.within to.read.components reason is.1)
+    at_place : length to.before ≡ index
+    at_place = omega (arith, at, ap length to.cut, length-append to.before left)
 
     pub IsFirstWrong-at : (piece : List ℕ) (after : List (List ℕ)) → left ≡ piece ∷ after → (reason : Refusal K) → IsWrongFor version v piece reason → IsFirstWrong version parts index reason
     IsFirstWrong-at piece after cut reason is =
-        let here : piece ≡ piece_at parts to.place = ap (λ list. piece_at list 0) (sym cut ∙ to.left_is) ∙ get_or-drop to.place parts 0 [] ∙ ap (piece_at parts) (omega arith) in
+        let here = first_left version version_laws parts left v to in
         subst (λ place. IsFirstWrong version parts place reason) at_place (record {
-          within = omega (arith, at, at_place, ap length cut);
-          is = wrong_at reason (subst (λ each. IsWrongFor version v each reason) here is);
-          earlier = right_before parts to.place to.components to.read.faultless;
+          within = within;
+          is = wrong_at reason (subst (λ each. IsWrongFor version v each reason) (ap (λ list. piece_at list 0) (sym cut) ∙ here) is);
+          earlier = right_taken v parts (length to.before) (omega (arith, within)) (taken version version_laws parts left v to);
         })
+      where
+        within : length to.before < length parts
+        within = omega (arith, at, at_place, ap length cut)
+
+        wrong_at : (reason : Refusal K) → IsWrongFor version v (piece_at parts (length to.before)) reason → IsWrongAt version parts (length to.before) reason
+        wrong_at (BadComponent text) is = is
+        wrong_at reason is = (is.0, fault_at version version_laws v parts (length to.before) (omega (arith, within)) (taken version version_laws parts left v to) reason is.1)
 
     -- no more components are read than a vector has metrics
     pub HasReadTo-most : index ≤ length version.printed
@@ -90,10 +101,8 @@ module _ {V K : Type 0} (version : Version V K) (version_laws : VersionLaws vers
         omega (
           arith,
           at_place,
-          to.within,
-          length-take-le to.place parts to.within,
-          length_permutation _ _ to.read.components.each_once,
-          length-map (take to.place parts) (read version),
+          length_permutation _ _ to.components.each_once,
+          length-map to.before (read version),
           length-map (components_of version v) (read version),
           filter_map-most (component_of version v) version.printed,
         )
@@ -153,7 +162,7 @@ module _ {V K : Type 0} (version : Version V K) (version_laws : VersionLaws vers
     pub IsSet-none : (empty : V) → HasNoValue version empty → parts ≡ [] → IsSet version v parts v
     IsSet-none empty valueless none = record {
       given = empty;
-      components = subst (λ each. AreComponentsOf version each empty) (sym none) (HasRead-none version version_laws [] empty valueless).components;
+      components = subst (λ each. AreComponentsOf version each empty) (sym none) (AreComponentsOf-none version version_laws empty valueless);
       values = λ kind. sym (or_none (version.value_of empty kind) (version.value_of v kind) (valueless.none kind));
       front_is = refl;
     }
@@ -184,35 +193,29 @@ module _ {V K : Type 0} (version : Version V K) (version_laws : VersionLaws vers
   build_reasons_same parts None None (Missing one) _ first second = absurd second
   build_reasons_same parts None _ _ _ first second = absurd first
 
-  pub IsCompletedTo-start : (given own : V) → IsCompletedTo version given own 0 given
-  IsCompletedTo-start given own = record { copied = λ kind below. absurd (omega (arith, below)); kept = λ kind _. refl; front = refl }
+  module _ (given own : V) where
+    pub IsCompletedTo-start : IsCompletedTo version given own 0 given
+    IsCompletedTo-start = record { completed = λ kind below. absurd (omega (arith, below)); either = λ kind. inl refl; front = refl }
 
-  one_at_place : (kind other : K) → place_of version other ≡ place_of version kind → kind ≡ other
-  one_at_place kind other same = same_Some kind other (sym (version_laws.placed kind) ∙ (ap (slice_get version.printed) (sym same) ∙ version_laws.placed other))
+    completed_here : (kind : K) (old new : V) → IsCopied version own kind old new → (version.value_of old kind ≡ version.value_of given kind) ⊎ IsCompletedAt version given own old kind → IsCompletedAt version given own new kind
+    completed_here kind old new is (inl kept) = is.here ∙ ap (λ each. option_or each (version.value_of own kind)) kept
+    completed_here kind old new is (inr done) = is.here ∙ ap (λ each. option_or each (version.value_of own kind)) done ∙ or_twice (version.value_of given kind) (version.value_of own kind)
 
-  module _ (given own : V) (index : ℕ) (kind : K) (at : place_of version kind ≡ index) (old new : V) (is : IsCopied version own kind old new) (before : IsCompletedTo version given own index old) where
-    copied_here : version.value_of new kind ≡ option_or (version.value_of given kind) (version.value_of own kind)
-    copied_here = is.here ∙ ap (λ each. option_or each (version.value_of own kind)) (before.kept kind (omega (arith, at)))
+    pub IsCompletedTo-more : (index : ℕ) (kind : K) → slice_get version.printed index ≡ Some kind → (old new : V) → IsCopied version own kind old new → IsCompletedTo version given own index old → IsCompletedTo version given own (index + 1) new
+    IsCompletedTo-more index kind at old new is before =
+        let here = completed_here kind old new is (before.either kind) in
+        let at_kind : (other : K) → kind ≡ other → IsCompletedAt version given own new other = λ other same. subst (IsCompletedAt version given own new) same here in
+        record {
+          completed = λ other below. elim (cases_lt (place_of version other) index) [
+            | inl earlier ↦ elim (is.others other) [ inl same ↦ at_kind other (sym same) | inr same ↦ same ∙ before.completed other earlier ]
+            | inr back ↦ at_kind other (same_Some kind other (sym at ∙ ap (slice_get version.printed) (omega (arith, back, below)) ∙ version_laws.placed other))
+          ];
+          either = λ other. elim (is.others other) [
+            | inl same ↦ inr (at_kind other (sym same))
+            | inr same ↦ elim (before.either other) [ inl kept ↦ inl (same ∙ kept) | inr done ↦ inr (same ∙ done) ]
+          ];
+          front = is.front ∙ before.front;
+        }
 
-    copied_to : (other : K) → place_of version other < index + 1 → version.value_of new other ≡ option_or (version.value_of given other) (version.value_of own other)
-    copied_to other below = elim (cases_lt (place_of version other) index) [
-      | inl earlier ↦ elim (is.others other) [
-        | inl same ↦ absurd (omega (arith, earlier, at, ap (place_of version) same))
-        | inr same ↦ same ∙ before.copied other earlier
-      ]
-      | inr back ↦ subst (λ each. version.value_of new each ≡ option_or (version.value_of given each) (version.value_of own each)) (one_at_place kind other (omega (arith, at, back, below))) copied_here
-    ]
-
-    pub IsCompletedTo-more : IsCompletedTo version given own (index + 1) new
-    IsCompletedTo-more = record {
-      copied = copied_to;
-      kept = λ other from. elim (is.others other) [
-        | inl same ↦ absurd (omega (arith, from, at, ap (place_of version) same))
-        | inr same ↦ same ∙ before.kept other (omega (arith, from))
-      ];
-      front = is.front ∙ before.front;
-    }
-
-  pub IsCompletedTo-all : (given own v : V) → IsCompletedTo version given own (length version.printed) v → (kind : K) → version.value_of v kind ≡ option_or (version.value_of given kind) (version.value_of own kind)
-  IsCompletedTo-all given own v all kind =
-      all.copied kind (slice_get_within version.printed (place_of version kind) kind (version_laws.placed kind))
+    pub IsCompletedTo-all : (v : V) → IsCompletedTo version given own (length version.printed) v → (kind : K) → IsCompletedAt version given own v kind
+    IsCompletedTo-all v all kind = all.completed kind (slice_get_within version.printed (place_of version kind) kind (version_laws.placed kind))

@@ -1,6 +1,6 @@
 //! How the text of a vector is cut into pieces, and a component into its name and its value.
 
-ghost use Rattle.std.specs.Prelude.{◌≡◌, ◌↔◌, ◌∷◌, [], IsTrue, IfSome, MatchOption, Some, length, ◌==◌, position};
+ghost use Rattle.std.specs.Prelude.{◌≡◌, ◌↔◌, ◌∷◌, ◌++◌, ℕ, List, All, [], IsTrue, IfSome, MatchOption, Some, length, ◌==◌, position};
 ghost use Rattle.cvss_base.specs.Text.{IsComponent, pieces};
 ghost use Rattle.cvss_text.specs.private.Pieces.{pieces_left, AreParts, IsAfterComponent, IsWithoutColon};
 ghost use Rattle.cvss_base.specs.Refusal.{AreComponentsBefore, IsFirstBadPiece, piece_at};
@@ -71,12 +71,12 @@ pub fn is_component(piece: &[u8]) -> bool
     piece.iter().filter(|byte| **byte == b':').count() == 1
 }
 
-/// The first piece of a text that is no component.
+/// The first piece of a text that is no component, whatever components are before it.
 #[inline(always)]
 pub fn first_bad_piece(text: &[u8]) -> Option<&[u8]>
-    ensures { MatchOption result
-        (AreComponentsBefore (pieces text.now) (length (pieces text.now)))
-        (λ piece. IsFirstBadPiece (pieces text.now) piece.now) }
+    ensures { (before : List (List ℕ)) → All IsComponent before → MatchOption result
+        (AreComponentsBefore (before ++ pieces text.now) (length (before ++ pieces text.now)))
+        (λ piece. IsFirstBadPiece (before ++ pieces text.now) piece.now) }
 {
     let mut left = pieces_of(text);
     while let Some(rest) = left.text() {

@@ -1,12 +1,12 @@
 //! The walk over a vector's components, once for all versions. It takes no memory: a fault borrows
 //! the part of the text that it names.
 
-ghost use Rattle.std.specs.Prelude.{◌≡◌, ◌∷◌, ℕ, List, IfSome, IfOk, IfErr, OnOk, Some, None, length, All, IsUtf8};
+ghost use Rattle.std.specs.Prelude.{◌≡◌, ◌∷◌, ℕ, List, IfSome, IfOk, IfErr, OnOk, Some, None, All, IsUtf8};
 ghost use Rattle.cvss_text.specs.private.Pieces.{pieces_left};
 ghost use Rattle.cvss_base.specs.Text.{IsComponent, pieces, slash};
-ghost use Rattle.cvss_base.specs.Version.{Version, read};
-ghost use Rattle.cvss_base.specs.Refusal.{AreComponentsBefore, piece_at};
-ghost use Rattle.cvss_text.specs.private.Walk.{HasNoValue, HasReadTo, IsAnswerBare, IsEmpty, IsFilled, IsInOrderTo, IsPut, IsCut, IsReadFirst, IsReadLeft, IsMissingFault, IsWhole, VersionLaws, Puts, Adds, HasRead, IsFaultOf, IsFirstOfPieces, first_missing, IsPrintable, reason_of};
+ghost use Rattle.cvss_base.specs.Version.{AreComponentsOf, Version, read};
+ghost use Rattle.cvss_base.specs.Refusal.{piece_at};
+ghost use Rattle.cvss_text.specs.private.Walk.{HasNoValue, HasReadTo, IsAnswerBare, IsEmpty, IsFilled, IsInOrderTo, IsPut, IsCut, IsReadFirst, IsReadLeft, IsMissingFault, IsWhole, VersionLaws, Puts, Adds, IsFaultOf, IsFirstOfPieces, first_missing, IsPrintable, reason_of};
 
 use crate::cutting::{cut_component, cut_first};
 use crate::pieces::{Pieces, first_bad_piece, pieces_of};
@@ -119,7 +119,6 @@ pub fn read_component<'a, V: Components>(
     piece: &'a [u8],
     vector: &mut V,
 ) -> Result<(), Fault<'a, V::Kind>>
-    ensures component { OnOk result (IsComponent piece.now) }
     ensures read { OnOk result (Adds V.version vector.old piece.now vector.new) }
     ensures refused { IfErr result (λ fault. IsComponent piece.now
         → IsFaultOf V.version vector.old piece.now (reason_of V.version fault)) }
@@ -227,10 +226,7 @@ fn read_components<'a, V: Components>(
     vector: &mut V,
 ) -> Result<(), Fault<'a, V::Kind>>
     requires { HasNoValue V.version vector.old }
-    ensures read { OnOk result
-        (HasRead V.version (pieces text.now) (length (pieces text.now)) vector.new) }
-    ensures components { OnOk result
-        (AreComponentsBefore (pieces text.now) (length (pieces text.now))) }
+    ensures components { OnOk result (AreComponentsOf V.version (pieces text.now) vector.new) }
     ensures front { OnOk result (V.version.front vector.new ≡ V.version.front vector.old) }
     ensures refused { IfErr result (λ fault.
         IsFirstOfPieces V.version (pieces text.now) (reason_of V.version fault)) }

@@ -131,27 +131,20 @@ first_missing version v = find (λ kind. is_none (version.value_of v kind)) vers
 pub record Adds {V K : Type 0} (version : Version V K) (old : V) (piece : List ℕ) (new : V) : Type 0 where
   pub kind : K
   pub named : version.name kind ≡ read version (name_part piece)
+  pub cut : piece ≡ component (name_part piece) (value_part piece)
   pub puts : Puts version old kind (read version (value_part piece)) new
 
 -- the first piece of the text is a component, which goes into the vector, and these pieces follow it
 pub record IsReadFirst {V K : Type 0} (version : Version V K) (text : List ℕ) (old new : V) (after : List (List ℕ)) : Type 0 where
   pub piece : List ℕ
   pub first : pieces text ≡ piece ∷ after
-  pub component : IsComponent piece
   pub adds : Adds version old piece new
 
--- the vector holds the components before this place, none of which has a fault
-pub record HasRead {V K : Type 0} (version : Version V K) (parts : List (List ℕ)) (place : ℕ) (v : V) : Type 0 where
-  pub components : AreComponentsOf version (take place parts) v
-  pub faultless : HasNoFaultBefore version parts place
-
--- the vector holds the components before those that are left, none of which has a fault
+-- the vector holds the components before the pieces that are left
 pub record HasReadTo {V K : Type 0} (version : Version V K) (parts left : List (List ℕ)) (v : V) : Type 0 where
-  pub place : ℕ
-  pub within : place ≤ length parts
-  pub left_is : left ≡ drop place parts
-  pub components : AreComponentsBefore parts place
-  pub read : HasRead version parts place v
+  pub before : List (List ℕ)
+  pub cut : parts ≡ before ++ left
+  pub components : AreComponentsOf version before v
 
 -- a text of components begins with those of the vector, in printing order, and goes on with this rest
 pub record IsInOrderTo {V K : Type 0} (version : Version V K) (front : List (List ℕ)) (text : List ℕ) (v : V) (rest : List ℕ) : Type 0 where

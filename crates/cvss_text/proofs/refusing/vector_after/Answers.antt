@@ -12,8 +12,3 @@ pub returns-in-Err-clause-refuses : goal.returns-in-Err-clause-refuses
 returns-in-Err-clause-refuses g c = λ reason first.
     let of_bytes = subst (λ text. IsFirstRefusalAfter g.V.Components.version text reason) (sym c.as_bytes.ensures.value) first in
     subst (λ other. Reports g.V.Refused.reason other c.error_of.result) (c.in-Err.ensures.refuses reason of_bytes) c.error_of.ensures
-
-pub returns-in-Err-clause-refused : goal.returns-in-Err-clause-refused
-returns-in-Err-clause-refused g c =
-    let first = subst (λ text. IsFirstRefusalAfter g.V.Components.version text (reason_of g.V.Components.version c.in-Err.fault)) c.as_bytes.ensures.value c.in-Err.ensures.refused in
-    record { reason = _; first = first; reported = c.error_of.ensures }

@@ -1,11 +1,9 @@
-use Rattle.std.proofs.Common.{[], Some, ◌∙◌, arith, refl, subst}
+use Rattle.std.proofs.Common.{Some, ◌∙◌, arith, subst}
 use Rattle.std.proofs.lemmas.Bool.Decides.{nat_tests}
-use Rattle.cvss_base.specs.Text.{pieces}
 use Rattle.cvss_base.specs.Version.{AreComponentsOf}
 use Rattle.cvss_text.specs.Setting.{IsFirstWrong, IsSet, IsSetReason, components_in}
 use Rattle.cvss_text.specs.private.Walk.{reason_of}
 use Rattle.cvss_text.proofs.SettingLemmas.{IsAnswered-Err, IsAnswered-Ok, IsSet-none, components_in-none, components_in-some, set_no_reason, set_once, set_reasons_same}
-use Rattle.cvss_text.proofs.WalkLemmas.{AreComponentsOf-all, HasReadTo-all}
 use Rattle.cvss_text.proofs.setting.set.Goals as goal
 
 pub returns-then-is_empty : goal.returns-then-is_empty
@@ -24,12 +22,10 @@ returns-in-Ok g c =
     let v = c.args.vector.now in
     let parts = components_in c.args.text.now in
     let given = c.in-Ok.given in
-    let read = HasReadTo-all version version_laws (pieces c.args.text.now) [] given refl c.in-Ok.ensures.read in
-    let components = AreComponentsOf-all version version_laws (pieces c.args.text.now) given read.0 in
     IsAnswered-Ok version version_laws (IsSet version v parts) (IsSetReason version parts) (set_once version version_laws v parts) (set_no_reason version version_laws v parts) _
     (record {
       given = given;
-      components = subst (λ each. AreComponentsOf version each given) (components_in-some c.args.text.now (grind (arith, nat_tests))) components;
+      components = subst (λ each. AreComponentsOf version each given) (components_in-some c.args.text.now (grind (arith, nat_tests))) c.in-Ok.ensures.components;
       values = c.completed.ensures.values;
       front_is = c.completed.ensures.front ∙ (c.in-Ok.ensures.front ∙ c.requires.front);
     })

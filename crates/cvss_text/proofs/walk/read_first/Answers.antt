@@ -1,10 +1,8 @@
 use Rattle.std.proofs.Common.{subst, All, IsUtf8}
 use Rattle.std.proofs.lemmas.List.Elements.{All-head}
 use Rattle.std.proofs.lemmas.Result.{err_from_is_err_and}
-use Rattle.cvss_base.specs.Version.{read}
-use Rattle.cvss_text.specs.private.Walk.{Puts}
 use Rattle.cvss_text.proofs.PieceLemmas.{IsUtf8-value}
-use Rattle.cvss_text.proofs.WalkLemmas.{IsComponent-read}
+use Rattle.cvss_text.proofs.WalkLemmas.{Adds-cut}
 use Rattle.cvss_text.proofs.walk.read_first.Goals as goal
 
 pub returns-in_err-kind-clause-refused : goal.returns-in_err-kind-clause-refused
@@ -21,16 +19,9 @@ returns-in_err-put_component-clause-printable g c = λ is.
 
 pub returns-clause-read : goal.returns-clause-read
 returns-clause-read g c =
-    let version = g.V.Components.version in
     let cut = c.in_ok-kind.ensures.cut in
-    let puts = c.in_ok-put_component.ensures.put in
     record {
       piece = cut.piece;
       first = cut.first;
-      component = IsComponent-read version g.met.V.Components.version_laws cut.is puts;
-      adds = record {
-        kind = c.in_ok-kind.kind;
-        named = cut.is.named;
-        puts = subst (λ value. Puts version c.args.vector.now c.in_ok-kind.kind (read version value) c.put_component.new.vector) cut.is.value_is puts;
-      };
+      adds = Adds-cut g.V.Components.version g.met.V.Components.version_laws c.args.vector.now c.put_component.new.vector cut.piece c.in_ok-kind.value.now c.in_ok-kind.kind cut.is c.in_ok-put_component.ensures.put;
     }
