@@ -1,6 +1,6 @@
 -- A text denotes at most one vector, no two pieces of whose components have one name, and has no
 -- refusal where that vector is complete.
-use Rattle.std.proofs.Common.{◌≡◌, ℕ, ◌<◌, ◌≤◌, ◌+◌, List, [], ◌∷◌, ◌++◌, length, Option, Some, None, refl, sym, ap, ◌∙◌, subst, arith, Bool, true, false, true≢false, get_or, take, map, All, filter_map, bytes_eq, option_map}
+use Rattle.std.proofs.Common.{◌≡◌, ℕ, ◌<◌, ◌≤◌, ◌+◌, List, [], ◌∷◌, ◌++◌, length, Option, Some, None, refl, sym, ap, ◌∙◌, subst, arith, Bool, false, true≢false, get_or, take, map, All, filter_map, bytes_eq, option_map}
 use Rattle.std.proofs.lemmas.Cmp.{nat_list_eq_equiv}
 use Rattle.std.specs.List.{IsDistinct, cons_option, range_with_len}
 use Rattle.std.proofs.lemmas.Bool.{false_from_ne_true}

@@ -1,16 +1,16 @@
 -- What is answered of a whole text, whether a version piece is before the components or not; and texts after a version
 -- piece.
-use Rattle.std.proofs.Common.{◌≡◌, ℕ, List, [], ◌++◌, length, drop, Ok, Err, sym, ap, ◌∙◌, subst, zero, suc, ◌∷◌, get_or, codes, refl, arith, All, Contains, IsUtf8}
-use Rattle.std.proofs.lemmas.List.{get_or-map}
+use Rattle.std.proofs.Common.{◌≡◌, ℕ, List, [], ◌++◌, length, drop, take, Ok, Err, sym, ap, ◌∙◌, subst, zero, suc, ◌∷◌, get_or, codes, refl, arith, All, Contains, IsUtf8}
+use Rattle.std.proofs.lemmas.List.Sums.{get_or-le-sum_by}
 use Rattle.std.proofs.lemmas.List.Elements.{All-append, All-nil, All-cons}
 use Rattle.std.proofs.lemmas.List.Splits.{join_with_byte-slice_split}
 use Rattle.cvss_text.specs.declared.walk.Fault.{Fault}
 use Rattle.cvss_base.specs.Text.{slash, pieces, joined, IsComponent}
-use Rattle.cvss_base.specs.Version.{Version, Denotes, IsComplete, AreComponentsOf, version_piece, IsWellFormed}
+use Rattle.cvss_base.specs.Version.{Version, canonical_text, Denotes, IsComplete, AreComponentsOf, version_piece, IsWellFormed}
 use Rattle.cvss_base.specs.Refusal.{Refusal, BadComponent, BadPiecesFirst, WrongPrefix, WrongVersion, AreComponentsBefore, IsFirstBadPiece, IsFirstReason, piece_at, IsReasonAfter, IsFirstRefusalAfter, ReportsVersion}
 use Rattle.cvss_base.specs.private.Component.{delimiter_bytes}
 use Rattle.cvss_text.specs.private.Walk.{VersionLaws, IsFirstOfPieces, IsBare, reason_of, FrontLaws, IsAnswer, IsFrontFault, IsPrintable}
-use Rattle.cvss_text.proofs.CanonicalLemmas.{denoted_once}
+use Rattle.cvss_text.proofs.CanonicalLemmas.{canonical_text-denotes, denoted_once}
 use Rattle.cvss_text.proofs.DenotesLemmas.{pieces_of_complete, no_reason, pieces_of_denoted}
 use Rattle.cvss_text.proofs.JoinLemmas.{are_parts, IsUtf8-parts}
 use Rattle.cvss_text.proofs.PieceLemmas.{All-left, IsUtf8-pieces}
@@ -100,29 +100,19 @@ module _ {V K : Type 0} (version : Version V K) (version_laws : VersionLaws vers
       pieces_of_denoted version version_laws v text denotes (front_parts v reported front_is plain) (rw front_is (omega arith))
       ∙ ap (λ front. front ++ denotes.parts) front_is
 
-  -- vectors that one text denotes have one front, and are one
-  pub fronts_same : (v w : V) → Denotes version text v → Denotes version text w → version.front v ≡ version.front w
-  fronts_same v w of_v of_w =
-      let piece_v = front.fronts v in
-      let piece_w = front.fronts w in
-      let both : version_piece piece_v.reported ∷ of_v.parts ≡ version_piece piece_w.reported ∷ of_w.parts =
-      sym (pieces_denoted_after v of_v piece_v.reported piece_v.front_is piece_v.plain)
-      ∙ pieces_denoted_after w of_w piece_w.reported piece_w.front_is piece_w.plain in
-      let first : version_piece piece_v.reported ≡ version_piece piece_w.reported = cc in
-      piece_v.front_is ∙ (ap (λ piece. piece ∷ []) first ∙ sym piece_w.front_is)
+  -- the front of a vector that a text denotes is its first piece, so two such vectors are one
+  front_first : (v : V) → Denotes version text v → version.front v ≡ take 1 (pieces text)
+  front_first v denotes = let piece = front.fronts v in piece.front_is ∙ sym (ap (take 1) (pieces_denoted_after v denotes piece.reported piece.front_is piece.plain))
 
   pub denoted_once_after : (v w : V) → Denotes version text v → Denotes version text w → v ≡ w
-  denoted_once_after v w of_v of_w = denoted_once version version_laws v w text (fronts_same v w of_v of_w) of_v of_w
+  denoted_once_after v w of_v of_w = denoted_once version version_laws v w text (front_first v of_v ∙ sym (front_first w of_w)) of_v of_w
 
   -- the piece that says a supported version
   module _ (reported : List ℕ) (supported : Contains version.supported reported) where
     reported_plain : delimiter_bytes reported ≡ 0
     reported_plain =
         let (place, within, is) = supported in
-        sym (ap delimiter_bytes is)
-        ∙ (sym (get_or-map delimiter_bytes version.supported place reported 0 within)
-        ∙ (ap (λ list. get_or list place 0) front.plain
-        ∙ get_or-map (λ _. 0) version.supported place reported 0 within))
+        omega (arith, get_or-le-sum_by delimiter_bytes version.supported place reported within, ap delimiter_bytes is, front.plain)
 
     piece_reports : ReportsVersion version (version_piece reported)
     piece_reports = record {
@@ -182,3 +172,9 @@ front_fault_first version text piece parts cut components =
       | WrongVersion reported ↦ λ fault. (components, rw cut (fault first))
       | _ ↦ λ fault. absurd (fault first)
     ]
+
+-- vectors with one canonical text are one
+pub same_text-once : {V K : Type 0} (version : Version V K) (version_laws : VersionLaws version) → FrontLaws version → (v w : V) → canonical_text version v ≡ canonical_text version w → v ≡ w
+same_text-once version version_laws front v w same =
+    denoted_once_after version version_laws front (canonical_text version w) v w
+    (subst (λ text. Denotes version text v) same (canonical_text-denotes version version_laws v)) (canonical_text-denotes version version_laws w)

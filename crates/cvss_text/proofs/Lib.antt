@@ -14,7 +14,6 @@ pub mod PieceLemmas
 pub mod PrintLemmas
 pub mod PutLemmas
 pub mod RefusalLemmas
-pub mod SameTextLemmas
 pub mod SettingLemmas
 pub mod TextLemmas
 pub mod WalkLemmas

@@ -1,18 +1,17 @@
 -- How pieces come off a text, and that those of a text in UTF-8 are UTF-8.
-use Rattle.std.proofs.Common.{append_assoc, append-nil, ◌≡◌, ℕ, ◌+◌, ◌<◌, ◌≤◌, Bool, false, cond, ltb, List, [], ◌∷◌, inl, inr, length, take, drop, Option, Some, None, refl, sym, ap, ◌∙◌, Bor, arith, ◌++◌, subst, ltb-true, ltb-false, IsUtf8}
-use Rattle.std.specs.List.{position, position_or_len, All, onto_first}
+use Rattle.std.proofs.Common.{append_assoc, append-nil, ◌≡◌, ℕ, ◌+◌, ◌<◌, ◌≤◌, Bool, cond, ltb, List, [], ◌∷◌, inl, inr, length, take, drop, Option, Some, None, refl, sym, ap, ◌∙◌, Bor, arith, ◌++◌, subst, ltb-true, ltb-false, IsUtf8}
+use Rattle.std.specs.List.{position, position_or_len, All}
 use Rattle.std.specs.Option.{option_map_or, unwrap_or}
 use Rattle.std.specs.Slice.{IsGetRangeResult}
 use Rattle.std.proofs.lemmas.Bool.{false_from_ne_true}
-use Rattle.std.proofs.lemmas.Bool.Decides.{nat_tests}
 use Rattle.std.proofs.lemmas.List.Folds.{list_any_none}
 use Rattle.std.proofs.lemmas.List.{take_all, take_rest, length-append, get_or_append_left, get_or_at, take_at, drop_at, drop-drop}
-use Rattle.std.proofs.lemmas.List.Splits.{slice_split_none, slice_split-cons_no, slice_split_first, join_with_byte-slice_split}
+use Rattle.std.proofs.lemmas.List.Splits.{slice_split_none, slice_split_first, join_with_byte-slice_split}
 use Rattle.std.proofs.lemmas.List.Sums.{fails_before_first}
 use Rattle.std.proofs.lemmas.Option.{cond_some, none-some}
 use Rattle.cvss_text.specs.private.Pieces.{AreParts, IsAfterComponent, IsAfterComponents, IsWithoutColon}
 use Rattle.cvss_base.specs.Text.{pieces, slash, colon, joined, component, IsComponent}
-use Rattle.cvss_text.proofs.TextLemmas.{is_slash, is_colon, position-within, colon-parts, count_by-cons}
+use Rattle.cvss_text.proofs.TextLemmas.{is_slash, is_colon, position-within, colon-parts}
 use Rattle.std.proofs.lemmas.List.Elements.{All-nil, All-cons, All-append, All-drop}
 use Rattle.std.proofs.lemmas.Str.{IsUtf8-take, IsUtf8-drop, IsCharBoundary-before_ascii, IsCharBoundary-after_ascii}
 use Rattle.cvss_base.specs.Refusal.{AreComponentsBefore, IsFirstBadPiece, piece_at}

@@ -11,7 +11,7 @@ use Rattle.cvss_base.specs.Text.{IsComponent, pieces}
 use Rattle.cvss_base.specs.Version.{Version, AreComponentsOf, IsComplete, component_of, components_of, read}
 use Rattle.cvss_text.specs.Setting.{AreRightBefore, IsBuildReason, IsBuilt, IsFirstWrong, IsSet, IsSetReason, IsWrongAt, components_in}
 use Rattle.cvss_text.specs.private.SettingSteps.{IsAnswered, IsCopied, IsWrongFor}
-use Rattle.cvss_text.specs.private.Walk.{HasNoValue, HasReadTo, IsFaultOf, VersionLaws, place_of, reason_of}
+use Rattle.cvss_text.specs.private.Walk.{HasNoValue, HasReadTo, VersionLaws, place_of, reason_of}
 use Rattle.cvss_text.specs.declared.walk.Fault.{Fault}
 use Rattle.cvss_text.proofs.ComponentLemmas.{all_taken}
 use Rattle.cvss_text.proofs.DenotesLemmas.{no_fault_before, no_reason, values_same, vectors_same}
@@ -48,6 +48,31 @@ or_twice (Some value) other = refl
 
 or_none : {X : Type 0} (one other : Option X) → one ≡ None → option_or one other ≡ other
 or_none one other none = ap (λ each. option_or each other) none
+
+-- one vector is such, or there is one reason why none is
+pub record IsSole {V K : Type 0} (IsIt : V → Type 0) (IsReason : Option ℕ → Refusal K → Type 0) : Type 0 where
+  pub one : (v w : V) → IsIt v → IsIt w → v ≡ w
+  pub one_reason : (i j : Option ℕ) (one other : Refusal K) → IsReason i one → IsReason j other → (i ≡ j) × (one ≡ other)
+  pub none : (v : V) (index : Option ℕ) (reason : Refusal K) → IsIt v → IsReason index reason → ⊥
+
+module _ {V K : Type 0} (version : Version V K) {IsIt : V → Type 0} {IsReason : Option ℕ → Refusal K → Type 0} (sole : IsSole IsIt IsReason) where
+  pub IsAnswered-Ok : (v : V) → IsIt v → IsAnswered version IsIt IsReason (Ok v)
+  IsAnswered-Ok v is = record {
+    accepted = is;
+    accepts = λ w also. ap Ok (sole.one v w is also);
+    refused = tt;
+    refuses = λ index reason why. absurd (sole.none v index reason is why);
+    bound = tt;
+  }
+
+  pub IsAnswered-Err : (index : Option ℕ) (fault : Fault K) → IsReason index (reason_of version fault) → IfSome index (λ i. i ≤ length version.printed) → IsAnswered version IsIt IsReason (Err (index, fault))
+  IsAnswered-Err index fault why bound = record {
+    accepted = tt;
+    accepts = λ v is. absurd (sole.none v index (reason_of version fault) is why);
+    refused = why;
+    refuses = λ j other also. sole.one_reason index j (reason_of version fault) other why also;
+    bound = bound;
+  }
 
 -- the vector has the given value for a metric or, without one, its own
 abbrev IsCompletedAt : {V K : Type 0} → Version V K → V → V → V → K → Type 0
@@ -114,34 +139,14 @@ module _ {V K : Type 0} (version : Version V K) (version_laws : VersionLaws vers
   wrongs_same parts index one (BadComponent _) a b = absurd (b.1 a.0)
   wrongs_same parts index one other a b = faults_same version version_laws parts index one other a.1 b.1
 
-  first_wrongs_same : (parts : List (List ℕ)) (i j : ℕ) (one other : Refusal K) → IsFirstWrong version parts i one → IsFirstWrong version parts j other → (i ≡ j) × (one ≡ other)
+  first_wrongs_same : (parts : List (List ℕ)) (i j : ℕ) (one other : Refusal K) → IsFirstWrong version parts i one → IsFirstWrong version parts j other → (Some i ≡ Some j) × (one ≡ other)
   first_wrongs_same parts i j one other first second =
       let same = same_place i j (λ before. second.earlier.none i one before first.is) (λ before. first.earlier.none j other before second.is) in
-      (same, wrongs_same parts j one other (subst (λ index. IsWrongAt version parts index one) same first.is) second.is)
-
-  -- what is answered, where one vector is, and where one reason is
-  module _ (IsIt : V → Type 0) (IsReason : Option ℕ → Refusal K → Type 0) where
-    pub IsAnswered-Ok : ((v w : V) → IsIt v → IsIt w → v ≡ w) → ((v : V) (index : Option ℕ) (reason : Refusal K) → IsIt v → IsReason index reason → ⊥) → (v : V) → IsIt v → IsAnswered version IsIt IsReason (Ok v)
-    IsAnswered-Ok one none v is = record {
-      accepted = is;
-      accepts = λ w also. ap Ok (one v w is also);
-      refused = tt;
-      refuses = λ index reason why. absurd (none v index reason is why);
-      bound = tt;
-    }
-
-    pub IsAnswered-Err : ((i j : Option ℕ) (one other : Refusal K) → IsReason i one → IsReason j other → (i ≡ j) × (one ≡ other)) → ((v : V) (index : Option ℕ) (reason : Refusal K) → IsIt v → IsReason index reason → ⊥) → (index : Option ℕ) (fault : Fault K) → IsReason index (reason_of version fault) → IfSome index (λ i. i ≤ length version.printed) → IsAnswered version IsIt IsReason (Err (index, fault))
-    IsAnswered-Err same none index fault why bound = record {
-      accepted = tt;
-      accepts = λ v is. absurd (none v index (reason_of version fault) is why);
-      refused = why;
-      refuses = λ j other also. same index j (reason_of version fault) other why also;
-      bound = bound;
-    }
+      (ap Some same, wrongs_same parts j one other (subst (λ index. IsWrongAt version parts index one) same first.is) second.is)
 
   -- set: one vector, one reason, and not both
   module _ (v : V) (parts : List (List ℕ)) where
-    pub set_once : (new other : V) → IsSet version v parts new → IsSet version v parts other → new ≡ other
+    set_once : (new other : V) → IsSet version v parts new → IsSet version v parts other → new ≡ other
     set_once new other is also =
         version_laws.one_vector new other (is.front_is ∙ sym also.front_is) (λ kind.
         is.values kind
@@ -152,11 +157,12 @@ module _ {V K : Type 0} (version : Version V K) (version_laws : VersionLaws vers
     set_no_reason new (Some index) reason is why = right_held is.given parts index is.components why.within reason why.is
     set_no_reason new None reason is why = why
 
-    pub set_reasons_same : (i j : Option ℕ) (one other : Refusal K) → IsSetReason version parts i one → IsSetReason version parts j other → (i ≡ j) × (one ≡ other)
-    set_reasons_same (Some i) (Some j) one other first second =
-        let same = first_wrongs_same parts i j one other first second in (ap Some same.0, same.1)
-    set_reasons_same None j one other first second = absurd first
-    set_reasons_same i None one other first second = absurd second
+    pub set_sole : IsSole (IsSet version v parts) (IsSetReason version parts)
+    set_sole = record { one = set_once; one_reason = reasons_same; none = set_no_reason } where
+      reasons_same : (i j : Option ℕ) (one other : Refusal K) → IsSetReason version parts i one → IsSetReason version parts j other → (i ≡ j) × (one ≡ other)
+      reasons_same (Some i) (Some j) one other first second = first_wrongs_same parts i j one other first second
+      reasons_same None j one other first second = absurd first
+      reasons_same i None one other first second = absurd second
 
     -- no component: the vector itself
     pub IsSet-none : (empty : V) → HasNoValue version empty → parts ≡ [] → IsSet version v parts v
@@ -174,24 +180,25 @@ module _ {V K : Type 0} (version : Version V K) (version_laws : VersionLaws vers
     }
 
   -- build: one vector, one reason, and not both
-  module _ (front parts : List (List ℕ)) where
-    pub built_once : (v w : V) → IsBuilt version front parts v → IsBuilt version front parts w → v ≡ w
-    built_once v w is also = vectors_same version version_laws v w parts (is.front_is ∙ sym also.front_is) is.components also.components
+  pub build_sole : (front parts : List (List ℕ)) → IsSole (IsBuilt version front parts) (IsBuildReason version parts)
+  build_sole front parts = record {
+    one = λ v w is also. vectors_same version version_laws v w parts (is.front_is ∙ sym also.front_is) is.components also.components;
+    one_reason = one_reason;
+    none = none;
+  } where
+    none : (v : V) (index : Option ℕ) (reason : Refusal K) → IsBuilt version front parts v → IsBuildReason version parts index reason → ⊥
+    none v (Some index) reason is why = right_held v parts index is.components why.within reason why.is
+    none v None (Missing kind) is why = no_reason version version_laws v parts is.components is.complete (Missing kind) why.1
+    none v None _ is why = absurd why
 
-    pub built_no_reason : (v : V) (index : Option ℕ) (reason : Refusal K) → IsBuilt version front parts v → IsBuildReason version parts index reason → ⊥
-    built_no_reason v (Some index) reason is why = right_held v parts index is.components why.within reason why.is
-    built_no_reason v None (Missing kind) is why = no_reason version version_laws v parts is.components is.complete (Missing kind) why.1
-    built_no_reason v None _ is why = absurd why
-
-  pub build_reasons_same : (parts : List (List ℕ)) (i j : Option ℕ) (one other : Refusal K) → IsBuildReason version parts i one → IsBuildReason version parts j other → (i ≡ j) × (one ≡ other)
-  build_reasons_same parts (Some i) (Some j) one other first second =
-      let same = first_wrongs_same parts i j one other first second in (ap Some same.0, same.1)
-  build_reasons_same parts (Some i) None one (Missing other) first second = absurd (second.0.none i one first.within first.is)
-  build_reasons_same parts (Some i) None one _ first second = absurd second
-  build_reasons_same parts None (Some j) (Missing one) other first second = absurd (first.0.none j other second.within second.is)
-  build_reasons_same parts None None (Missing one) (Missing other) first second = (refl, reasons_same version version_laws parts (Missing one) (Missing other) first.1 second.1)
-  build_reasons_same parts None None (Missing one) _ first second = absurd second
-  build_reasons_same parts None _ _ _ first second = absurd first
+    one_reason : (i j : Option ℕ) (one other : Refusal K) → IsBuildReason version parts i one → IsBuildReason version parts j other → (i ≡ j) × (one ≡ other)
+    one_reason (Some i) (Some j) one other first second = first_wrongs_same parts i j one other first second
+    one_reason (Some i) None one (Missing other) first second = absurd (second.0.none i one first.within first.is)
+    one_reason None (Some j) (Missing one) other first second = absurd (first.0.none j other second.within second.is)
+    one_reason None None (Missing one) (Missing other) first second = (refl, reasons_same version version_laws parts (Missing one) (Missing other) first.1 second.1)
+    one_reason (Some i) None one _ first second = absurd second
+    one_reason None None (Missing one) _ first second = absurd second
+    one_reason None _ _ _ first second = absurd first
 
   module _ (given own : V) where
     pub IsCompletedTo-start : IsCompletedTo version given own 0 given

@@ -5,11 +5,11 @@ use Rattle.std.proofs.lemmas.List.{get_or-append-add, length-append, take_at}
 use Rattle.std.proofs.lemmas.List.Elements.{All-head, All-tail, All-from_get_or}
 use Rattle.std.proofs.lemmas.List.Splits.{length-slice_split, slice_split-cons_no}
 use Rattle.std.proofs.lemmas.List.Sorted.{IsPermutation-refl}
-use Rattle.cvss_base.specs.Text.{colon, pieces, IsComponent, name_part, value_part, component}
+use Rattle.cvss_base.specs.Text.{colon, pieces, IsComponent, name_part, component}
 use Rattle.cvss_base.specs.Version.{Version, read, component_of, AreComponentsOf}
 use Rattle.cvss_base.specs.Refusal.{Refusal, AreComponentsBefore, BadComponent, Repeated, Missing, piece_at, FaultAt, HasNoFaultBefore}
 use Rattle.cvss_base.specs.private.Component.{delimiter_bytes}
-use Rattle.cvss_text.specs.private.Walk.{VersionLaws, IsCut, IsCutFirst, IsReadFirst, IsFirstOfPieces, HasNoValue, Puts, Adds, HasReadTo, IsFaultOf}
+use Rattle.cvss_text.specs.private.Walk.{VersionLaws, IsCut, IsCutFirst, IsFirstOfPieces, HasNoValue, Puts, Adds, HasReadTo, IsFaultOf}
 use Rattle.cvss_text.proofs.TextLemmas.{is_slash, All-from_count, delimiter_bytes-read, delimiter_sorts}
 use Rattle.cvss_text.proofs.LawLemmas.{name_plain, IsCut_named}
 use Rattle.cvss_text.proofs.ComponentLemmas.{adds_component, held_is_named}

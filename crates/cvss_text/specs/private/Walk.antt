@@ -1,7 +1,7 @@
 -- What the private walk over the components does at each step. What callers rely on is in
 -- Version and Refusal.
-use Rattle.std.specs.Prelude.{◌≡◌, ◌≢◌, ℕ, ◌⊎◌, List, [], ◌∷◌, ◌++◌, length, map, take, drop, Option, Some, None, IsSome, Result, Ok, IfOk, OnOk, IfErr, OnErr, IsErrAnd, Contains, slice_get, find, is_none, ◌<◌, ◌≤◌, ⊤}
-use Rattle.std.specs.List.{All, range_with_len}
+use Rattle.std.specs.Prelude.{◌≡◌, ◌≢◌, ℕ, ◌⊎◌, List, [], ◌∷◌, ◌++◌, length, map, Option, Some, None, IsSome, Result, Ok, IfOk, OnOk, IfErr, OnErr, IsErrAnd, Contains, slice_get, find, is_none, ◌<◌, ⊤}
+use Rattle.std.specs.List.{All, range_with_len, sum_by}
 use Rattle.std.specs.Borrow.{Bor}
 use Rattle.std.specs.Str.{IsUtf8}
 use Rattle.cvss_text.specs.declared.walk.ComponentError.{ComponentError}
@@ -13,7 +13,7 @@ use Rattle.cvss_base.specs.laws.Order.{place_in}
 use Rattle.cvss_base.specs.private.Component.{delimiter_bytes}
 use Rattle.cvss_base.specs.Text.{slash, pieces, IsComponent, name_part, value_part, component}
 use Rattle.cvss_base.specs.Version.{Version, read, reading, version_piece, AreComponentsOf, Denotes, IsComplete, IsWellFormed}
-use Rattle.cvss_base.specs.Refusal.{Refusal, AreComponentsBefore, BadComponent, WrongPrefix, WrongVersion, UnknownName, BadValue, Repeated, Missing, Spells, HasNoFaultBefore, IsFirstReason, BadPiecesFirst, IsReasonAfter, IsWrongPrefix, IsWrongVersion}
+use Rattle.cvss_base.specs.Refusal.{Refusal, BadComponent, WrongPrefix, WrongVersion, UnknownName, BadValue, Repeated, Missing, Spells, IsFirstReason, BadPiecesFirst, IsReasonAfter, IsWrongPrefix, IsWrongVersion}
 
 -- the place of a metric in the printing order, which its name says
 abbrev pub place_of : {V K : Type 0} → Version V K → K → ℕ
@@ -110,14 +110,7 @@ pub record HasVersionPiece {V K : Type 0} (version : Version V K) (v : V) : Type
 -- what the walk needs to know of version pieces: no byte of them is delimiter
 pub record FrontLaws {V K : Type 0} (version : Version V K) : Type 0 where
   pub fronts : (v : V) → HasVersionPiece version v
-  pub plain : map delimiter_bytes version.supported ≡ map (λ _. 0) version.supported
-
--- the vector lacks this mandatory metric, and none that is before it
-pub record LacksFirst {V K : Type 0} (version : Version V K) (v : V) (kind : K) : Type 0 where
-  pub place : ℕ
-  pub is : slice_get version.mandatory place ≡ Some kind
-  pub absent : version.value_of v kind ≡ None
-  pub earlier : (before : ℕ) (other : K) → before < place → slice_get version.mandatory before ≡ Some other → IsSome (version.value_of v other)
+  pub plain : sum_by delimiter_bytes version.supported ≡ 0
 
 -- the first reason why the pieces are refused
 abbrev pub IsFirstOfPieces : {V K : Type 0} → Version V K → List (List ℕ) → Refusal K → Type 0

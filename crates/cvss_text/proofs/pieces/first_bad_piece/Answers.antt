@@ -1,4 +1,4 @@
-use Rattle.std.proofs.Common.{sym, ap, refl, ◌++◌, ◌∙◌, subst}
+use Rattle.std.proofs.Common.{sym, ap, ◌++◌, ◌∙◌, subst}
 use Rattle.cvss_base.specs.Text.{pieces, IsComponent}
 use Rattle.cvss_base.specs.Refusal.{piece_at}
 use Rattle.cvss_text.specs.private.Pieces.{pieces_left, IsAfterComponent}
