@@ -117,3 +117,5 @@ module _ (parts left : List (List ℕ)) (is : IsAfterComponents parts left) wher
 -- the pieces after others
 pub All-left : (P : List ℕ → Type 0) (parts before left : List (List ℕ)) → parts ≡ before ++ left → All P parts → All P left
 All-left P parts before left cut all = subst (All P) (ap (drop (length before)) cut ∙ drop_at before left (length before) refl) (All-drop P (length before) parts all)
+
+pub ruleset cuts = (pieces-cut, tt)

@@ -27,3 +27,5 @@ module _ {V K : Type 0} (version : Version V K) (v : V) where
         → drop 1 (unwrap_or (with_slash part) [] ++ texts_with_slash version v kinds) ≡ joined (cons_option part (filter_map (component_of version v) kinds))
     after_first None kinds others = others
     after_first (Some piece) kinds others = sym (joined-with_slash piece kinds)
+
+pub ruleset joins = (joined-with_slash, tt)

@@ -40,15 +40,6 @@ module _ {V K : Type 0} (version : Version V K) (version_laws : VersionLaws vers
         is = IsCut_named version version_laws (component name value) name value kind refl is.named;
       }
 
-  -- a piece that is cut, and whose value goes into the vector
-  pub Adds-cut : (old new : V) (piece value : List ℕ) (kind : K) → IsCut version piece kind value → Puts version old kind (read version value) new → Adds version old piece new
-  Adds-cut old new piece value kind is puts = record {
-    kind = kind;
-    named = is.named;
-    cut = is.cut ∙ ap (component (name_part piece)) is.value_is;
-    puts = subst (λ text. Puts version old kind (read version text) new) is.value_is puts;
-  }
-
   -- the fault of a component is one at its place, where the vector holds the components before it
   pub fault_at : (v : V) (parts : List (List ℕ)) (place : ℕ) → place ≤ length parts → AreComponentsOf version (take place parts) v → (reason : Refusal K) → IsFaultOf version v (piece_at parts place) reason → FaultAt version parts place reason
   fault_at v parts place within components (Repeated kind) (named, spelling, held) = (named, spelling, held_is_named version version_laws v parts place within components kind held)
@@ -103,3 +94,5 @@ module _ {V K : Type 0} (version : Version V K) (version_laws : VersionLaws vers
         of_fault (BadComponent piece) none = absurd none
         of_fault (Missing kind) none = absurd none
         of_fault _ fault = (all, record { place = length to.before; within = within; fault = fault; earlier = none_before })
+
+pub ruleset starts = (HasReadTo-start, tt)

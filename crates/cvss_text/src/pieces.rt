@@ -42,6 +42,7 @@ pub fn front_of(text: &[u8]) -> (&[u8], Pieces<'_>)
 }
 
 /// The same, by a search for the slash.
+#[tactic(auto, using(crate::proofs::PieceLemmas::cuts))]
 fn cut_at_slash(text: &[u8]) -> (&[u8], Pieces<'_>)
     ensures { pieces text.now ≡ result.0.now ∷ pieces_left result.1 }
 {

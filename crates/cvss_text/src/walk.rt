@@ -168,6 +168,7 @@ fn read_first<'a, V: Components>(
 
 /// Begins to read a text of components: the vector gets those with which it begins in printing order.
 /// The pieces after them are left.
+#[tactic(auto, using(crate::proofs::WalkLemmas::starts))]
 #[inline(always)]
 fn begin<'a, V: Components>(text: &'a [u8], vector: &mut V) -> Pieces<'a>
     requires { HasNoValue V.version vector.old }

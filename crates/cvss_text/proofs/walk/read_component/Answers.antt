@@ -1,18 +1,11 @@
-use Rattle.std.proofs.lemmas.Result.{err_from_is_err_and, on_ok_weaker}
+use Rattle.std.proofs.lemmas.Result.{err_from_is_err_and}
 use Rattle.cvss_text.proofs.PieceLemmas.{IsUtf8-value}
-use Rattle.cvss_text.proofs.WalkLemmas.{Adds-cut}
 use Rattle.cvss_text.proofs.walk.read_component.Goals as goal
 
 pub returns-in_err-kind-clause-refused : goal.returns-in_err-kind-clause-refused
 returns-in_err-kind-clause-refused g c =
     let exit = err_from_is_err_and c.from_residual.result c.from_residual.ensures.1 in
     rw (exit.1, exit.2) (c.in_err-kind.ensures.refused c.args.vector.now)
-
-pub returns-clause-read : goal.returns-clause-read
-returns-clause-read g c =
-    on_ok_weaker c.put_component.result
-    (Adds-cut g.V.Components.version g.met.V.Components.version_laws c.args.vector.now c.put_component.new.vector c.args.piece.now c.in_ok-kind.value.now c.in_ok-kind.kind c.in_ok-kind.ensures.cut)
-    c.put_component.ensures.put
 
 pub returns-clause-printable : goal.returns-clause-printable
 returns-clause-printable g c = λ is. c.put_component.ensures.printable (IsUtf8-value _ _ _ c.in_ok-kind.ensures.cut.cut is)

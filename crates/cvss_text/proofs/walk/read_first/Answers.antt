@@ -2,7 +2,6 @@ use Rattle.std.proofs.Common.{subst, All, IsUtf8}
 use Rattle.std.proofs.lemmas.List.Elements.{All-head}
 use Rattle.std.proofs.lemmas.Result.{err_from_is_err_and}
 use Rattle.cvss_text.proofs.PieceLemmas.{IsUtf8-value}
-use Rattle.cvss_text.proofs.WalkLemmas.{Adds-cut}
 use Rattle.cvss_text.proofs.walk.read_first.Goals as goal
 
 pub returns-in_err-kind-clause-refused : goal.returns-in_err-kind-clause-refused
@@ -16,12 +15,3 @@ returns-in_err-put_component-clause-printable g c = λ is.
     let cut = c.in_ok-kind.ensures.cut in
     let piece = All-head IsUtf8 _ _ (subst (All IsUtf8) cut.first is) in
     rw (exit.1, exit.2) (c.in_err-put_component.ensures.printable (IsUtf8-value _ _ _ cut.is.cut piece))
-
-pub returns-clause-read : goal.returns-clause-read
-returns-clause-read g c =
-    let cut = c.in_ok-kind.ensures.cut in
-    record {
-      piece = cut.piece;
-      first = cut.first;
-      adds = Adds-cut g.V.Components.version g.met.V.Components.version_laws c.args.vector.now c.put_component.new.vector cut.piece c.in_ok-kind.value.now c.in_ok-kind.kind cut.is c.in_ok-put_component.ensures.put;
-    }
