@@ -2,7 +2,7 @@
 use Rattle.std.proofs.Common.{◌≡◌, ◌≢◌, ◌⊎◌, inl, inr, ℕ, ◌<◌, ◌≤◌, List, [], ◌∷◌, ◌++◌, length, get_or, map, take, Option, Some, None, IsSome, refl, sym, ap, ◌∙◌, subst, arith, IsPermutation, option_map}
 use Rattle.std.specs.List.{All, Contains, filter_map, cons_option}
 use Rattle.std.proofs.lemmas.List.{map-append, length-map, get_or-map, get_or-take, length-take-le, take_all}
-use Rattle.std.proofs.lemmas.List.Elements.{All-nil, All-cons, All-head, All-tail, All-map, All-get_or, Contains-append_right, filter_map-append}
+use Rattle.std.proofs.lemmas.List.Elements.{All-nil, All-cons, All-head, All-tail, All-get_or, Contains-append_right, filter_map-append}
 use Rattle.std.proofs.lemmas.List.Sorted.{IsPermutation-middle, IsPermutation-cons, IsPermutation-to_front, IsPermutation-sym, IsPermutation-trans, All-permutation, Contains-permutation}
 use Rattle.cvss_base.specs.Text.{name_part, value_part, component}
 use Rattle.cvss_base.specs.Version.{Version, read, component_of, components_of, AreComponentsOf}
@@ -49,18 +49,10 @@ abbrev pub HoldsHere : {V K : Type 0} → Version V K → (List ℕ → Type 0) 
 HoldsHere version P v kind = (value : version.Value kind) → version.value_of v kind ≡ Some value → P (component (version.name kind) (read version (version.spelling kind value)))
 
 module _ {V K : Type 0} (version : Version V K) (version_laws : VersionLaws version) where
-  -- the components, cut at one metric
-  components_cut : (v : V) (kind : K) (cut : IsCutAt version.printed kind) → components_of version v ≡ filter_map (component_of version v) cut.before ++ cons_option (component_of version v kind) (filter_map (component_of version v) cut.after)
-  components_cut v kind cut = ap (filter_map (component_of version v)) cut.is ∙ filter_map-append (component_of version v) cut.before (kind ∷ cut.after)
-
-  -- the components, as they are read, cut at a metric that has a value
-  pub components_with : (v : V) (kind : K) (value : version.Value kind) (cut : IsCutAt version.printed kind) → version.value_of v kind ≡ Some value → map (read version) (components_of version v) ≡ map (read version) (filter_map (component_of version v) cut.before) ++ component (version.name kind) (read version (version.spelling kind value)) ∷ map (read version) (filter_map (component_of version v) cut.after)
-  components_with v kind value cut held =
-      ap (map (read version)) (components_cut v kind cut) ∙ rw held (map-append (read version) (filter_map (component_of version v) cut.before) (component (version.name kind) (version.spelling kind value) ∷ filter_map (component_of version v) cut.after) ∙ rw (component_read version version_laws kind (version.spelling kind value)))
-
-  components_without : (v : V) (kind : K) (cut : IsCutAt version.printed kind) → version.value_of v kind ≡ None → map (read version) (components_of version v) ≡ map (read version) (filter_map (component_of version v) cut.before) ++ map (read version) (filter_map (component_of version v) cut.after)
-  components_without v kind cut empty =
-      ap (map (read version)) (components_cut v kind cut) ∙ rw empty (map-append (read version) _ _)
+  -- the components, as they are read, cut at one metric
+  components_at : (v : V) (kind : K) (cut : IsCutAt version.printed kind) → map (read version) (components_of version v) ≡ map (read version) (filter_map (component_of version v) cut.before) ++ map (read version) (cons_option (component_of version v kind) (filter_map (component_of version v) cut.after))
+  components_at v kind cut =
+      ap (map (read version)) (ap (filter_map (component_of version v)) cut.is ∙ filter_map-append (component_of version v) cut.before (kind ∷ cut.after)) ∙ map-append (read version) _ _
 
   -- the vector after a component has one component more
   pub adds_component : (old new : V) (parts : List (List ℕ)) (piece : List ℕ) → Adds version old piece new → AreComponentsOf version parts old → AreComponentsOf version (parts ++ piece ∷ []) new
@@ -73,12 +65,12 @@ module _ {V K : Type 0} (version : Version V K) (version_laws : VersionLaws vers
       let after = map (read version) (filter_map (component_of version old) cut.after) in
       let added = component (version.name kind) (read version (version.spelling kind adds.puts.fills.value)) in
       let new_is : map (read version) (components_of version new) ≡ before ++ added ∷ after =
-      components_with new kind adds.puts.fills.value cut adds.puts.fills.filled ∙ rw (kept cut.before cut.not_before, kept cut.after cut.not_after) in
+      components_at new kind cut ∙ rw (kept cut.before cut.not_before, kept cut.after cut.not_after, adds.puts.fills.filled, component_read version version_laws kind (version.spelling kind adds.puts.fills.value)) in
       let piece_is : read version piece ≡ added =
       ap (read version) adds.cut ∙ read-component version.any_case (name_part piece) (value_part piece) ∙ rw (adds.named, adds.puts.fills.spelled) in
       let parts_are : map (read version) (parts ++ piece ∷ []) ≡ map (read version) parts ++ added ∷ [] =
       map-append (read version) parts (piece ∷ []) ∙ rw piece_is in
-      record { each_once = IsPermutation-along new_is parts_are (IsPermutation-insert_push before after (map (read version) parts) added (IsPermutation-along (sym (components_without old kind cut adds.puts.fills.was_empty)) refl components.each_once)) }
+      record { each_once = IsPermutation-along new_is parts_are (IsPermutation-insert_push before after (map (read version) parts) added (IsPermutation-along (sym (components_at old kind cut ∙ rw adds.puts.fills.was_empty)) refl components.each_once)) }
 
   -- a value of the vector is among the pieces
   pub held_stands : (v : V) (parts : List (List ℕ)) (kind : K) (value : version.Value kind) → AreComponentsOf version parts v → version.value_of v kind ≡ Some value → StandsAt version parts kind value
@@ -86,22 +78,19 @@ module _ {V K : Type 0} (version : Version V K) (version_laws : VersionLaws vers
       let cut = printed_once version version_laws kind in
       let text = component (version.name kind) (read version (version.spelling kind value)) in
       let among : Contains (map (read version) (components_of version v)) text =
-      subst (λ list. Contains list text) (sym (components_with v kind value cut held)) (Contains-append_right (map (read version) (filter_map (component_of version v) cut.before)) (text ∷ map (read version) (filter_map (component_of version v) cut.after)) text (0, omega arith, refl)) in
+      subst (λ list. Contains list text) (sym (components_at v kind cut)) (Contains-append_right (map (read version) (filter_map (component_of version v) cut.before)) _ text (rw held (0, omega arith, component_read version version_laws kind (version.spelling kind value)))) in
       let found = Contains-permutation _ _ text components.each_once among in
       let within : found.0 < length parts = omega (arith, length-map parts (read version), found.1) in
       record { place = found.0; within = within; is = sym (get_or-map (read version) parts found.0 [] text within) ∙ found.2 }
 
   -- what holds so of each metric, holds of all components
-  holds_with : (P : List ℕ → Type 0) (v : V) (kind : K) (rest : List (List ℕ)) (held : Option (version.Value kind)) → version.value_of v kind ≡ held → HoldsHere version P v kind → All (λ text. P (read version text)) rest → All (λ text. P (read version text)) (cons_option (option_map (component (version.name kind)) (option_map (version.spelling kind) held)) rest)
+  holds_with : (P : List ℕ → Type 0) (v : V) (kind : K) (rest : List (List ℕ)) (held : Option (version.Value kind)) → version.value_of v kind ≡ held → HoldsHere version P v kind → All P (map (read version) rest) → All P (map (read version) (cons_option (option_map (component (version.name kind)) (option_map (version.spelling kind) held)) rest))
   holds_with P v kind rest None is here all = all
-  holds_with P v kind rest (Some value) is here all = All-cons (λ text. P (read version text)) (component (version.name kind) (version.spelling kind value)) rest (rw (component_read version version_laws kind (version.spelling kind value)) (here value is)) all
-
-  holds_read : (P : List ℕ → Type 0) (v : V) (kinds : List K) → All (HoldsHere version P v) kinds → All (λ text. P (read version text)) (filter_map (component_of version v) kinds)
-  holds_read P v [] each = All-nil (λ text. P (read version text))
-  holds_read P v (kind ∷ kinds) each = holds_with P v kind (filter_map (component_of version v) kinds) (version.value_of v kind) refl (All-head (HoldsHere version P v) kind kinds each) (holds_read P v kinds (All-tail (HoldsHere version P v) kind kinds each))
+  holds_with P v kind rest (Some value) is here all = All-cons P _ (map (read version) rest) (rw (component_read version version_laws kind (version.spelling kind value)) (here value is)) all
 
   pub holds_of_components : (P : List ℕ → Type 0) (v : V) (kinds : List K) → All (HoldsHere version P v) kinds → All P (map (read version) (filter_map (component_of version v) kinds))
-  holds_of_components P v kinds each = All-map P (read version) (filter_map (component_of version v) kinds) (holds_read P v kinds each)
+  holds_of_components P v [] each = All-nil P
+  holds_of_components P v (kind ∷ kinds) each = holds_with P v kind (filter_map (component_of version v) kinds) (version.value_of v kind) refl (All-head (HoldsHere version P v) kind kinds each) (holds_of_components P v kinds (All-tail (HoldsHere version P v) kind kinds each))
 
   -- each piece stands for a value of the vector
   pub piece_held : (v : V) (parts : List (List ℕ)) (place : ℕ) → AreComponentsOf version parts v → place < length parts → IsHeldAs version v (read version (piece_at parts place))

@@ -10,13 +10,13 @@ use Rattle.std.proofs.lemmas.List.FromFn.{get_or-range_with_len}
 use Rattle.std.proofs.lemmas.Map.Keys.{IsDistinct-IsPermutation, IsDistinct-cons, apart_from_distinct}
 use Rattle.std.proofs.lemmas.Option.{slice_get_within, get_or_from_slice_get}
 use Rattle.std.proofs.lemmas.Slice.Eq.{bytes_eq-Decides}
-use Rattle.cvss_base.specs.Text.{pieces, name_part, value_part, component}
+use Rattle.cvss_base.specs.Text.{pieces, name_part, component}
 use Rattle.cvss_base.specs.Version.{Version, read, AreComponentsOf, Denotes, IsComplete, reading, component_of}
 use Rattle.cvss_base.specs.Refusal.{Refusal, UnknownName, BadValue, Repeated, Missing, Spells, piece_at, name_at, FaultAt, HasNoFaultBefore, IsFirstReason}
 use Rattle.cvss_text.specs.private.Walk.{VersionLaws, place_of}
-use Rattle.cvss_text.proofs.TextLemmas.{IsPart, name_part-component, value_part-component, name_part-read}
+use Rattle.cvss_text.proofs.TextLemmas.{IsPart, name_part-component, name_part-read}
 use Rattle.cvss_text.proofs.LawLemmas.{component_read, name_plain, names_differ}
-use Rattle.cvss_text.proofs.ComponentLemmas.{IsHeldAs, all_taken, held_is_named, held_stands, holds_of_components, name_from, piece_held, value_from, value_from_piece}
+use Rattle.cvss_text.proofs.ComponentLemmas.{all_taken, held_is_named, held_stands, holds_of_components, name_from, piece_held, value_from, value_from_piece}
 use Rattle.cvss_text.proofs.JoinLemmas.{pieces-joined, are_parts}
 
 -- the texts have one name
@@ -58,24 +58,15 @@ same_options None None there back = refl
 same_options None (Some value) there back = back value refl
 
 module _ {V K : Type 0} (version : Version V K) (version_laws : VersionLaws version) where
-  -- a text is the component of one value
-  same_held : (v : V) (text : List ℕ) (held : IsHeldAs version v text) (value : version.Value held.kind) → text ≡ component (version.name held.kind) (read version (version.spelling held.kind value)) → version.value_of v held.kind ≡ Some value
-  same_held v text held value is =
-      let plain = name_plain version version_laws held.kind in
-      let spelled : read version (version.spelling held.kind held.value) ≡ read version (version.spelling held.kind value) =
-      sym (value_part-component (version.name held.kind) _ plain) ∙ (ap value_part (sym held.is ∙ is) ∙ value_part-component (version.name held.kind) _ plain) in
-      held.held ∙ ap Some (version_laws.one_value held.kind held.value value spelled)
-
-  held_as : (v : V) (text : List ℕ) (held : IsHeldAs version v text) (kind : K) (value : version.Value kind) → text ≡ component (version.name kind) (read version (version.spelling kind value)) → version.value_of v kind ≡ Some value
-  held_as v text held kind =
-      let named : (each : K) (spelled : List ℕ) → text ≡ component (version.name each) spelled → name_part text ≡ version.name each = λ each spelled is. ap name_part is ∙ name_part-component (version.name each) spelled (name_plain version version_laws each) in
-      λ value is. subst (λ each. (x : version.Value each) → text ≡ component (version.name each) (read version (version.spelling each x)) → version.value_of v each ≡ Some x) (names_differ version version_laws held.kind kind (sym (named held.kind _ held.is) ∙ named kind _ is)) (same_held v text held) value is
-
   -- a value of one vector is a value of the other, where the same pieces are the components of both
   value_shared : (v w : V) (parts : List (List ℕ)) → AreComponentsOf version parts v → AreComponentsOf version parts w → (kind : K) (value : version.Value kind) → version.value_of v kind ≡ Some value → version.value_of w kind ≡ Some value
   value_shared v w parts of_v of_w kind value held =
       let stands = held_stands version version_laws v parts kind value of_v held in
-      held_as w _ (piece_held version version_laws w parts stands.place of_w stands.within) kind value stands.is
+      let piece = piece_at parts stands.place in
+      let here = piece_held version version_laws w parts stands.place of_w stands.within in
+      let named = sym (name_from version version_laws piece here.kind _ here.is) ∙ name_from version version_laws piece kind _ stands.is in
+      let (other, is_held, is) = subst (λ each. (x : version.Value each) × (version.value_of w each ≡ Some x) × (read version piece ≡ component (version.name each) (reading version each x))) (names_differ version version_laws here.kind kind named) (here.value, here.held, here.is) in
+      is_held ∙ ap Some (version_laws.one_value kind other value (sym (value_from_piece version version_laws piece kind _ is) ∙ value_from_piece version version_laws piece kind _ stands.is))
 
   pub values_same : (v w : V) (parts : List (List ℕ)) → AreComponentsOf version parts v → AreComponentsOf version parts w → (kind : K) → version.value_of v kind ≡ version.value_of w kind
   values_same v w parts of_v of_w kind = same_options _ _ (value_shared v w parts of_v of_w kind) (value_shared w v parts of_w of_v kind)

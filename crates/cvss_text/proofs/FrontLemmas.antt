@@ -1,6 +1,6 @@
 -- What is answered of a whole text, whether a version piece is before the components or not; and texts after a version
 -- piece.
-use Rattle.std.proofs.Common.{◌≡◌, ℕ, List, [], ◌++◌, length, drop, take, Ok, Err, sym, ap, ◌∙◌, subst, zero, suc, ◌∷◌, get_or, codes, refl, arith, All, Contains, IsUtf8}
+use Rattle.std.proofs.Common.{◌≡◌, ℕ, List, [], ◌++◌, length, drop, take, Ok, Err, sym, ap, ◌∙◌, subst, zero, suc, ◌∷◌, codes, refl, arith, All, Contains, IsUtf8}
 use Rattle.std.proofs.lemmas.List.Sums.{get_or-le-sum_by}
 use Rattle.std.proofs.lemmas.List.Elements.{All-append, All-nil, All-cons}
 use Rattle.std.proofs.lemmas.List.Splits.{join_with_byte-slice_split}

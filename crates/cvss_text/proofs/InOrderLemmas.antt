@@ -1,17 +1,16 @@
 -- A text that begins with the components of a vector in printing order is read up to their end.
-use Rattle.std.proofs.Common.{◌≡◌, ℕ, ◌<◌, All, Ok, List, [], ◌∷◌, ◌++◌, append_assoc, append-nil, false, flat_map, length, refl, sym, ap, ◌∙◌, arith}
+use Rattle.std.proofs.Common.{◌≡◌, ℕ, ◌<◌, All, Ok, List, [], ◌∷◌, ◌++◌, append_assoc, append-nil, false, flat_map, length, refl, sym, ap, ◌∙◌, subst, arith}
 use Rattle.std.proofs.lemmas.List.Elements.{All-cons, All-nil}
 use Rattle.std.proofs.lemmas.List.Splits.{join_with_byte-slice_split, slice_split-cons_yes}
 use Rattle.cvss_base.specs.Text.{slash, pieces, joined}
-use Rattle.cvss_base.specs.Version.{Version, canonical_text, components_of}
+use Rattle.cvss_base.specs.Version.{Version, AreComponentsOf, canonical_text, components_of}
 use Rattle.cvss_text.specs.private.Printing.{text_with_slash, texts_with_slash}
 use Rattle.cvss_text.specs.private.Walk.{VersionLaws, HasReadTo, IsInOrderTo, IsReadLeft, IsWhole}
 use Rattle.cvss_text.proofs.CanonicalLemmas.{own_components}
 use Rattle.cvss_text.proofs.JoinLemmas.{IsUncut, are_parts, are_uncut, pieces-all, pieces-then}
-use Rattle.cvss_text.proofs.MissingLemmas.{IsReadLeft-checked}
+use Rattle.cvss_text.proofs.WalkLemmas.{HasReadTo-start, IsReadLeft-checked}
 use Rattle.cvss_text.proofs.PrintLemmas.{joined-with_slash}
 use Rattle.cvss_text.proofs.TextLemmas.{is_slash}
-use Rattle.cvss_text.proofs.WalkLemmas.{HasReadTo-all}
 
 -- the text of each metric before those of the metrics after it, and the rest
 abbrev pub in_turn : {K : Type 0} → (K → List ℕ) → List K → List ℕ → List ℕ
@@ -38,10 +37,9 @@ module _ {V K : Type 0} (version : Version V K) (version_laws : VersionLaws vers
   own_parts : List (List ℕ)
   own_parts = components_of version v
 
-  -- the pieces of the text are the vector's components, and then those that are left
-  HasReadTo-own : (left : List (List ℕ)) → pieces text ≡ own_parts ++ left → HasReadTo version (pieces text) left v
+  own : AreComponentsOf version own_parts v
   unfolding own_parts
-  HasReadTo-own left cut = record { before = own_parts; cut = cut; components = own_components version version_laws v }
+  own = own_components version version_laws v
 
   -- such a text after a slash: a piece without bytes, the vector's components, and what is left
   pieces_from : (tail : List ℕ) (left : List (List ℕ)) → (pieces (joined ([] ∷ own_parts) ++ tail) ≡ [] ∷ (own_parts ++ left)) → slash ∷ text ≡ texts_with_slash version v version.printed ++ tail → pieces text ≡ own_parts ++ left
@@ -52,29 +50,25 @@ module _ {V K : Type 0} (version : Version V K) (version_laws : VersionLaws vers
       cc
 
   uncut_parts : All IsUncut ([] ∷ own_parts)
-  unfolding own_parts
-  uncut_parts = All-cons IsUncut [] own_parts (All-nil (λ byte. is_slash byte ≡ false)) (are_uncut own_parts (are_parts version version_laws v own_parts (own_components version version_laws v)))
+  uncut_parts = All-cons IsUncut [] own_parts (All-nil (λ byte. is_slash byte ≡ false)) (are_uncut own_parts (are_parts version version_laws v own_parts own))
 
   pub HasReadTo-begun : (rest : List ℕ) → slash ∷ text ≡ texts_with_slash version v version.printed ++ slash ∷ rest → HasReadTo version (pieces text) (pieces rest) v
-  HasReadTo-begun rest is = HasReadTo-own (pieces rest) (pieces_from (slash ∷ rest) (pieces rest) (pieces-then [] own_parts rest uncut_parts) is)
+  HasReadTo-begun rest is = record { before = own_parts; cut = pieces_from (slash ∷ rest) (pieces rest) (pieces-then [] own_parts rest uncut_parts) is; components = own }
 
   own_pieces : slash ∷ text ≡ texts_with_slash version v version.printed ++ [] → pieces text ≡ own_parts
   own_pieces is =
       pieces_from [] [] (ap pieces (append-nil (joined ([] ∷ own_parts))) ∙ pieces-all [] own_parts uncut_parts ∙ ap (λ parts. [] ∷ parts) (sym (append-nil own_parts))) is
       ∙ append-nil own_parts
 
-  HasReadTo-whole : slash ∷ text ≡ texts_with_slash version v version.printed ++ [] → HasReadTo version (pieces text) [] v
-  HasReadTo-whole is = HasReadTo-own [] (own_pieces is ∙ sym (append-nil own_parts))
-
   pub HasReadTo-end : (rest : List ℕ) → length rest ≡ 0 → slash ∷ text ≡ texts_with_slash version v version.printed ++ rest → HasReadTo version (pieces text) [] v
-  HasReadTo-end [] none is = HasReadTo-whole is
+  HasReadTo-end [] none is = record { before = own_parts; cut = own_pieces is ∙ sym (append-nil own_parts); components = own }
   HasReadTo-end (byte ∷ rest) none is = absurd (omega (arith, none))
 
   -- a text that is the components of a complete vector is read
   module _ (front : List (List ℕ)) (is : IsWhole version front text v) where
     pub IsReadLeft-whole : (empty : V) → front ≡ version.front empty → IsReadLeft version (pieces text) empty (Ok tt) v
     IsReadLeft-whole empty of =
-        IsReadLeft-checked version version_laws (pieces text) v (HasReadTo-all version version_laws (pieces text) [] v (HasReadTo-whole is.in_order.is) refl) empty (Ok tt) (is.in_order.front_is ∙ of) is.present tt
+        IsReadLeft-checked version version_laws (pieces text) v (subst (λ parts. AreComponentsOf version parts v) (sym (own_pieces is.in_order.is)) own) empty (Ok tt) (is.in_order.front_is ∙ of) is.present tt
 
     -- and so is the text that has it after the front the canonical one
     pub canonical_whole : (whole : List ℕ) → pieces whole ≡ front ++ pieces text → whole ≡ canonical_text version v
@@ -82,3 +76,5 @@ module _ {V K : Type 0} (version : Version V K) (version_laws : VersionLaws vers
     canonical_whole whole cut =
         sym (join_with_byte-slice_split slash whole)
         ∙ ap joined (cut ∙ (ap (λ front. front ++ pieces text) (sym is.in_order.front_is) ∙ ap (λ parts. version.front v ++ parts) (own_pieces is.in_order.is)))
+
+pub ruleset begun = (HasReadTo-begun, HasReadTo-end, HasReadTo-start, tt)

@@ -1,14 +1,12 @@
 pub mod BufferLemmas
 pub mod CanonicalLemmas
 pub mod ComponentLemmas
-pub mod CutLemmas
 pub mod DenotesLemmas
 pub mod EqualLemmas
 pub mod FrontLemmas
 pub mod InOrderLemmas
 pub mod JoinLemmas
 pub mod LawLemmas
-pub mod MissingLemmas
 pub mod NumeralLemmas
 pub mod PieceLemmas
 pub mod PrintLemmas

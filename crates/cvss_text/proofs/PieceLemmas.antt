@@ -1,20 +1,23 @@
--- How pieces come off a text, and that those of a text in UTF-8 are UTF-8.
-use Rattle.std.proofs.Common.{append_assoc, append-nil, ◌≡◌, ℕ, ◌+◌, ◌<◌, ◌≤◌, Bool, cond, ltb, List, [], ◌∷◌, inl, inr, length, take, drop, Option, Some, None, refl, sym, ap, ◌∙◌, Bor, arith, ◌++◌, subst, ltb-true, ltb-false, IsUtf8}
+-- How pieces come off a text and are cut at their colons, that those of a text in UTF-8 are UTF-8, and where a text is read.
+use Rattle.std.proofs.Common.{append_assoc, append-nil, ◌≡◌, ◌≢◌, ℕ, ◌+◌, ◌<◌, ◌≤◌, Bool, true, false, cond, eqb, ltb, List, [], ◌∷◌, ◌++◌, inl, inr, codes, length, get_or, take, drop, Option, Some, None, refl, sym, ap, ◌∙◌, Bor, arith, subst, ltb-true, ltb-false, IsUtf8}
 use Rattle.std.specs.List.{position, position_or_len, All}
 use Rattle.std.specs.Option.{option_map_or, unwrap_or}
 use Rattle.std.specs.Slice.{IsGetRangeResult}
-use Rattle.std.proofs.lemmas.Bool.{false_from_ne_true}
-use Rattle.std.proofs.lemmas.List.Folds.{list_any_none}
+use Rattle.std.proofs.lemmas.Bool.{false_from_ne_true, ne_eqb}
 use Rattle.std.proofs.lemmas.List.{take_all, take_rest, length-append, get_or_append_left, get_or_at, take_at, drop_at, drop-drop}
-use Rattle.std.proofs.lemmas.List.Splits.{slice_split_none, slice_split_first, join_with_byte-slice_split}
+use Rattle.std.proofs.lemmas.List.Elements.{All-nil, All-cons, All-head, All-append, All-drop}
+use Rattle.std.proofs.lemmas.List.Folds.{list_any-append, list_any_at, list_any_none}
+use Rattle.std.proofs.lemmas.List.Splits.{length-slice_split, slice_split_at, slice_split_none, slice_split_first, join_with_byte-slice_split}
 use Rattle.std.proofs.lemmas.List.Sums.{fails_before_first}
 use Rattle.std.proofs.lemmas.Option.{cond_some, none-some}
-use Rattle.cvss_text.specs.private.Pieces.{AreParts, IsAfterComponent, IsAfterComponents, IsWithoutColon}
-use Rattle.cvss_base.specs.Text.{pieces, slash, colon, joined, component, IsComponent}
-use Rattle.cvss_text.proofs.TextLemmas.{is_slash, is_colon, position-within, colon-parts}
-use Rattle.std.proofs.lemmas.List.Elements.{All-nil, All-cons, All-append, All-drop}
 use Rattle.std.proofs.lemmas.Str.{IsUtf8-take, IsUtf8-drop, IsCharBoundary-before_ascii, IsCharBoundary-after_ascii}
+use Rattle.std.proofs.Math.Bool.{or-true}
 use Rattle.cvss_base.specs.Refusal.{AreComponentsBefore, IsFirstBadPiece, piece_at}
+use Rattle.cvss_base.specs.Text.{pieces, slash, colon, dot, has, joined, component, IsComponent}
+use Rattle.cvss_base.specs.Version.{version_piece}
+use Rattle.cvss_text.specs.Route.{Route, ToV20, route_of, route_of_pieces, route_of_parts}
+use Rattle.cvss_text.specs.private.Pieces.{AreParts, IsAfterComponent, IsAfterComponents, IsWithoutColon}
+use Rattle.cvss_text.proofs.TextLemmas.{is_slash, is_colon, position-within, colon-parts}
 
 -- the place of the first byte that passes a test
 module _ (p : ℕ → Bool) (text : List ℕ) where
@@ -118,4 +121,46 @@ module _ (parts left : List (List ℕ)) (is : IsAfterComponents parts left) wher
 pub All-left : (P : List ℕ → Type 0) (parts before left : List (List ℕ)) → parts ≡ before ++ left → All P parts → All P left
 All-left P parts before left cut all = subst (All P) (ap (drop (length before)) cut ∙ drop_at before left (length before) refl) (All-drop P (length before) parts all)
 
-pub ruleset cuts = (pieces-cut, tt)
+-- the route of a text that is cut at its first slash, and its first piece at its first colon
+pub cut_routed : (text piece prefix reported : List ℕ) (rest : List (List ℕ)) (to : Route) → pieces text ≡ piece ∷ rest → rest ≢ [] → AreParts piece prefix reported → to ≡ route_of_parts prefix reported → to ≡ route_of text
+cut_routed text piece prefix reported [] to cut some parts is = absurd (some refl)
+cut_routed text piece prefix reported (next ∷ more) to cut some parts is =
+    let colon_in : has colon piece ≡ true = ap (has colon) parts.cut ∙ list_any-append is_colon prefix (colon ∷ reported) ∙ or-true (has colon prefix) in
+    let by_parts : route_of_pieces (piece ∷ next ∷ more) ≡ route_of_parts prefix reported = rw (colon_in, sym parts.name_is, sym parts.value_is) refl in
+    is ∙ sym (ap route_of_pieces cut ∙ by_parts)
+
+-- the first piece of a text
+pub first_utf8 : (text piece : List ℕ) (rest : List (List ℕ)) → pieces text ≡ piece ∷ rest → IsUtf8 text → IsUtf8 piece
+first_utf8 text piece rest cut is = All-head IsUtf8 piece rest (subst (All IsUtf8) cut (IsUtf8-pieces text is))
+
+-- a text has a first piece
+pub some_piece : (text : List ℕ) → pieces text ≢ []
+some_piece text none = omega (arith, ap length none, length-slice_split (λ byte. eqb byte slash) text)
+
+-- a text that begins with a piece and a slash
+pub pieces_after : (piece rest : List ℕ) → has slash piece ≡ false → pieces (piece ++ (slash ∷ rest)) ≡ piece ∷ pieces rest
+pieces_after piece rest none = slice_split_at (λ each. eqb each slash) piece slash rest
+    (λ k d inside. false_from_ne_true _ (λ yes. let found = list_any_at (λ each. eqb each slash) piece k d inside yes in cc)) refl
+
+-- a text that begins with a component, a name of two letters and a value of one, says no version
+another : (byte other : ℕ) → other < byte → eqb byte other ≡ false
+another byte other below = ne_eqb byte other (λ same. omega (arith, below, same))
+
+short_parts : (a b c : ℕ) → colon < a → colon < b → AreParts (component (a ∷ b ∷ []) (c ∷ [])) (a ∷ b ∷ []) (c ∷ [])
+short_parts a b c above_a above_b =
+    AreParts-first (component (a ∷ b ∷ []) (c ∷ [])) 2 (rw (another a colon above_a, another b colon above_b) refl)
+
+pub short_routed : (text : List ℕ) → 5 ≤ length text → 65 ≤ get_or text 0 0 → 65 ≤ get_or text 1 0 → get_or text 2 0 ≡ colon → 65 ≤ get_or text 3 0 → get_or text 4 0 ≡ slash → route_of text ≡ ToV20
+short_routed (a ∷ b ∷ x ∷ c ∷ y ∷ rest) some letter_a letter_b is_colon letter_c is_slash =
+    let piece = component (a ∷ b ∷ []) (c ∷ []) in
+    let none : has slash piece ≡ false = rw (another a slash (omega (arith, letter_a)), another b slash (omega (arith, letter_b)), another c slash (omega (arith, letter_c))) refl in
+    let cut : pieces (a ∷ b ∷ x ∷ c ∷ y ∷ rest) ≡ piece ∷ pieces rest = rw (is_colon, is_slash) (pieces_after piece rest none) in
+    sym (cut_routed (a ∷ b ∷ x ∷ c ∷ y ∷ rest) piece (a ∷ b ∷ []) (c ∷ []) (pieces rest) ToV20 cut (some_piece rest) (short_parts a b c (omega (arith, letter_a)) (omega (arith, letter_b))) (rw (another c dot (omega (arith, letter_c))) refl))
+short_routed text some letter_a letter_b is_colon letter_c is_slash = absurd (omega (arith, some))
+
+-- a text that says its version after the prefix is read by the rules of that
+pub said_routed : (text reported rest : List ℕ) (to : Route) → text ≡ version_piece reported ++ (slash ∷ rest) → has slash reported ≡ false → to ≡ route_of_parts (codes "CVSS") reported → to ≡ route_of text
+said_routed text reported rest to is none routed =
+    cut_routed text (version_piece reported) (codes "CVSS") reported (pieces rest) to (ap pieces is ∙ pieces_after (version_piece reported) rest none) (some_piece rest) (record { cut = refl; name_is = refl; value_is = refl }) routed
+
+pub ruleset cuts = (pieces-cut, AreParts-first, without_colon, take_rest, tt)

@@ -1,20 +1,24 @@
--- The steps of the walk over the components.
-use Rattle.std.proofs.Common.{◌≡◌, ℕ, ◌<◌, ◌≤◌, List, [], ◌∷◌, length, ◌++◌, take, false, refl, sym, ap, ◌∙◌, subst, arith, append_assoc, append-nil}
+-- The steps of the walk over the components, and its end.
+use Rattle.std.proofs.Common.{◌≡◌, ℕ, ◌<◌, ◌≤◌, true, false, List, [], ◌∷◌, ◌++◌, length, take, Option, Some, None, IsSome, Result, Ok, Err, OnOk, IfErr, Contains, is_none, refl, sym, ap, ◌∙◌, subst, arith, append_assoc, append-nil}
 use Rattle.std.specs.List.{All, filter_map, onto_first}
 use Rattle.std.proofs.lemmas.List.{get_or-append-add, length-append, take_at}
 use Rattle.std.proofs.lemmas.List.Elements.{All-head, All-tail, All-from_get_or}
-use Rattle.std.proofs.lemmas.List.Splits.{length-slice_split, slice_split-cons_no}
 use Rattle.std.proofs.lemmas.List.Sorted.{IsPermutation-refl}
+use Rattle.std.proofs.lemmas.List.Splits.{length-slice_split, slice_split-cons_no}
+use Rattle.std.proofs.lemmas.Option.{slice_get_within, get_or_from_slice_get}
+use Rattle.cvss_base.proofs.FindLemmas.{found_first, not_found}
+use Rattle.cvss_base.specs.Refusal.{Refusal, AreComponentsBefore, BadComponent, Repeated, Missing, piece_at, FaultAt, HasNoFaultBefore, IsFirstMissing, IsNamedBefore}
 use Rattle.cvss_base.specs.Text.{colon, pieces, IsComponent, name_part, component}
-use Rattle.cvss_base.specs.Version.{Version, read, component_of, AreComponentsOf}
-use Rattle.cvss_base.specs.Refusal.{Refusal, AreComponentsBefore, BadComponent, Repeated, Missing, piece_at, FaultAt, HasNoFaultBefore}
+use Rattle.cvss_base.specs.Version.{Version, component_of, AreComponentsOf, IsComplete}
 use Rattle.cvss_base.specs.private.Component.{delimiter_bytes}
-use Rattle.cvss_text.specs.private.Walk.{VersionLaws, IsCut, IsCutFirst, IsFirstOfPieces, HasNoValue, Puts, Adds, HasReadTo, IsFaultOf}
-use Rattle.cvss_text.proofs.TextLemmas.{is_slash, All-from_count, delimiter_bytes-read, delimiter_sorts}
-use Rattle.cvss_text.proofs.LawLemmas.{name_plain, IsCut_named}
-use Rattle.cvss_text.proofs.ComponentLemmas.{adds_component, held_is_named}
+use Rattle.cvss_text.specs.declared.walk.Fault.{Fault}
+use Rattle.cvss_text.specs.declared.walk.Fault.TheVariants.{MissingMandatoryMetric}
+use Rattle.cvss_text.specs.private.Walk.{VersionLaws, IsCut, IsCutFirst, IsFirstOfPieces, HasNoValue, Adds, HasReadTo, IsFaultOf, IsMissingFault, IsReadLeft, first_missing}
+use Rattle.cvss_text.proofs.ComponentLemmas.{adds_component, all_taken, held_is_named, named_is_held}
 use Rattle.cvss_text.proofs.DenotesLemmas.{no_fault_before}
 use Rattle.cvss_text.proofs.JoinLemmas.{piece_is_component}
+use Rattle.cvss_text.proofs.LawLemmas.{name_plain, IsCut_named}
+use Rattle.cvss_text.proofs.TextLemmas.{is_slash, All-from_count, delimiter_bytes-read, delimiter_sorts}
 
 -- pieces that begin with bytes that are no slash
 onto_first_piece : (front rest first : List ℕ) (after : List (List ℕ)) → All (λ byte. is_slash byte ≡ false) front → pieces rest ≡ first ∷ after → pieces (front ++ rest) ≡ (front ++ first) ∷ after
@@ -94,5 +98,62 @@ module _ {V K : Type 0} (version : Version V K) (version_laws : VersionLaws vers
         of_fault (BadComponent piece) none = absurd none
         of_fault (Missing kind) none = absurd none
         of_fault _ fault = (all, record { place = length to.before; within = within; fault = fault; earlier = none_before })
+
+-- the first mandatory metric that a vector lacks
+pub none_absent : {X : Type 0} (o : Option X) → is_none o ≡ true → IsSome o → ⊥
+none_absent None is some = absurd cc
+none_absent (Some x) is some = absurd cc
+
+is_none_false : {X : Type 0} (o : Option X) → is_none o ≡ false → IsSome o
+is_none_false None is = absurd cc
+is_none_false (Some x) is = refl
+
+module _ {V K : Type 0} (version : Version V K) (v : V) where
+  pub IsComplete-from : first_missing version v ≡ None → IsComplete version v
+  IsComplete-from none = record {
+    present = λ kind (place, within, is).
+        is_none_false (version.value_of v kind)
+        (subst (λ other. is_none (version.value_of v other) ≡ false) is
+        (not_found (λ other. is_none (version.value_of v other)) version.mandatory place kind none within));
+  }
+
+  -- the metric that is missing is a mandatory one
+  pub Contains-missing : (kind : K) → first_missing version v ≡ Some kind → Contains version.mandatory kind
+  Contains-missing kind found =
+      let first = found_first (λ other. is_none (version.value_of v other)) version.mandatory kind found in
+      (first.place, slice_get_within version.mandatory first.place kind first.is, get_or_from_slice_get version.mandatory first.place kind kind first.is)
+
+module _ {V K : Type 0} (version : Version V K) (version_laws : VersionLaws version) (parts : List (List ℕ)) (v : V) (components : AreComponentsOf version parts v) where
+  -- the first mandatory metric that the vector lacks is the first that no component names
+  pub IsFirstMissing-from : (kind : K) → first_missing version v ≡ Some kind → IsFirstMissing version parts kind
+  IsFirstMissing-from kind missing =
+      let first = found_first (λ other. is_none (version.value_of v other)) version.mandatory kind missing in
+      let all = all_taken version v parts components in
+      let held : (other : K) → IsNamedBefore version parts (length parts) other → IsSome (version.value_of v other) = named_is_held version version_laws v parts (length parts) (omega arith) all in
+      record {
+        faultless = no_fault_before version version_laws v parts (length parts) (omega arith) all;
+        place = first.place;
+        is = first.is;
+        absent = λ named. none_absent (version.value_of v kind) first.passes (held kind named);
+        earlier = λ before other below is. held_is_named version version_laws v parts (length parts) (omega arith) all other (is_none_false (version.value_of v other) (first.earlier before other below is));
+      }
+
+  -- all pieces are read, and then it was asked whether the vector is complete
+  pub IsReadLeft-checked : (empty : V) (answer : Result (Unit {0}) (Fault K)) → version.front v ≡ version.front empty → OnOk answer (first_missing version v ≡ None) → IfErr answer (IsMissingFault version v) → IsReadLeft version parts empty answer v
+  IsReadLeft-checked empty (Ok _) front complete missing = record {
+    components = components;
+    front = front;
+    complete = IsComplete-from version v complete;
+    refused = tt;
+    printable = λ utf8. tt;
+  }
+  IsReadLeft-checked empty (Err (MissingMandatoryMetric kind)) front complete missing = record {
+    components = tt;
+    front = tt;
+    complete = tt;
+    refused = (record { each = piece_is_component version version_laws v parts components }, IsFirstMissing-from kind missing);
+    printable = λ utf8. Contains-missing version v kind missing;
+  }
+  IsReadLeft-checked empty (Err other) front complete missing = absurd missing
 
 pub ruleset starts = (HasReadTo-start, tt)

@@ -153,6 +153,7 @@ fn after_any_component(text: &[u8]) -> Option<Pieces<'_>>
 }
 
 /// The texts before and after the first colon of a piece.
+#[tactic(auto, using(crate::proofs::PieceLemmas::cuts))]
 pub fn parts_of(piece: &[u8]) -> Option<(&[u8], &[u8])>
     ensures { MatchOption result (IsWithoutColon piece.now)
         (λ parts. AreParts piece.now parts.0.now parts.1.now) }

@@ -182,6 +182,7 @@ fn begin<'a, V: Components>(text: &'a [u8], vector: &mut V) -> Pieces<'a>
 }
 
 /// The same after the components of a vector, with which the text begins in printing order.
+#[tactic(auto, using(crate::proofs::InOrderLemmas::begun))]
 #[inline(always)]
 fn begin_after<'a, V: Components>(
     text: &'a [u8],

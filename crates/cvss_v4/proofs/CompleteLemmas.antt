@@ -3,7 +3,7 @@ use Rattle.std.proofs.Common.{◌≡◌, ◌↔◌, Bool, true, false, not, Opti
 use Rattle.cvss_base.proofs.FindLemmas.{found_passes}
 use Rattle.cvss_base.specs.Version.{Version, IsComplete}
 use Rattle.cvss_text.specs.private.Walk.{first_missing}
-use Rattle.cvss_text.proofs.MissingLemmas.{none_absent, IsComplete-from, Contains-missing}
+use Rattle.cvss_text.proofs.WalkLemmas.{none_absent, IsComplete-from, Contains-missing}
 
 pub none_is_none : {X : Type 0} (o : Option X) → o ≡ None → IsSome o → ⊥
 none_is_none None is some = absurd cc

@@ -6,8 +6,7 @@ use Rattle.cvss_text.specs.declared.walk.Fault.TheVariants.{InvalidComponent}
 use Rattle.cvss_text.specs.private.Pieces.{pieces_left}
 use Rattle.cvss_text.specs.private.Walk.{reason_of}
 use Rattle.cvss_text.proofs.FrontLemmas.{Denotes-pieces, IsUtf8-left, IsAnswer-read, IsAnswer-refused, decided_after, front_fault_first, reason_after}
-use Rattle.cvss_text.proofs.CutLemmas.{first_utf8}
-use Rattle.cvss_text.proofs.PieceLemmas.{IsUtf8-bad_piece}
+use Rattle.cvss_text.proofs.PieceLemmas.{IsUtf8-bad_piece, first_utf8}
 use Rattle.cvss_text.proofs.front.read_after.Goals as goal
 
 pub returns-in-Ok-read_left : goal.returns-in-Ok-read_left

@@ -1,6 +1,5 @@
 use Rattle.std.proofs.Common.{[], refl}
-use Rattle.cvss_text.proofs.MissingLemmas.{IsReadLeft-checked}
-use Rattle.cvss_text.proofs.WalkLemmas.{AreComponentsOf-none}
+use Rattle.cvss_text.proofs.WalkLemmas.{AreComponentsOf-none, IsReadLeft-checked}
 use Rattle.cvss_text.proofs.front.read_left.Goals as goal
 
 pub returns-in-None : goal.returns-in-None

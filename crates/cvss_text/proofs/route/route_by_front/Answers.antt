@@ -1,11 +1,7 @@
 use Rattle.std.proofs.Common.{◌∷◌, ◌∙◌, ap}
 use Rattle.cvss_base.specs.Text.{pieces}
-use Rattle.cvss_text.proofs.CutLemmas.{cut_routed, first_utf8, some_piece}
-use Rattle.cvss_text.proofs.PieceLemmas.{IsUtf8-name, IsUtf8-value}
+use Rattle.cvss_text.proofs.PieceLemmas.{IsUtf8-name, IsUtf8-value, cut_routed, first_utf8, some_piece}
 use Rattle.cvss_text.proofs.route.route_by_front.Goals as goal
-
-pub returns-in_default-clause-printable : goal.returns-in_default-clause-printable
-returns-in_default-clause-printable c = first_utf8 c.args.text.now _ _ c.front_of.ensures
 
 pub returns-in-Some-parts_of-clause-route : goal.returns-in-Some-parts_of-clause-route
 returns-in-Some-parts_of-clause-route c =
@@ -17,6 +13,3 @@ pub returns-in-Some-parts_of-clause-printable : goal.returns-in-Some-parts_of-cl
 returns-in-Some-parts_of-clause-printable c = λ is.
     let piece = first_utf8 c.args.text.now _ _ c.front_of.ensures is in
     c.route_by.ensures.printable (IsUtf8-name _ _ _ c.in-Some-parts_of.ensures.cut piece) (IsUtf8-value _ _ _ c.in-Some-parts_of.ensures.cut piece)
-
-pub returns-in-None-clause-printable : goal.returns-in-None-clause-printable
-returns-in-None-clause-printable c = first_utf8 c.args.text.now _ _ c.front_of.ensures

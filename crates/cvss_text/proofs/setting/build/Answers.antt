@@ -1,7 +1,7 @@
 use Rattle.std.proofs.Common.{Some, None, sym}
 use Rattle.cvss_base.specs.Text.{pieces}
 use Rattle.cvss_text.specs.declared.walk.Fault.TheVariants.{MissingMandatoryMetric}
-use Rattle.cvss_text.proofs.MissingLemmas.{IsComplete-from, IsFirstMissing-from}
+use Rattle.cvss_text.proofs.WalkLemmas.{IsComplete-from, IsFirstMissing-from}
 use Rattle.cvss_text.proofs.SettingLemmas.{IsAnswered-Err, IsAnswered-Ok, build_sole, right_all}
 use Rattle.cvss_text.proofs.setting.build.Goals as goal
 

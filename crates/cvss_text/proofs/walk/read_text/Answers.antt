@@ -1,5 +1,5 @@
 use Rattle.cvss_base.specs.Text.{pieces}
-use Rattle.cvss_text.proofs.MissingLemmas.{IsReadLeft-checked}
+use Rattle.cvss_text.proofs.WalkLemmas.{IsReadLeft-checked}
 use Rattle.cvss_text.proofs.walk.read_text.Goals as goal
 
 pub returns : goal.returns
