@@ -8,7 +8,7 @@ use Rattle.cvss_text.specs.private.Printing.{text_with_slash, texts_with_slash}
 use Rattle.cvss_text.specs.private.Walk.{VersionLaws, HasReadTo, IsInOrderTo, IsReadLeft, IsWhole}
 use Rattle.cvss_text.proofs.CanonicalLemmas.{own_components}
 use Rattle.cvss_text.proofs.JoinLemmas.{IsUncut, are_parts, are_uncut, pieces-all, pieces-then}
-use Rattle.cvss_text.proofs.WalkLemmas.{HasReadTo-start, IsReadLeft-checked}
+use Rattle.cvss_text.proofs.WalkLemmas.{HasReadTo-start, IsReadLeft-complete}
 use Rattle.cvss_text.proofs.PrintLemmas.{joined-with_slash}
 use Rattle.cvss_text.proofs.TextLemmas.{is_slash}
 
@@ -68,7 +68,7 @@ module _ {V K : Type 0} (version : Version V K) (version_laws : VersionLaws vers
   module _ (front : List (List ℕ)) (is : IsWhole version front text v) where
     pub IsReadLeft-whole : (empty : V) → front ≡ version.front empty → IsReadLeft version (pieces text) empty (Ok tt) v
     IsReadLeft-whole empty of =
-        IsReadLeft-checked version version_laws (pieces text) v (subst (λ parts. AreComponentsOf version parts v) (sym (own_pieces is.in_order.is)) own) empty (Ok tt) (is.in_order.front_is ∙ of) is.present tt
+        IsReadLeft-complete version version_laws (pieces text) v (subst (λ parts. AreComponentsOf version parts v) (sym (own_pieces is.in_order.is)) own) empty (is.in_order.front_is ∙ of) is.present
 
     -- and so is the text that has it after the front the canonical one
     pub canonical_whole : (whole : List ℕ) → pieces whole ≡ front ++ pieces text → whole ≡ canonical_text version v

@@ -91,7 +91,10 @@ IsUtf8-name piece name value cut is = (cut_at_ascii name value colon (omega arit
 pub IsUtf8-value : (piece name value : List ℕ) → piece ≡ component name value → IsUtf8 piece → IsUtf8 value
 IsUtf8-value piece name value cut is = (cut_at_ascii name value colon (omega arith) (subst IsUtf8 cut is)).1
 
--- the pieces that are left after components, and after one more
+-- the pieces that are left after no component, and after one more
+pub IsAfterComponents-none : (parts : List (List ℕ)) → IsAfterComponents parts parts
+IsAfterComponents-none parts = record { before = []; cut = refl; components = All-nil IsComponent }
+
 pub IsAfterComponents-more : (parts left after : List (List ℕ)) → IsAfterComponents parts left → IsAfterComponent left after → IsAfterComponents parts after
 IsAfterComponents-more parts left after is first = record {
   before = is.before ++ first.piece ∷ [];

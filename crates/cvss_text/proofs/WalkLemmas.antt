@@ -1,5 +1,5 @@
 -- The steps of the walk over the components, and its end.
-use Rattle.std.proofs.Common.{◌≡◌, ℕ, ◌<◌, ◌≤◌, true, false, List, [], ◌∷◌, ◌++◌, length, take, Option, Some, None, IsSome, Result, Ok, Err, OnOk, IfErr, Contains, is_none, refl, sym, ap, ◌∙◌, subst, arith, append_assoc, append-nil}
+use Rattle.std.proofs.Common.{◌≡◌, ℕ, ◌<◌, ◌≤◌, true, false, List, [], ◌∷◌, ◌++◌, length, take, Option, Some, None, IsSome, Ok, Err, Contains, is_none, refl, sym, ap, ◌∙◌, subst, arith, append_assoc, append-nil}
 use Rattle.std.specs.List.{All, filter_map, onto_first}
 use Rattle.std.proofs.lemmas.List.{get_or-append-add, length-append, take_at}
 use Rattle.std.proofs.lemmas.List.Elements.{All-head, All-tail, All-from_get_or}
@@ -11,9 +11,9 @@ use Rattle.cvss_base.specs.Refusal.{Refusal, AreComponentsBefore, BadComponent, 
 use Rattle.cvss_base.specs.Text.{colon, pieces, IsComponent, name_part, component}
 use Rattle.cvss_base.specs.Version.{Version, component_of, AreComponentsOf, IsComplete}
 use Rattle.cvss_base.specs.private.Component.{delimiter_bytes}
-use Rattle.cvss_text.specs.declared.walk.Fault.{Fault}
 use Rattle.cvss_text.specs.declared.walk.Fault.TheVariants.{MissingMandatoryMetric}
-use Rattle.cvss_text.specs.private.Walk.{VersionLaws, IsCut, IsCutFirst, IsFirstOfPieces, HasNoValue, Adds, HasReadTo, IsFaultOf, IsMissingFault, IsReadLeft, first_missing}
+use Rattle.cvss_text.specs.private.Pieces.{IsAfterComponents}
+use Rattle.cvss_text.specs.private.Walk.{VersionLaws, IsCut, IsCutFirst, IsFirstOfPieces, HasNoValue, Adds, HasReadTo, IsFaultOf, IsReadLeft, first_missing}
 use Rattle.cvss_text.proofs.ComponentLemmas.{adds_component, all_taken, held_is_named, named_is_held}
 use Rattle.cvss_text.proofs.DenotesLemmas.{no_fault_before}
 use Rattle.cvss_text.proofs.JoinLemmas.{piece_is_component}
@@ -71,8 +71,12 @@ module _ {V K : Type 0} (version : Version V K) (version_laws : VersionLaws vers
     pub HasReadTo-all : left ≡ [] → AreComponentsOf version parts v
     HasReadTo-all none = subst (λ each. AreComponentsOf version each v) (sym (to.cut ∙ ap (λ rest. to.before ++ rest) none ∙ append-nil to.before)) to.components
 
-    pub are_components : All IsComponent to.before
-    are_components = All-from_get_or IsComponent to.before [] (piece_is_component version version_laws v to.before to.components)
+    pub IsAfterComponents-read : (text : List ℕ) → left ≡ pieces text → IsAfterComponents parts (pieces text)
+    IsAfterComponents-read text is = record {
+      before = to.before;
+      cut = to.cut ∙ ap (λ rest. to.before ++ rest) is;
+      components = All-from_get_or IsComponent to.before [] (piece_is_component version version_laws v to.before to.components);
+    }
 
     pub taken : AreComponentsOf version (take (length to.before) parts) v
     taken = subst (λ each. AreComponentsOf version each v) (sym (ap (take (length to.before)) to.cut ∙ take_at to.before left (length to.before) refl)) to.components
@@ -138,22 +142,17 @@ module _ {V K : Type 0} (version : Version V K) (version_laws : VersionLaws vers
         earlier = λ before other below is. held_is_named version version_laws v parts (length parts) (omega arith) all other (is_none_false (version.value_of v other) (first.earlier before other below is));
       }
 
-  -- all pieces are read, and then it was asked whether the vector is complete
-  pub IsReadLeft-checked : (empty : V) (answer : Result (Unit {0}) (Fault K)) → version.front v ≡ version.front empty → OnOk answer (first_missing version v ≡ None) → IfErr answer (IsMissingFault version v) → IsReadLeft version parts empty answer v
-  IsReadLeft-checked empty (Ok _) front complete missing = record {
-    components = components;
-    front = front;
-    complete = IsComplete-from version v complete;
-    refused = tt;
-    printable = λ utf8. tt;
-  }
-  IsReadLeft-checked empty (Err (MissingMandatoryMetric kind)) front complete missing = record {
+  -- all pieces are read, and the vector lacks no mandatory metric, or this first
+  pub IsReadLeft-complete : (empty : V) → version.front v ≡ version.front empty → first_missing version v ≡ None → IsReadLeft version parts empty (Ok tt) v
+  IsReadLeft-complete empty front complete = record { components = components; front = front; complete = IsComplete-from version v complete; refused = tt; printable = λ utf8. tt }
+
+  pub IsReadLeft-missing : (empty : V) (kind : K) → first_missing version v ≡ Some kind → IsReadLeft version parts empty (Err (MissingMandatoryMetric kind)) v
+  IsReadLeft-missing empty kind missing = record {
     components = tt;
     front = tt;
     complete = tt;
     refused = (record { each = piece_is_component version version_laws v parts components }, IsFirstMissing-from kind missing);
     printable = λ utf8. Contains-missing version v kind missing;
   }
-  IsReadLeft-checked empty (Err other) front complete missing = absurd missing
 
 pub ruleset starts = (HasReadTo-start, tt)

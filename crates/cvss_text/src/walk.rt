@@ -6,7 +6,7 @@ ghost use Rattle.cvss_text.specs.private.Pieces.{pieces_left};
 ghost use Rattle.cvss_base.specs.Text.{IsComponent, pieces, slash};
 ghost use Rattle.cvss_base.specs.Version.{AreComponentsOf, Version, read};
 ghost use Rattle.cvss_base.specs.Refusal.{piece_at};
-ghost use Rattle.cvss_text.specs.private.Walk.{HasNoValue, HasReadTo, IsAnswerBare, IsEmpty, IsFilled, IsInOrderTo, IsPut, IsCut, IsReadFirst, IsReadLeft, IsMissingFault, IsWhole, VersionLaws, Puts, Adds, IsFaultOf, IsFirstOfPieces, first_missing, IsPrintable, reason_of};
+ghost use Rattle.cvss_text.specs.private.Walk.{HasNoValue, HasReadTo, IsAnswerBare, IsEmpty, IsFilled, IsInOrderTo, IsPut, IsCut, IsReadFirst, IsReadLeft, IsWhole, VersionLaws, Puts, Adds, IsFaultOf, IsFirstOfPieces, first_missing, IsPrintable, reason_of};
 
 use crate::cutting::{cut_component, cut_first};
 use crate::pieces::{Pieces, first_bad_piece, pieces_of};
@@ -262,11 +262,12 @@ pub fn read_text<'a, V: Components>(
     check_complete(vector)
 }
 
-/// Whether the vector has each metric that every vector has.
+/// Whether the vector, which was read whole, has each metric that every vector has.
 #[inline(always)]
 pub(crate) fn check_complete<'a, V: Components>(vector: &V) -> Result<(), Fault<'a, V::Kind>>
-    ensures complete { OnOk result (first_missing V.version vector.now ≡ None) }
-    ensures missing { IfErr result (IsMissingFault V.version vector.now) }
+    ensures { (left : List (List ℕ)) (empty : V) → AreComponentsOf V.version left vector.now
+        → V.version.front vector.now ≡ V.version.front empty
+        → IsReadLeft V.version left empty result vector.now }
 {
     match vector.first_missing() {
         Some(kind) => Err(Fault::MissingMandatoryMetric(kind)),

@@ -192,11 +192,6 @@ pub record IsCutAnswer {V K : Type 0} (version : Version V K) (piece : List ℕ)
   pub unnamed : OnErr answer (IsComponent piece → (kind : K) → version.name kind ≢ read version (name_part piece))
   pub printable : IsUtf8 piece → IfErr answer (IsPrintable version)
 
--- the fault that the vector lacks a mandatory metric, the first of them
-abbrev pub IsMissingFault : {V K : Type 0} → Version V K → V → Fault K → Type 0
-IsMissingFault version v (MissingMandatoryMetric kind) = first_missing version v ≡ Some kind
-IsMissingFault version v _ = ⊥
-
 -- what reading these pieces into a vector without values answers: all of them are read, and it is complete, or the first
 -- reason why they are refused
 pub record IsReadLeft {V K : Type 0} (version : Version V K) (left : List (List ℕ)) (empty : V) (answer : Result (Unit {0}) (Fault K)) (v : V) : Type 0 where
