@@ -1,20 +1,18 @@
--- The components of a vector, and the pieces that stand for them.
-use Rattle.std.proofs.Common.{◌≡◌, ◌≢◌, ◌⊎◌, inl, inr, ℕ, ◌<◌, ◌≤◌, List, [], ◌∷◌, ◌++◌, length, get_or, map, take, Option, Some, None, IsSome, refl, sym, ap, ◌∙◌, subst, arith, IsPermutation, option_map}
+-- The components of a vector, the pieces that stand for them, and the pieces of a join.
+use Rattle.std.proofs.Common.{◌≡◌, ◌≢◌, inl, inr, ℕ, ◌<◌, ◌≤◌, false, ltb, List, [], ◌∷◌, ◌++◌, length, get_or, map, take, Option, Some, None, IsSome, refl, sym, ap, ◌∙◌, subst, arith, append_assoc, append-nil, count_by, IsAscii, IsPermutation, IsUtf8, ltb-false, option_map}
 use Rattle.std.specs.List.{All, Contains, filter_map, cons_option}
 use Rattle.std.proofs.lemmas.List.{map-append, length-map, get_or-map, get_or-take, length-take-le, take_all}
-use Rattle.std.proofs.lemmas.List.Elements.{All-nil, All-cons, All-head, All-tail, All-get_or, Contains-append_right, filter_map-append}
+use Rattle.std.proofs.lemmas.List.Elements.{All-nil, All-cons, All-head, All-tail, All-weaker, All-get_or, All-from_get_or, Contains-append_right, filter_map-append}
 use Rattle.std.proofs.lemmas.List.Sorted.{IsPermutation-middle, IsPermutation-cons, IsPermutation-to_front, IsPermutation-sym, IsPermutation-trans, All-permutation, Contains-permutation}
-use Rattle.cvss_base.specs.Text.{name_part, value_part, component}
-use Rattle.cvss_base.specs.Version.{Version, read, component_of, components_of, AreComponentsOf}
+use Rattle.std.proofs.lemmas.List.Splits.{slice_split_none, slice_split_at}
+use Rattle.std.proofs.lemmas.Str.{IsUtf8-nil, IsUtf8-append, IsUtf8-from_ascii}
+use Rattle.std.proofs.lemmas.Str.Ascii.{IsAscii-from_all}
 use Rattle.cvss_base.specs.Refusal.{IsNamedBefore, piece_at}
+use Rattle.cvss_base.specs.Text.{IsComponent, component, joined, name_part, pieces, slash, value_part}
+use Rattle.cvss_base.specs.Version.{Version, read, component_of, components_of, AreComponentsOf}
 use Rattle.cvss_text.specs.private.Walk.{VersionLaws, Adds}
-use Rattle.cvss_text.proofs.TextLemmas.{read-component, name_part-read, value_part-read, name_part-component, value_part-component}
 use Rattle.cvss_text.proofs.LawLemmas.{IsCutAt, component_read, name_plain, names_differ, printed_once}
-
--- what holds unless something else does
-unless : {A B : Type 0} → A ⊎ B → (A → ⊥) → B
-unless (inl is) not = absurd (not is)
-unless (inr is) not = is
+use Rattle.cvss_text.proofs.TextLemmas.{is_slash, All-from_count, IsPart, IsPart-component, IsPart-read, delimiter_bytes-read, delimiter_sorts, read-component, name_part-read, value_part-read, name_part-component, value_part-component}
 
 -- maps that agree at each element give one list
 pub filter_map-agree : {X Y : Type 0} (f g : X → Option Y) (xs : List X) → All (λ x. f x ≡ g x) xs → filter_map f xs ≡ filter_map g xs
@@ -27,9 +25,6 @@ IsPermutation-insert_push xs ys zs x same =
     IsPermutation-trans _ (x ∷ (xs ++ ys)) _ (IsPermutation-middle xs x ys)
     (IsPermutation-trans _ (x ∷ zs) _ (IsPermutation-cons x (xs ++ ys) zs same)
     (IsPermutation-sym _ _ (IsPermutation-to_front zs x)))
-
-IsPermutation-along : {X : Type 0} {xs ys us vs : List X} → xs ≡ us → ys ≡ vs → IsPermutation us vs → IsPermutation xs ys
-IsPermutation-along left right same = rw (left, right) same
 
 -- the text is the component of one of the vector's values, as it is read
 pub record IsHeldAs {V K : Type 0} (version : Version V K) (v : V) (text : List ℕ) : Type 0 where
@@ -60,17 +55,19 @@ module _ {V K : Type 0} (version : Version V K) (version_laws : VersionLaws vers
       let kind = adds.kind in
       let cut = printed_once version version_laws kind in
       let kept : (list : List K) → All (λ other. other ≢ kind) list → filter_map (component_of version new) list ≡ filter_map (component_of version old) list =
-      λ list others. filter_map-agree (component_of version new) (component_of version old) list (λ k d inside. ap (λ held. option_map (component (version.name (get_or list k d))) (option_map (version.spelling (get_or list k d)) held)) (unless (adds.puts.others (get_or list k d)) (others k d inside))) in
+      λ list others. filter_map-agree (component_of version new) (component_of version old) list (λ k d inside. elim (adds.puts.others (get_or list k d)) [ inl same ↦ absurd (others k d inside same) | inr same ↦ ap (λ held. option_map (component (version.name (get_or list k d))) (option_map (version.spelling (get_or list k d)) held)) same ]) in
       let before = map (read version) (filter_map (component_of version old) cut.before) in
       let after = map (read version) (filter_map (component_of version old) cut.after) in
       let added = component (version.name kind) (read version (version.spelling kind adds.puts.fills.value)) in
       let new_is : map (read version) (components_of version new) ≡ before ++ added ∷ after =
       components_at new kind cut ∙ rw (kept cut.before cut.not_before, kept cut.after cut.not_after, adds.puts.fills.filled, component_read version version_laws kind (version.spelling kind adds.puts.fills.value)) in
+      let old_is : map (read version) (components_of version old) ≡ before ++ after =
+      components_at old kind cut ∙ rw adds.puts.fills.was_empty in
       let piece_is : read version piece ≡ added =
       ap (read version) adds.cut ∙ read-component version.any_case (name_part piece) (value_part piece) ∙ rw (adds.named, adds.puts.fills.spelled) in
       let parts_are : map (read version) (parts ++ piece ∷ []) ≡ map (read version) parts ++ added ∷ [] =
       map-append (read version) parts (piece ∷ []) ∙ rw piece_is in
-      record { each_once = IsPermutation-along new_is parts_are (IsPermutation-insert_push before after (map (read version) parts) added (IsPermutation-along (sym (components_at old kind cut ∙ rw adds.puts.fills.was_empty)) refl components.each_once)) }
+      record { each_once = rw (new_is, parts_are) (IsPermutation-insert_push before after (map (read version) parts) added (rw old_is at components.each_once)) }
 
   -- a value of the vector is among the pieces
   pub held_stands : (v : V) (parts : List (List ℕ)) (kind : K) (value : version.Value kind) → AreComponentsOf version parts v → version.value_of v kind ≡ Some value → StandsAt version parts kind value
@@ -133,3 +130,66 @@ module _ {V K : Type 0} (version : Version V K) (version_laws : VersionLaws vers
 -- pieces are the first of themselves
 pub all_taken : {V K : Type 0} (version : Version V K) (v : V) (parts : List (List ℕ)) → AreComponentsOf version parts v → AreComponentsOf version (take (length parts) parts) v
 all_taken version v parts components = rw (take_all (length parts) parts (omega arith)) components
+
+-- the pieces of a join are the list that was joined
+uncut : (part : List ℕ) → IsPart part → All (λ byte. is_slash byte ≡ false) part
+uncut part is = All-from_count is_slash part (omega (arith, delimiter_sorts part, is.one_colon, is.one_delimiter))
+
+-- no slash is in the part
+abbrev pub IsUncut : List ℕ → Type 0
+IsUncut part = All (λ byte. is_slash byte ≡ false) part
+
+-- parts that are joined, and go on with a text before which a part is one piece
+joined_then : (tail : List ℕ) (left : List (List ℕ)) → ((part : List ℕ) → IsUncut part → pieces (part ++ tail) ≡ part ∷ left) → (part : List ℕ) (parts : List (List ℕ)) → All IsUncut (part ∷ parts) → pieces (joined (part ∷ parts) ++ tail) ≡ part ∷ (parts ++ left)
+joined_then tail left ends part [] are = ends part (All-head IsUncut part [] are)
+joined_then tail left ends part (next ∷ parts) are =
+    ap pieces (append_assoc part (slash ∷ joined (next ∷ parts)) tail)
+    ∙ slice_split_at is_slash part slash (joined (next ∷ parts) ++ tail) (All-head IsUncut part (next ∷ parts) are) refl
+    ∙ ap (λ rest. part ∷ rest) (joined_then tail left ends next parts (All-tail IsUncut part (next ∷ parts) are))
+
+-- parts that are joined, and nothing after them
+pub pieces-all : (part : List ℕ) (parts : List (List ℕ)) → All IsUncut (part ∷ parts) → pieces (joined (part ∷ parts)) ≡ part ∷ parts
+pieces-all part parts are =
+    ap pieces (sym (append-nil (joined (part ∷ parts))))
+    ∙ joined_then [] [] (λ each uncut. ap pieces (append-nil each) ∙ slice_split_none is_slash each uncut) part parts are
+    ∙ append-nil (part ∷ parts)
+
+-- parts that are joined, and a text after one more slash
+pub pieces-then : (part : List ℕ) (parts : List (List ℕ)) (rest : List ℕ) → All IsUncut (part ∷ parts) → pieces (joined (part ∷ parts) ++ slash ∷ rest) ≡ part ∷ (parts ++ pieces rest)
+pieces-then part parts rest are =
+    joined_then (slash ∷ rest) (pieces rest) (λ each uncut. slice_split_at is_slash each slash rest uncut refl) part parts are
+
+pub are_uncut : (parts : List (List ℕ)) → All IsPart parts → All IsUncut parts
+are_uncut parts are = All-weaker IsPart IsUncut uncut parts are
+
+pub pieces-joined : (parts : List (List ℕ)) → 0 < length parts → All IsPart parts → pieces (joined parts) ≡ parts
+pieces-joined [] some are = absurd (omega arith)
+pieces-joined (part ∷ parts) some are = pieces-all part parts (are_uncut (part ∷ parts) are)
+
+-- a text without a byte beyond ASCII
+pub none_beyond : (text : List ℕ) → count_by (ltb 127) text ≡ 0 → IsAscii text
+none_beyond text none = IsAscii-from_all text (λ k d inside. omega (arith, ltb-false 127 _ (All-from_count (ltb 127) text none k d inside)))
+
+pub IsUtf8-part : (part : List ℕ) → IsPart part → IsUtf8 part
+IsUtf8-part part is = IsUtf8-from_ascii part (none_beyond part (omega (arith, delimiter_sorts part, is.one_colon, is.one_delimiter)))
+
+-- texts in UTF-8 with slashes between them
+IsUtf8-joined : (parts : List (List ℕ)) → All IsUtf8 parts → IsUtf8 (joined parts)
+IsUtf8-joined [] all = IsUtf8-nil
+IsUtf8-joined (part ∷ []) all = All-head IsUtf8 part [] all
+IsUtf8-joined (part ∷ next ∷ parts) all =
+    IsUtf8-append part (slash ∷ joined (next ∷ parts)) (All-head IsUtf8 part (next ∷ parts) all)
+    (IsUtf8-append (slash ∷ []) (joined (next ∷ parts)) (IsUtf8-from_ascii (slash ∷ []) (none_beyond (slash ∷ []) refl)) (IsUtf8-joined (next ∷ parts) (All-tail IsUtf8 part (next ∷ parts) all)))
+
+pub IsUtf8-parts : (parts : List (List ℕ)) → All IsPart parts → IsUtf8 (joined parts)
+IsUtf8-parts parts are = IsUtf8-joined parts (All-weaker IsPart IsUtf8 IsUtf8-part parts are)
+
+module _ {V K : Type 0} (version : Version V K) (version_laws : VersionLaws version) (v : V) (parts : List (List ℕ)) (components : AreComponentsOf version parts v) where
+  pub are_parts : All IsPart parts
+  are_parts = All-from_get_or IsPart parts [] (λ place within.
+      let held = piece_held version version_laws v parts place components within in
+      let plain = delimiter_bytes-read version.any_case (version.spelling held.kind held.value) ∙ version_laws.spelling_plain held.kind held.value in
+      IsPart-read version.any_case (piece_at parts place) (rw held.is (IsPart-component (version.name held.kind) _ (name_plain version version_laws held.kind) plain)))
+
+  pub piece_is_component : (place : ℕ) → place < length parts → IsComponent (piece_at parts place)
+  piece_is_component place within = record { one_colon = (are_parts place [] within).one_colon }

@@ -16,8 +16,7 @@ use Rattle.cvss_base.specs.Refusal.{Refusal, UnknownName, BadValue, Repeated, Mi
 use Rattle.cvss_text.specs.private.Walk.{VersionLaws, place_of}
 use Rattle.cvss_text.proofs.TextLemmas.{IsPart, name_part-component, name_part-read}
 use Rattle.cvss_text.proofs.LawLemmas.{component_read, name_plain, names_differ}
-use Rattle.cvss_text.proofs.ComponentLemmas.{all_taken, held_is_named, held_stands, holds_of_components, name_from, piece_held, value_from, value_from_piece}
-use Rattle.cvss_text.proofs.JoinLemmas.{pieces-joined, are_parts}
+use Rattle.cvss_text.proofs.ComponentLemmas.{all_taken, are_parts, held_is_named, held_stands, holds_of_components, name_from, piece_held, pieces-joined, value_from, value_from_piece}
 
 -- the texts have one name
 abbrev same_names : List ℕ → List ℕ → Bool

@@ -12,7 +12,7 @@ use Rattle.cvss_base.specs.private.Component.{delimiter_bytes}
 use Rattle.cvss_text.specs.private.Walk.{VersionLaws, IsFirstOfPieces, IsBare, reason_of, FrontLaws, IsAnswer, IsFrontFault, IsPrintable}
 use Rattle.cvss_text.proofs.CanonicalLemmas.{canonical_text-denotes, denoted_once}
 use Rattle.cvss_text.proofs.DenotesLemmas.{pieces_of_complete, no_reason, pieces_of_denoted}
-use Rattle.cvss_text.proofs.JoinLemmas.{are_parts, IsUtf8-parts}
+use Rattle.cvss_text.proofs.ComponentLemmas.{are_parts, IsUtf8-parts}
 use Rattle.cvss_text.proofs.PieceLemmas.{All-left, IsUtf8-pieces}
 use Rattle.cvss_text.proofs.RefusalLemmas.{one_refusal, one_refusal_after}
 use Rattle.cvss_text.proofs.TextLemmas.{IsPart, IsPart-component, name_part-component, value_part-component}

@@ -7,7 +7,7 @@ use Rattle.cvss_base.specs.Version.{Version, AreComponentsOf, canonical_text, co
 use Rattle.cvss_text.specs.private.Printing.{text_with_slash, texts_with_slash}
 use Rattle.cvss_text.specs.private.Walk.{VersionLaws, HasReadTo, IsInOrderTo, IsReadLeft, IsWhole}
 use Rattle.cvss_text.proofs.CanonicalLemmas.{own_components}
-use Rattle.cvss_text.proofs.JoinLemmas.{IsUncut, are_parts, are_uncut, pieces-all, pieces-then}
+use Rattle.cvss_text.proofs.ComponentLemmas.{IsUncut, are_parts, are_uncut, pieces-all, pieces-then}
 use Rattle.cvss_text.proofs.WalkLemmas.{HasReadTo-start, IsReadLeft-complete}
 use Rattle.cvss_text.proofs.PrintLemmas.{joined-with_slash}
 use Rattle.cvss_text.proofs.TextLemmas.{is_slash}

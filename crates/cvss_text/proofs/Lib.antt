@@ -5,7 +5,6 @@ pub mod DenotesLemmas
 pub mod EqualLemmas
 pub mod FrontLemmas
 pub mod InOrderLemmas
-pub mod JoinLemmas
 pub mod LawLemmas
 pub mod NumeralLemmas
 pub mod PieceLemmas

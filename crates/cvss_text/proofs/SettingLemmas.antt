@@ -13,9 +13,8 @@ use Rattle.cvss_text.specs.Setting.{AreRightBefore, IsBuildReason, IsBuilt, IsFi
 use Rattle.cvss_text.specs.private.SettingSteps.{IsAnswered, IsCopied, IsWrongFor}
 use Rattle.cvss_text.specs.private.Walk.{HasNoValue, HasReadTo, VersionLaws, place_of, reason_of}
 use Rattle.cvss_text.specs.declared.walk.Fault.{Fault}
-use Rattle.cvss_text.proofs.ComponentLemmas.{all_taken}
+use Rattle.cvss_text.proofs.ComponentLemmas.{all_taken, piece_is_component}
 use Rattle.cvss_text.proofs.DenotesLemmas.{no_fault_before, no_reason, values_same, vectors_same}
-use Rattle.cvss_text.proofs.JoinLemmas.{piece_is_component}
 use Rattle.cvss_text.proofs.RefusalLemmas.{faults_same, reasons_same, same_place}
 use Rattle.cvss_text.proofs.WalkLemmas.{AreComponentsOf-none, fault_at, first_left, taken}
 
@@ -28,13 +27,9 @@ pub components_in-none : (text : List ℕ) → length text ≤ 0 → components_
 components_in-none [] none = refl
 components_in-none (byte ∷ bytes) none = absurd (omega (arith, none))
 
-cons_option-most : {X : Type 0} (part : Option X) (parts : List X) (n : ℕ) → length parts ≤ n → length (cons_option part parts) ≤ n + 1
-cons_option-most None parts n fits = omega arith
-cons_option-most (Some part) parts n fits = omega arith
-
 filter_map-most : {X Y : Type 0} (f : X → Option Y) (xs : List X) → length (filter_map f xs) ≤ length xs
 filter_map-most f [] = omega arith
-filter_map-most f (x ∷ xs) = omega (arith, cons_option-most (f x) (filter_map f xs) (length xs) (filter_map-most f xs))
+filter_map-most f (x ∷ xs) = elim (f x) as (λ part. length (cons_option part (filter_map f xs)) ≤ length (x ∷ xs)) [ None ↦ omega (arith, filter_map-most f xs) | Some _ ↦ omega (arith, filter_map-most f xs) ]
 
 -- an option, or another, has a value where one of them has
 or_some : {X : Type 0} (one other : Option X) → IsSome other → IsSome (option_or one other)
@@ -45,9 +40,6 @@ or_twice : {X : Type 0} (one other : Option X) → option_or (option_or one othe
 or_twice None None = refl
 or_twice None (Some value) = refl
 or_twice (Some value) other = refl
-
-or_none : {X : Type 0} (one other : Option X) → one ≡ None → option_or one other ≡ other
-or_none one other none = ap (λ each. option_or each other) none
 
 -- one vector is such, or there is one reason why none is
 pub record IsSole {V K : Type 0} (IsIt : V → Type 0) (IsReason : Option ℕ → Refusal K → Type 0) : Type 0 where
@@ -169,7 +161,7 @@ module _ {V K : Type 0} (version : Version V K) (version_laws : VersionLaws vers
     IsSet-none empty valueless none = record {
       given = empty;
       components = subst (λ each. AreComponentsOf version each empty) (sym none) (AreComponentsOf-none version version_laws empty valueless);
-      values = λ kind. sym (or_none (version.value_of empty kind) (version.value_of v kind) (valueless.none kind));
+      values = λ kind. sym (ap (λ each. option_or each (version.value_of v kind)) (valueless.none kind));
       front_is = refl;
     }
 

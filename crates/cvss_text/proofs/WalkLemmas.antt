@@ -14,9 +14,8 @@ use Rattle.cvss_base.specs.private.Component.{delimiter_bytes}
 use Rattle.cvss_text.specs.declared.walk.Fault.TheVariants.{MissingMandatoryMetric}
 use Rattle.cvss_text.specs.private.Pieces.{IsAfterComponents}
 use Rattle.cvss_text.specs.private.Walk.{VersionLaws, IsCut, IsCutFirst, IsFirstOfPieces, HasNoValue, Adds, HasReadTo, IsFaultOf, IsReadLeft, first_missing}
-use Rattle.cvss_text.proofs.ComponentLemmas.{adds_component, all_taken, held_is_named, named_is_held}
+use Rattle.cvss_text.proofs.ComponentLemmas.{adds_component, all_taken, held_is_named, named_is_held, piece_is_component}
 use Rattle.cvss_text.proofs.DenotesLemmas.{no_fault_before}
-use Rattle.cvss_text.proofs.JoinLemmas.{piece_is_component}
 use Rattle.cvss_text.proofs.LawLemmas.{name_plain, IsCut_named}
 use Rattle.cvss_text.proofs.TextLemmas.{is_slash, All-from_count, delimiter_bytes-read, delimiter_sorts}
 

@@ -7,14 +7,13 @@ use Rattle.cvss_base.specs.Refusal.{Refusal, BadComponent, Repeated, piece_at, n
 use Rattle.cvss_base.specs.Text.{IsComponent, name_part}
 use Rattle.cvss_base.specs.Groups.{same_group}
 use Rattle.cvss_base.specs.V4Types.{name_of, group_of, declared}
-use Rattle.cvss_base.specs.Version.{numeral, read, version_piece, IsComplete}
+use Rattle.cvss_base.specs.Version.{AreComponentsOf, numeral, read, version_piece, IsComplete}
 use Rattle.cvss_text.specs.private.Walk.{Adds, HasNoValue, IsFaultOf}
 use Rattle.cvss_base.specs.declared.group.MetricGroup.{MetricGroup}
 use Rattle.cvss_base.specs.declared.group.MetricGroup.TheVariants.{Base, Environmental}
 use Rattle.cvss_base.specs.declared.v4.MetricType.{MetricType}
-use Rattle.cvss_text.proofs.ComponentLemmas.{adds_component, name_from, piece_held}
+use Rattle.cvss_text.proofs.ComponentLemmas.{adds_component, name_from, piece_held, piece_is_component}
 use Rattle.cvss_text.proofs.DenotesLemmas.{no_fault_before, no_fault_held, vectors_same}
-use Rattle.cvss_text.proofs.JoinLemmas.{piece_is_component}
 use Rattle.cvss_text.proofs.LawLemmas.{names_differ}
 use Rattle.cvss_text.proofs.RefusalLemmas.{same_place, faults_same}
 use Rattle.cvss_text.proofs.WalkLemmas.{AreComponentsOf-none, fault_at}
@@ -56,8 +55,8 @@ module _ (texts : List (List ℕ)) (place : ℕ) (within : place < length texts)
   pub HasReadOverrides-more : (old new : Vector) → IsComponent text → AddsOverride old text new → HasReadOverrides texts place old → HasReadOverrides texts (place + 1) new
   HasReadOverrides-more old new is added before =
       let adds = added.adds in
-      let added = subst (λ piece. Adds v4 old piece new) here adds in
-      let all = rw (take_more texts place [] within) (adds_component v4 v4_laws old new (take place texts) (piece_at texts place) added before.read) in
+      let at_place = subst (λ piece. Adds v4 old piece new) here adds in
+      let all : AreComponentsOf v4 (take (place + 1) texts) new = rw (take_more texts place [] within) (adds_component v4 v4_laws old new (take place texts) (piece_at texts place) at_place before.read) in
       let named : name_of adds.kind ≡ name_at v4 texts place = adds.named ∙ ap (λ each. read v4 (name_part each)) here in
       let none = no_objection_at texts place adds.kind (subst IsComponent here is) named added.environmental (λ reason fault. (no_fault_before v4 v4_laws new texts (place + 1) (omega (arith, within)) all).none place reason (omega arith) fault) in
       record {

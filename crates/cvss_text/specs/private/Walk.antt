@@ -180,10 +180,7 @@ IsFaultOf version v piece (Repeated kind) =
     (version.name kind ≡ read version (name_part piece))
     × Spells (reading version kind) (read version (value_part piece))
     × IsSome (version.value_of v kind)
-IsFaultOf version v piece (BadComponent _) = ⊥
-IsFaultOf version v piece (WrongPrefix _) = ⊥
-IsFaultOf version v piece (WrongVersion _) = ⊥
-IsFaultOf version v piece (Missing _) = ⊥
+IsFaultOf version v piece _ = ⊥
 
 -- what cutting a piece answers: its metric and value, or that it is no component, or of no metric
 pub record IsCutAnswer {V K : Type 0} (version : Version V K) (piece : List ℕ) (answer : Result (K × Bor (List ℕ)) (Fault K)) : Type 0 where
