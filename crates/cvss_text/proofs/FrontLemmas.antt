@@ -1,15 +1,15 @@
 -- What is answered of a whole text, whether a version piece is before the components or not; and texts after a version
 -- piece.
-use Rattle.std.proofs.Common.{◌≡◌, ℕ, List, [], ◌++◌, length, drop, take, Ok, Err, sym, ap, ◌∙◌, subst, zero, suc, ◌∷◌, codes, refl, arith, All, Contains, IsUtf8}
+use Rattle.std.proofs.Common.{◌≡◌, ℕ, List, [], ◌++◌, length, drop, take, Result, Ok, Err, sym, ap, ◌∙◌, subst, zero, suc, ◌∷◌, codes, refl, arith, All, Contains, IsUtf8}
 use Rattle.std.proofs.lemmas.List.Sums.{get_or-le-sum_by}
 use Rattle.std.proofs.lemmas.List.Elements.{All-append, All-nil, All-cons}
 use Rattle.std.proofs.lemmas.List.Splits.{join_with_byte-slice_split}
 use Rattle.cvss_text.specs.declared.walk.Fault.{Fault}
-use Rattle.cvss_base.specs.Text.{slash, pieces, joined, IsComponent}
+use Rattle.cvss_base.specs.Text.{slash, pieces, joined, value_part, IsComponent}
 use Rattle.cvss_base.specs.Version.{Version, canonical_text, Denotes, IsComplete, AreComponentsOf, version_piece, IsWellFormed}
 use Rattle.cvss_base.specs.Refusal.{Refusal, BadComponent, BadPiecesFirst, WrongPrefix, WrongVersion, AreComponentsBefore, IsFirstBadPiece, IsFirstReason, piece_at, IsReasonAfter, IsFirstRefusalAfter, ReportsVersion}
 use Rattle.cvss_base.specs.private.Component.{delimiter_bytes}
-use Rattle.cvss_text.specs.private.Walk.{VersionLaws, IsFirstOfPieces, IsBare, reason_of, FrontLaws, IsAnswer, IsFrontFault, IsPrintable}
+use Rattle.cvss_text.specs.private.Walk.{VersionLaws, IsFirstOfPieces, IsBare, reason_of, FrontLaws, IsAnswer, IsAnswerAfter, IsAnswerBare, IsFrontFault, IsPrintable, IsReadLeft, StartsWith}
 use Rattle.cvss_text.proofs.CanonicalLemmas.{canonical_text-denotes, denoted_once}
 use Rattle.cvss_text.proofs.DenotesLemmas.{pieces_of_complete, no_reason, pieces_of_denoted}
 use Rattle.cvss_text.proofs.ComponentLemmas.{are_parts, IsUtf8-parts}
@@ -25,29 +25,6 @@ pub record IsDecided {V K : Type 0} (version : Version V K) (IsFormed : V → Ty
   pub one_reason : (one other : Refusal K) → BadPiecesFirst IsReason (pieces text) one → BadPiecesFirst IsReason (pieces text) other → one ≡ other
   pub none : (v : V) → Denotes version text v → IsFormed v → (reason : Refusal K) → BadPiecesFirst IsReason (pieces text) reason → ⊥
 
-module _ {V K : Type 0} {version : Version V K} {IsFormed : V → Type 0} {IsReason : Refusal K → Type 0} {text : List ℕ} (decided : IsDecided version IsFormed IsReason text) where
-  pub IsAnswer-read : (v : V) → Denotes version text v → IsFormed v → IsAnswer version IsFormed IsReason text (Ok v)
-  IsAnswer-read v denotes formed = record {
-    denoted = denotes;
-    well_formed = formed;
-    accepts = λ w other is. ap Ok (decided.once v w denotes formed other is);
-    utf8 = decided.utf8 v denotes formed;
-    refused = tt;
-    refuses = λ reason first. absurd (decided.none v denotes formed reason first);
-    printable = λ _. tt;
-  }
-
-  pub IsAnswer-refused : (fault : Fault K) → BadPiecesFirst IsReason (pieces text) (reason_of version fault) → (IsUtf8 text → IsPrintable version fault) → IsAnswer version IsFormed IsReason text (Err fault)
-  IsAnswer-refused fault first printable = record {
-    denoted = tt;
-    well_formed = tt;
-    accepts = λ w denotes formed. absurd (decided.none w denotes formed (reason_of version fault) first);
-    utf8 = tt;
-    refused = first;
-    refuses = λ reason other. decided.one_reason (reason_of version fault) reason first other;
-    printable = printable;
-  }
-
 -- a text denotes the vector whose front its pieces begin with, and whose components the others are
 pub Denotes-pieces : {V K : Type 0} (version : Version V K) (text : List ℕ) (front left : List (List ℕ)) → pieces text ≡ front ++ left → (v : V) → version.front v ≡ front → AreComponentsOf version left v → Denotes version text v
 Denotes-pieces version text front left cut v front_is components = record {
@@ -59,6 +36,41 @@ Denotes-pieces version text front left cut v front_is components = record {
 -- the pieces that are left of a text in UTF-8
 pub IsUtf8-left : (text : List ℕ) (front left : List (List ℕ)) → pieces text ≡ front ++ left → IsUtf8 text → All IsUtf8 left
 IsUtf8-left text front left cut is = All-left IsUtf8 (pieces text) front left cut (IsUtf8-pieces text is)
+
+-- the vector that was read, or the fault that was found
+abbrev given : {V K : Type 0} → Result (Unit {0}) (Fault K) → V → Result V (Fault K)
+given (Ok _) v = Ok v
+given (Err fault) v = Err fault
+
+module _ {V K : Type 0} {version : Version V K} {IsFormed : V → Type 0} {IsReason : Refusal K → Type 0} {text : List ℕ} (decided : IsDecided version IsFormed IsReason text) where
+  pub IsAnswer-refused : (fault : Fault K) → BadPiecesFirst IsReason (pieces text) (reason_of version fault) → (IsUtf8 text → IsPrintable version fault) → IsAnswer version IsFormed IsReason text (Err fault)
+  IsAnswer-refused fault first printable = record {
+    denoted = tt;
+    well_formed = tt;
+    accepts = λ w denotes formed. absurd (decided.none w denotes formed (reason_of version fault) first);
+    utf8 = tt;
+    refused = first;
+    refuses = λ reason other. decided.one_reason (reason_of version fault) reason first other;
+    printable = printable;
+  }
+
+  -- what is answered, where the pieces after the front of a vector without values were read into it
+  IsAnswer-left : (front left : List (List ℕ)) → pieces text ≡ front ++ left → (empty : V) → version.front empty ≡ front → ((v : V) → version.front v ≡ front → IsComplete version v → IsFormed v)
+      → ((reason : Refusal K) → IsFirstOfPieces version left reason → BadPiecesFirst IsReason (pieces text) reason) → (answer : Result (Unit {0}) (Fault K)) (v : V) → IsReadLeft version left empty answer v → IsAnswer version IsFormed IsReason text (given answer v)
+  IsAnswer-left front left cut empty is forms reasons (Ok _) v read =
+      let denotes = Denotes-pieces version text front left cut v (read.front ∙ is) read.components in
+      let formed = forms v (read.front ∙ is) read.complete in
+      record {
+        denoted = denotes;
+        well_formed = formed;
+        accepts = λ w other also. ap Ok (decided.once v w denotes formed other also);
+        utf8 = decided.utf8 v denotes formed;
+        refused = tt;
+        refuses = λ reason first. absurd (decided.none v denotes formed reason first);
+        printable = λ _. tt;
+      }
+  IsAnswer-left front left cut empty is forms reasons (Err fault) v read =
+      IsAnswer-refused fault (reasons (reason_of version fault) read.refused) (λ utf8. read.printable (IsUtf8-left text front left cut utf8))
 
 module _ {V K : Type 0} (version : Version V K) (version_laws : VersionLaws version) (text : List ℕ) where
   -- a text that denotes a complete vector is UTF-8, and all its pieces are components
@@ -88,6 +100,9 @@ module _ {V K : Type 0} (version : Version V K) (version_laws : VersionLaws vers
         not_refused v denotes (no_front v is) is.complete (IsFirstReason version (pieces text))
         (no_reason version version_laws v (pieces text) (subst (λ parts. AreComponentsOf version parts v) (sym cut) denotes.components) is.complete);
   }
+
+  pub IsAnswerBare-left : (empty : V) → version.front empty ≡ [] → (answer : Result (Unit {0}) (Fault K)) (v : V) → IsReadLeft version (pieces text) empty answer v → IsAnswerBare version text (given answer v)
+  IsAnswerBare-left empty is = IsAnswer-left decided_bare [] (pieces text) refl empty is (λ v front complete. record { frontless = front; complete = complete }) (λ reason first. first)
 
 -- texts after a version piece
 module _ {V K : Type 0} (version : Version V K) (version_laws : VersionLaws version) (front : FrontLaws version) (text : List ℕ) where
@@ -161,6 +176,13 @@ module _ {V K : Type 0} (version : Version V K) (version_laws : VersionLaws vers
   } where
     parts : (v : V) → IsWellFormed version v → All IsPart (version.front v)
     parts v formed = let is = formed.supported in front_parts v is.reported is.front_is (reported_plain is.reported is.supported)
+
+  pub IsAnswerAfter-left : (piece : List ℕ) (left : List (List ℕ)) → pieces text ≡ piece ∷ left → (empty : V) → StartsWith version piece empty → (answer : Result (Unit {0}) (Fault K)) (v : V) → IsReadLeft version left empty answer v → IsAnswerAfter version text (given answer v)
+  IsAnswerAfter-left piece left cut empty started =
+      let whole = cut ∙ ap (λ first. first ∷ left) started.is in
+      IsAnswer-left decided_after (version_piece (value_part piece) ∷ []) left whole empty started.starts.front_is
+      (λ v front complete. record { complete = complete; supported = record { reported = _; front_is = front; supported = started.starts.supported } })
+      (reason_after (value_part piece) started.starts.supported left whole)
 
 -- a fault of the first piece is a first refusal
 pub front_fault_first : {V K : Type 0} (version : Version V K) (text piece : List ℕ) (parts : List (List ℕ)) → pieces text ≡ piece ∷ parts → AreComponentsBefore (pieces text) (length (pieces text)) → (reason : Refusal K) → (IsComponent piece → IsFrontFault version piece reason)

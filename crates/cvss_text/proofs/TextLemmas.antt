@@ -51,16 +51,15 @@ pub value_part-read : (any_case : Bool) (piece : List ℕ) → value_part (read_
 value_part-read true piece = rw (position-uppercased is_colon uppercased_colon piece) (drop-map to_ascii_uppercase _ piece)
 value_part-read false piece = refl
 
+count-read : (p : ℕ → Bool) → ((byte : ℕ) → p (to_ascii_uppercase byte) ≡ p byte) → (any_case : Bool) (piece : List ℕ) → count_by p (read_as any_case piece) ≡ count_by p piece
+count-read p keeps true piece = count_by-uppercased p keeps piece
+count-read p keeps false piece = refl
+
 pub delimiter_bytes-read : (any_case : Bool) (piece : List ℕ) → delimiter_bytes (read_as any_case piece) ≡ delimiter_bytes piece
-delimiter_bytes-read true piece = count_by-uppercased is_delimiter uppercased_delimiter piece
-delimiter_bytes-read false piece = refl
+delimiter_bytes-read = count-read is_delimiter uppercased_delimiter
 
 pub IsPart-read : (any_case : Bool) (piece : List ℕ) → IsPart (read_as any_case piece) → IsPart piece
-IsPart-read true piece is = record {
-  one_colon = sym (count_by-uppercased is_colon uppercased_colon piece) ∙ is.one_colon;
-  one_delimiter = sym (delimiter_bytes-read true piece) ∙ is.one_delimiter;
-}
-IsPart-read false piece is = is
+IsPart-read any_case piece is = record { one_colon = sym (count-read is_colon uppercased_colon any_case piece) ∙ is.one_colon; one_delimiter = sym (delimiter_bytes-read any_case piece) ∙ is.one_delimiter }
 
 -- elements that fail count nothing
 pub count_by-none : {X : Type 0} (p : X → Bool) (xs : List X) → All (λ x. p x ≡ false) xs → count_by p xs ≡ 0
