@@ -3,12 +3,12 @@ use Rattle.std.proofs.Common.{append_assoc, append-nil, ◌≡◌, ◌≢◌, �
 use Rattle.std.specs.List.{position, position_or_len, All}
 use Rattle.std.specs.Option.{option_map_or, unwrap_or}
 use Rattle.std.specs.Slice.{IsGetRangeResult}
-use Rattle.std.proofs.lemmas.Bool.{false_from_ne_true, ne_eqb}
+use Rattle.std.proofs.lemmas.Bool.{eqb-true, false_from_ne_true, ne_eqb}
 use Rattle.std.proofs.lemmas.List.{take_all, take_rest, length-append, get_or_append_left, get_or_at, take_at, drop_at, drop-drop}
 use Rattle.std.proofs.lemmas.List.Elements.{All-nil, All-cons, All-head, All-append, All-drop}
 use Rattle.std.proofs.lemmas.List.Folds.{list_any-append, list_any_at, list_any_none}
 use Rattle.std.proofs.lemmas.List.Splits.{length-slice_split, slice_split_at, slice_split_none, slice_split_first, join_with_byte-slice_split}
-use Rattle.std.proofs.lemmas.List.Sums.{fails_before_first}
+use Rattle.std.proofs.lemmas.List.Sums.{fails_before_first, passes_at_first, split_at_first, sum_by-le}
 use Rattle.std.proofs.lemmas.Option.{cond_some, none-some}
 use Rattle.std.proofs.lemmas.Str.{IsUtf8-take, IsUtf8-drop, IsCharBoundary-before_ascii, IsCharBoundary-after_ascii}
 use Rattle.std.proofs.Math.Bool.{or-true}
@@ -17,7 +17,7 @@ use Rattle.cvss_base.specs.Text.{pieces, slash, colon, dot, has, joined, compone
 use Rattle.cvss_base.specs.Version.{version_piece}
 use Rattle.cvss_text.specs.Route.{Route, ToV20, route_of, route_of_pieces, route_of_parts}
 use Rattle.cvss_text.specs.private.Pieces.{AreParts, IsAfterComponent, IsAfterComponents, IsWithoutColon}
-use Rattle.cvss_text.proofs.TextLemmas.{is_slash, is_colon, position-within, colon-parts}
+use Rattle.cvss_text.proofs.TextLemmas.{is_slash, is_colon}
 
 -- the place of the first byte that passes a test
 module _ (p : ℕ → Bool) (text : List ℕ) where
@@ -52,13 +52,13 @@ pieces-cut text (Some at) (Some left) is cut = pieces-first text at is ∙ rw (c
 pub AreParts-first : (piece : List ℕ) (at : ℕ) → position is_colon piece ≡ Some at → AreParts piece (take at piece) (drop (at + 1) piece)
 AreParts-first piece at found =
     let first = first_at is_colon piece at found in
-    rw (sym first.1) (record { cut = colon-parts piece first.0; name_is = refl; value_is = refl })
+    rw (sym first.1) (record { cut = split_at_first is_colon piece 0 first.0 ∙ rw (eqb-true _ _ (passes_at_first is_colon piece 0 first.0)); name_is = refl; value_is = refl })
 
 pub without_colon : (piece : List ℕ) → position is_colon piece ≡ None → IsWithoutColon piece
-without_colon piece none = record {
-  colonless = list_any_none is_colon piece (λ place d inside. fails_before_first is_colon piece place d (omega (arith, first_nowhere is_colon piece none)));
-  no_component = λ is. omega (arith, first_nowhere is_colon piece none, position-within is_colon piece is.one_colon);
-}
+without_colon piece none =
+    let fails : All (λ byte. is_colon byte ≡ false) piece = λ place d inside. fails_before_first is_colon piece place d (omega (arith, first_nowhere is_colon piece none)) in
+    let uncounted = sum_by-le (λ byte. cond (is_colon byte) 1 0) 0 piece (λ place d inside. omega (arith, ap (λ test. cond {A = ℕ} test 1 0) (fails place d inside))) in
+    record { colonless = list_any_none is_colon piece fails; no_component = λ is. omega (arith, uncounted, is.one_colon) }
 
 -- a text cut at an ASCII byte
 cut_at_ascii : (front rest : List ℕ) (byte : ℕ) → byte < 128 → IsUtf8 (front ++ byte ∷ rest) → IsUtf8 front × IsUtf8 rest
@@ -146,19 +146,14 @@ pieces_after piece rest none = slice_split_at (λ each. eqb each slash) piece sl
     (λ k d inside. false_from_ne_true _ (λ yes. let found = list_any_at (λ each. eqb each slash) piece k d inside yes in cc)) refl
 
 -- a text that begins with a component, a name of two letters and a value of one, says no version
-another : (byte other : ℕ) → other < byte → eqb byte other ≡ false
-another byte other below = ne_eqb byte other (λ same. omega (arith, below, same))
-
-short_parts : (a b c : ℕ) → colon < a → colon < b → AreParts (component (a ∷ b ∷ []) (c ∷ [])) (a ∷ b ∷ []) (c ∷ [])
-short_parts a b c above_a above_b =
-    AreParts-first (component (a ∷ b ∷ []) (c ∷ [])) 2 (rw (another a colon above_a, another b colon above_b) refl)
-
 pub short_routed : (text : List ℕ) → 5 ≤ length text → 65 ≤ get_or text 0 0 → 65 ≤ get_or text 1 0 → get_or text 2 0 ≡ colon → 65 ≤ get_or text 3 0 → get_or text 4 0 ≡ slash → route_of text ≡ ToV20
 short_routed (a ∷ b ∷ x ∷ c ∷ y ∷ rest) some letter_a letter_b is_colon letter_c is_slash =
+    let another : (byte other : ℕ) → other < 65 → 65 ≤ byte → eqb byte other ≡ false = λ byte other below above. ne_eqb byte other (λ same. omega (arith, below, above, same)) in
     let piece = component (a ∷ b ∷ []) (c ∷ []) in
-    let none : has slash piece ≡ false = rw (another a slash (omega (arith, letter_a)), another b slash (omega (arith, letter_b)), another c slash (omega (arith, letter_c))) refl in
+    let none : has slash piece ≡ false = rw (another a slash (omega arith) letter_a, another b slash (omega arith) letter_b, another c slash (omega arith) letter_c) refl in
     let cut : pieces (a ∷ b ∷ x ∷ c ∷ y ∷ rest) ≡ piece ∷ pieces rest = rw (is_colon, is_slash) (pieces_after piece rest none) in
-    sym (cut_routed (a ∷ b ∷ x ∷ c ∷ y ∷ rest) piece (a ∷ b ∷ []) (c ∷ []) (pieces rest) ToV20 cut (some_piece rest) (short_parts a b c (omega (arith, letter_a)) (omega (arith, letter_b))) (rw (another c dot (omega (arith, letter_c))) refl))
+    let parts = AreParts-first piece 2 (rw (another a colon (omega arith) letter_a, another b colon (omega arith) letter_b) refl) in
+    sym (cut_routed (a ∷ b ∷ x ∷ c ∷ y ∷ rest) piece (a ∷ b ∷ []) (c ∷ []) (pieces rest) ToV20 cut (some_piece rest) parts (rw (another c dot (omega arith) letter_c) refl))
 short_routed text some letter_a letter_b is_colon letter_c is_slash = absurd (omega (arith, some))
 
 -- a text that says its version after the prefix is read by the rules of that
