@@ -153,5 +153,3 @@ module _ {V K : Type 0} (version : Version V K) (version_laws : VersionLaws vers
     refused = (record { each = piece_is_component version version_laws v parts components }, IsFirstMissing-from kind missing);
     printable = λ utf8. Contains-missing version v kind missing;
   }
-
-pub ruleset starts = (HasReadTo-start, tt)
