@@ -131,10 +131,6 @@ module _ {V K : Type 0} (version : Version V K) (version_laws : VersionLaws vers
 pub all_taken : {V K : Type 0} (version : Version V K) (v : V) (parts : List (List ℕ)) → AreComponentsOf version parts v → AreComponentsOf version (take (length parts) parts) v
 all_taken version v parts components = rw (take_all (length parts) parts (omega arith)) components
 
--- the pieces of a join are the list that was joined
-uncut : (part : List ℕ) → IsPart part → All (λ byte. is_slash byte ≡ false) part
-uncut part is = All-from_count is_slash part (omega (arith, delimiter_sorts part, is.one_colon, is.one_delimiter))
-
 -- no slash is in the part
 abbrev pub IsUncut : List ℕ → Type 0
 IsUncut part = All (λ byte. is_slash byte ≡ false) part
@@ -160,18 +156,15 @@ pieces-then part parts rest are =
     joined_then (slash ∷ rest) (pieces rest) (λ each uncut. slice_split_at is_slash each slash rest uncut refl) part parts are
 
 pub are_uncut : (parts : List (List ℕ)) → All IsPart parts → All IsUncut parts
-are_uncut parts are = All-weaker IsPart IsUncut uncut parts are
+are_uncut parts are = All-weaker IsPart IsUncut (λ part is. All-from_count is_slash part (omega (arith, delimiter_sorts part, is.one_colon, is.one_delimiter))) parts are
 
 pub pieces-joined : (parts : List (List ℕ)) → 0 < length parts → All IsPart parts → pieces (joined parts) ≡ parts
 pieces-joined [] some are = absurd (omega arith)
 pieces-joined (part ∷ parts) some are = pieces-all part parts (are_uncut (part ∷ parts) are)
 
 -- a text without a byte beyond ASCII
-pub none_beyond : (text : List ℕ) → count_by (ltb 127) text ≡ 0 → IsAscii text
+none_beyond : (text : List ℕ) → count_by (ltb 127) text ≡ 0 → IsAscii text
 none_beyond text none = IsAscii-from_all text (λ k d inside. omega (arith, ltb-false 127 _ (All-from_count (ltb 127) text none k d inside)))
-
-pub IsUtf8-part : (part : List ℕ) → IsPart part → IsUtf8 part
-IsUtf8-part part is = IsUtf8-from_ascii part (none_beyond part (omega (arith, delimiter_sorts part, is.one_colon, is.one_delimiter)))
 
 -- texts in UTF-8 with slashes between them
 IsUtf8-joined : (parts : List (List ℕ)) → All IsUtf8 parts → IsUtf8 (joined parts)
@@ -182,7 +175,7 @@ IsUtf8-joined (part ∷ next ∷ parts) all =
     (IsUtf8-append (slash ∷ []) (joined (next ∷ parts)) (IsUtf8-from_ascii (slash ∷ []) (none_beyond (slash ∷ []) refl)) (IsUtf8-joined (next ∷ parts) (All-tail IsUtf8 part (next ∷ parts) all)))
 
 pub IsUtf8-parts : (parts : List (List ℕ)) → All IsPart parts → IsUtf8 (joined parts)
-IsUtf8-parts parts are = IsUtf8-joined parts (All-weaker IsPart IsUtf8 IsUtf8-part parts are)
+IsUtf8-parts parts are = IsUtf8-joined parts (All-weaker IsPart IsUtf8 (λ part is. IsUtf8-from_ascii part (none_beyond part (omega (arith, delimiter_sorts part, is.one_colon, is.one_delimiter)))) parts are)
 
 module _ {V K : Type 0} (version : Version V K) (version_laws : VersionLaws version) (v : V) (parts : List (List ℕ)) (components : AreComponentsOf version parts v) where
   pub are_parts : All IsPart parts

@@ -1,8 +1,8 @@
 //! How metrics are set in a vector, and how a vector is built from metrics alone, once for all
 //! versions. It takes no memory: a fault borrows the part of the text that it names.
 
-ghost use Rattle.std.specs.Prelude.{◌≡◌, ◌≤◌, IfOk, IfErr, OnOk, IfSome, Some, length};
-ghost use Rattle.cvss_base.specs.Text.{IsComponent, pieces};
+ghost use Rattle.std.specs.Prelude.{◌≡◌, ◌≤◌, IfOk, IfErr, OnOk, Some, length};
+ghost use Rattle.cvss_base.specs.Text.{pieces};
 ghost use Rattle.cvss_base.specs.Version.{AreComponentsOf};
 ghost use Rattle.cvss_text.specs.Setting.{IsBuildReason, IsBuilt, IsFirstWrong, IsSet, IsSetReason, components_in};
 ghost use Rattle.cvss_text.specs.private.SettingSteps.{IsAnswered, IsCopied, IsWrongFor};

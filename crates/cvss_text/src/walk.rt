@@ -3,10 +3,10 @@
 
 ghost use Rattle.std.specs.Prelude.{◌≡◌, ◌∷◌, ℕ, List, IfSome, IfOk, IfErr, OnOk, Some, None, All, IsUtf8};
 ghost use Rattle.cvss_text.specs.private.Pieces.{pieces_left};
-ghost use Rattle.cvss_base.specs.Text.{IsComponent, pieces, slash};
+ghost use Rattle.cvss_base.specs.Text.{IsComponent, pieces};
 ghost use Rattle.cvss_base.specs.Version.{AreComponentsOf, Version, read};
 ghost use Rattle.cvss_base.specs.Refusal.{piece_at};
-ghost use Rattle.cvss_text.specs.private.Walk.{HasNoValue, HasReadTo, IsAnswerBare, IsEmpty, IsFilled, IsInOrderTo, IsPut, IsCut, IsReadFirst, IsReadLeft, IsWhole, VersionLaws, Puts, Adds, IsFaultOf, IsFirstOfPieces, first_missing, IsPrintable, reason_of};
+ghost use Rattle.cvss_text.specs.private.Walk.{HasNoValue, IsAnswerBare, IsEmpty, IsFilled, IsInOrderTo, IsPut, IsCut, IsReadLeft, IsWhole, VersionLaws, Puts, Adds, IsFaultOf, IsFirstOfPieces, first_missing, IsPrintable, reason_of};
 
 use crate::beginning::begin;
 use crate::cutting::{cut_component, cut_first};
@@ -155,8 +155,8 @@ fn read_first<'a, V: Components>(
     text: &'a [u8],
     vector: &mut V,
 ) -> Result<Pieces<'a>, Fault<'a, V::Kind>>
-    ensures read { IfOk result (λ left.
-        IsReadFirst V.version text.now vector.old vector.new (pieces_left left)) }
+    ensures read { IfOk result (λ left. (piece : List ℕ) × (pieces text.now ≡ piece ∷ pieces_left left)
+        × Adds V.version vector.old piece vector.new) }
     ensures refused { IfErr result (λ fault. IsComponent (piece_at (pieces text.now) 0)
         → IsFaultOf V.version vector.old (piece_at (pieces text.now) 0)
         (reason_of V.version fault)) }

@@ -127,12 +127,6 @@ pub record Adds {V K : Type 0} (version : Version V K) (old : V) (piece : List �
   pub cut : piece ≡ component (name_part piece) (value_part piece)
   pub puts : Puts version old kind (read version (value_part piece)) new
 
--- the first piece of the text is a component, which goes into the vector, and these pieces follow it
-pub record IsReadFirst {V K : Type 0} (version : Version V K) (text : List ℕ) (old new : V) (after : List (List ℕ)) : Type 0 where
-  pub piece : List ℕ
-  pub first : pieces text ≡ piece ∷ after
-  pub adds : Adds version old piece new
-
 -- the vector holds the components before the pieces that are left
 pub record HasReadTo {V K : Type 0} (version : Version V K) (parts left : List (List ℕ)) (v : V) : Type 0 where
   pub before : List (List ℕ)

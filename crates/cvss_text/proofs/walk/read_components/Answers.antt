@@ -7,8 +7,8 @@ use Rattle.cvss_text.proofs.walk.read_components.Goals as goal
 
 pub loop-rest-preserved : goal.loop-rest-preserved
 loop-rest-preserved g c =
-    let first = c.in-Ok.ensures.read in
-    (HasReadTo-more g.V.Components.version g.met.V.Components.version_laws (pieces c.args.text.now) _ c.loop-rest.vector c.loop-rest.invariant.0 c.read_first.new.vector first.piece _ (c.in-Some.ensures ∙ first.first) first.adds, first.adds.puts.front ∙ c.loop-rest.invariant.1)
+    let (piece, first, adds) = c.in-Ok.ensures.read in
+    (HasReadTo-more g.V.Components.version g.met.V.Components.version_laws (pieces c.args.text.now) _ c.loop-rest.vector c.loop-rest.invariant.0 c.read_first.new.vector piece _ (c.in-Some.ensures ∙ first) adds, adds.puts.front ∙ c.loop-rest.invariant.1)
 
 pub returns-in-Some-first_bad_piece-clause-refused : goal.returns-in-Some-first_bad_piece-clause-refused
 returns-in-Some-first_bad_piece-clause-refused g c =
