@@ -32,18 +32,15 @@ module _ (p : ℕ → Bool) (text : List ℕ) where
       omega (arith, ltb-false _ _ past)
 
 -- the first piece ends at the first slash
-pub pieces-first : (text : List ℕ) (at : ℕ) → position is_slash text ≡ Some at → pieces text ≡ take at text ∷ pieces (drop (at + 1) text)
+pieces-first : (text : List ℕ) (at : ℕ) → position is_slash text ≡ Some at → pieces text ≡ take at text ∷ pieces (drop (at + 1) text)
 pieces-first text at found =
     let first = first_at is_slash text at found in
     slice_split_first is_slash text 0 first.0 ∙ rw first.1
 
--- without a slash the text is the one piece
-pub pieces-last : (text : List ℕ) → position is_slash text ≡ None → pieces text ≡ text ∷ []
-pieces-last text none = slice_split_none is_slash text (λ k d inside. fails_before_first is_slash text k d (omega (arith, first_nowhere is_slash text none)))
-
 -- the first piece ends at the first slash or at the end, and the others are those after it
 pub pieces-cut : (text : List ℕ) (found : Option ℕ) (rest : Option (Bor (List ℕ))) → position is_slash text ≡ found → IsGetRangeResult text (unwrap_or found (length text) + 1) (length text) rest → pieces text ≡ take (unwrap_or found (length text)) text ∷ option_map_or (λ left. pieces left.now) rest []
-pieces-cut text None None is cut = pieces-last text is ∙ rw (take_all (length text) text (omega arith))
+pieces-cut text None None is cut =
+    slice_split_none is_slash text (λ k d inside. fails_before_first is_slash text k d (omega (arith, first_nowhere is_slash text is))) ∙ rw (take_all (length text) text (omega arith))
 pieces-cut text None (Some left) is cut = absurd (omega (arith, cut.0.0))
 pieces-cut text (Some at) None is cut = absurd (elim cut.0 [ inl past ↦ omega (arith, first_at is_slash text at is) | inr past ↦ omega arith ])
 pieces-cut text (Some at) (Some left) is cut = pieces-first text at is ∙ rw (cut.0.2, take_rest text (at + 1))
@@ -85,11 +82,8 @@ pub IsUtf8-bad_piece : (text piece : List ℕ) → IsFirstBadPiece (pieces text)
 IsUtf8-bad_piece text piece bad is = rw bad.is (IsUtf8-pieces text is bad.place [] bad.within)
 
 -- the texts before and after a colon
-pub IsUtf8-name : (piece name value : List ℕ) → piece ≡ component name value → IsUtf8 piece → IsUtf8 name
-IsUtf8-name piece name value cut is = (cut_at_ascii name value colon (omega arith) (subst IsUtf8 cut is)).0
-
-pub IsUtf8-value : (piece name value : List ℕ) → piece ≡ component name value → IsUtf8 piece → IsUtf8 value
-IsUtf8-value piece name value cut is = (cut_at_ascii name value colon (omega arith) (subst IsUtf8 cut is)).1
+pub utf8_parts : (piece name value : List ℕ) → piece ≡ component name value → IsUtf8 piece → IsUtf8 name × IsUtf8 value
+utf8_parts piece name value cut is = cut_at_ascii name value colon (omega arith) (subst IsUtf8 cut is)
 
 -- the pieces that are left after no component, and after one more
 pub IsAfterComponents-none : (parts : List (List ℕ)) → IsAfterComponents parts parts

@@ -1,7 +1,7 @@
 use Rattle.std.proofs.Common.{ap, sym, ◌∙◌}
 use Rattle.cvss_base.specs.Version.{read}
 use Rattle.cvss_text.proofs.LawLemmas.{IsCut_named, named_known, named_unknown}
-use Rattle.cvss_text.proofs.PieceLemmas.{IsUtf8-name}
+use Rattle.cvss_text.proofs.PieceLemmas.{utf8_parts}
 use Rattle.cvss_text.proofs.cutting.cut_at_colon.Goals as goal
 
 pub returns-in-Some-kind_named : goal.returns-in-Some-kind_named
@@ -15,4 +15,4 @@ pub returns-in-None : goal.returns-in-None
 returns-in-None g c =
     let name_is = ap (read g.V.Components.version) c.in-Some.ensures.name_is in
     let unknown = named_unknown g.V.Components.version g.met.V.Components.version_laws _ c.in-None.ensures in
-    record { cut = tt; refused = λ _ _. (name_is, unknown); unnamed = λ _ kind named. unknown kind (named ∙ sym name_is); printable = IsUtf8-name _ _ _ c.in-Some.ensures.cut }
+    record { cut = tt; refused = λ _ _. (name_is, unknown); unnamed = λ _ kind named. unknown kind (named ∙ sym name_is); printable = λ is. (utf8_parts _ _ _ c.in-Some.ensures.cut is).0 }

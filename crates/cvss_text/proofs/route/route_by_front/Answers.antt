@@ -1,6 +1,6 @@
 use Rattle.std.proofs.Common.{◌∷◌, ◌∙◌, ap}
 use Rattle.cvss_base.specs.Text.{pieces}
-use Rattle.cvss_text.proofs.PieceLemmas.{IsUtf8-name, IsUtf8-value, cut_routed, first_utf8, some_piece}
+use Rattle.cvss_text.proofs.PieceLemmas.{cut_routed, first_utf8, some_piece, utf8_parts}
 use Rattle.cvss_text.proofs.route.route_by_front.Goals as goal
 
 pub returns-in-Some-parts_of-clause-route : goal.returns-in-Some-parts_of-clause-route
@@ -12,4 +12,4 @@ returns-in-Some-parts_of-clause-route c =
 pub returns-in-Some-parts_of-clause-printable : goal.returns-in-Some-parts_of-clause-printable
 returns-in-Some-parts_of-clause-printable c = λ is.
     let piece = first_utf8 c.args.text.now _ _ c.front_of.ensures is in
-    c.route_by.ensures.printable (IsUtf8-name _ _ _ c.in-Some-parts_of.ensures.cut piece) (IsUtf8-value _ _ _ c.in-Some-parts_of.ensures.cut piece)
+    c.route_by.ensures.printable (utf8_parts _ _ _ c.in-Some-parts_of.ensures.cut piece).0 (utf8_parts _ _ _ c.in-Some-parts_of.ensures.cut piece).1

@@ -1,5 +1,5 @@
 use Rattle.std.proofs.lemmas.Result.{err_from_is_err_and}
-use Rattle.cvss_text.proofs.PieceLemmas.{IsUtf8-value}
+use Rattle.cvss_text.proofs.PieceLemmas.{utf8_parts}
 use Rattle.cvss_text.proofs.walk.read_component.Goals as goal
 
 pub returns-in_err-kind-clause-refused : goal.returns-in_err-kind-clause-refused
@@ -8,4 +8,4 @@ returns-in_err-kind-clause-refused g c =
     rw (exit.1, exit.2) (c.in_err-kind.ensures.refused c.args.vector.now)
 
 pub returns-clause-printable : goal.returns-clause-printable
-returns-clause-printable g c = λ is. c.put_component.ensures.printable (IsUtf8-value _ _ _ c.in_ok-kind.ensures.cut.cut is)
+returns-clause-printable g c = λ is. c.put_component.ensures.printable (utf8_parts _ _ _ c.in_ok-kind.ensures.cut.cut is).1
