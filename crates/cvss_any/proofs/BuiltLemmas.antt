@@ -12,7 +12,7 @@ use Rattle.cvss_any.specs.declared.setting.Version.TheVariants.{V20, V30, V31, V
 use Rattle.cvss_any.specs.declared.vector.Cvss.{Cvss}
 use Rattle.cvss_any.specs.declared.vector.Cvss.TheVariants.{CvssV20, CvssV40}
 use Rattle.cvss_any.proofs.RouteLemmas.{same_minor}
-use Rattle.cvss_text.proofs.CutLemmas.{pieces_after}
+use Rattle.cvss_text.proofs.PieceLemmas.{pieces_after}
 use Rattle.cvss_text.proofs.FrontLemmas.{Denotes-pieces}
 use Rattle.cvss_v2.specs.Vector.{v2}
 use Rattle.cvss_v2.specs.declared.vector.Vector as vector_v2

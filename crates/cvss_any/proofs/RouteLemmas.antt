@@ -9,12 +9,11 @@ use Rattle.cvss_base.specs.V2Types.{name_of}
 use Rattle.cvss_base.specs.declared.v2.MetricType as type_v2
 use Rattle.cvss_base.specs.declared.v2.MetricType.TheVariants as kind_v2
 use Rattle.cvss_base.specs.declared.v4.MetricType.TheVariants as kind_v4
-use Rattle.cvss_text.proofs.ComponentLemmas.{piece_held, held_stands}
+use Rattle.cvss_text.proofs.ComponentLemmas.{piece_held, held_stands, value_from}
 use Rattle.cvss_text.proofs.DenotesLemmas.{pieces_of_complete}
 use Rattle.cvss_text.proofs.FrontLemmas.{pieces_denoted_after}
 use Rattle.cvss_text.proofs.NumeralLemmas.{numeral-injective, numeral-plain}
 use Rattle.cvss_text.proofs.TextLemmas.{IsPart}
-use Rattle.cvss_text.proofs.WalkLemmas.{value_from}
 use Rattle.cvss_v2_metric.specs.private.TableLaws.{undotted_spelling}
 use Rattle.cvss_v2.specs.Vector.{v2}
 use Rattle.cvss_v2.specs.private.VectorLaws.{v2_laws}

@@ -8,7 +8,7 @@ use Rattle.cvss_base.specs.Version.{Version, components_of, canonical_text, AreC
 use Rattle.cvss_text.specs.private.Walk.{VersionLaws}
 use Rattle.cvss_text.proofs.DenotesLemmas.{vectors_same}
 use Rattle.cvss_text.proofs.TextLemmas.{is_colon, IsPart}
-use Rattle.cvss_text.proofs.JoinLemmas.{pieces-joined, are_parts}
+use Rattle.cvss_text.proofs.ComponentLemmas.{pieces-joined, are_parts}
 
 -- a list of parts has a text that is not empty
 not_empty : (part : List ℕ) (parts : List (List ℕ)) → All IsPart (part ∷ parts) → [] ≡ joined (part ∷ parts) → ⊥

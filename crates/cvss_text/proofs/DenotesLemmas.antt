@@ -1,63 +1,54 @@
 -- A text denotes at most one vector, no two pieces of whose components have one name, and has no
 -- refusal where that vector is complete.
-use Rattle.std.proofs.Common.{◌≡◌, ℕ, ◌<◌, List, [], ◌∷◌, ◌++◌, length, Option, Some, None, refl, sym, ap, ◌∙◌, subst, arith, ◌≢◌, ◌+◌, ◌≤◌, Bool, true, false, cond, get_or, take, map, All, filter_map, count_by, bytes_eq}
-use Rattle.std.proofs.lemmas.List.{take_all, length-map, get_or-map, take-take}
-use Rattle.std.proofs.lemmas.List.Elements.{All-append}
-use Rattle.std.proofs.lemmas.Option.{slice_get_within, get_or_from_slice_get}
-use Rattle.cvss_base.specs.Text.{pieces, name_part, value_part, component}
-use Rattle.cvss_base.specs.Version.{Version, read, AreComponentsOf, Denotes, IsComplete, reading, component_of, components_of}
-use Rattle.cvss_base.specs.Refusal.{Refusal, UnknownName, BadValue, Repeated, Missing, Spells, piece_at, name_at, FaultAt, IsFirstReason}
-use Rattle.cvss_text.specs.private.Walk.{VersionLaws}
-use Rattle.cvss_text.proofs.TextLemmas.{IsPart, name_part-component, value_part-component, name_part-read, count_by-none}
-use Rattle.cvss_text.proofs.LawLemmas.{name_plain, names_differ, printed_once}
-use Rattle.cvss_text.proofs.ComponentLemmas.{IsHeldAs, held_stands, piece_held, holds_of_components, components_with}
-use Rattle.cvss_text.proofs.JoinLemmas.{pieces-joined, are_parts}
-use Rattle.cvss_text.proofs.WalkLemmas.{value_from, name_from, value_from_piece, held_is_named}
+use Rattle.std.proofs.Common.{◌≡◌, ℕ, ◌<◌, ◌≤◌, ◌+◌, List, [], ◌∷◌, ◌++◌, length, Option, Some, None, refl, sym, ap, ◌∙◌, subst, arith, Bool, false, true≢false, get_or, take, map, All, filter_map, bytes_eq, option_map}
+use Rattle.std.proofs.lemmas.Cmp.{nat_list_eq_equiv}
+use Rattle.std.specs.List.{IsDistinct, cons_option, range_with_len}
 use Rattle.std.proofs.lemmas.Bool.{false_from_ne_true}
-use Rattle.std.proofs.lemmas.List.Sorted.{sum_by-IsPermutation}
-use Rattle.std.proofs.lemmas.List.Sums.{sum_by-cons, sum_by-append, sum_by-take-le, count_by_more_yes}
+use Rattle.std.proofs.lemmas.List.{get_or-take, length-map, length-take-le, get_or-map}
+use Rattle.std.proofs.lemmas.List.Elements.{All-append, recursion_from_All}
+use Rattle.std.proofs.lemmas.List.FromFn.{get_or-range_with_len}
+use Rattle.std.proofs.lemmas.Map.Keys.{IsDistinct-IsPermutation, IsDistinct-cons, apart_from_distinct}
+use Rattle.std.proofs.lemmas.Option.{slice_get_within, get_or_from_slice_get}
 use Rattle.std.proofs.lemmas.Slice.Eq.{bytes_eq-Decides}
+use Rattle.cvss_base.specs.Text.{pieces, name_part, component}
+use Rattle.cvss_base.specs.Version.{Version, read, AreComponentsOf, Denotes, IsComplete, reading, component_of}
+use Rattle.cvss_base.specs.Refusal.{Refusal, UnknownName, BadValue, Repeated, Missing, Spells, piece_at, name_at, FaultAt, HasNoFaultBefore, IsFirstReason}
+use Rattle.cvss_text.specs.private.Walk.{VersionLaws, place_of}
+use Rattle.cvss_text.proofs.TextLemmas.{IsPart, name_part-component, name_part-read}
+use Rattle.cvss_text.proofs.LawLemmas.{component_read, name_plain, names_differ}
+use Rattle.cvss_text.proofs.ComponentLemmas.{all_taken, are_parts, held_is_named, held_stands, holds_of_components, name_from, piece_held, pieces-joined, value_from, value_from_piece}
 
--- two elements that pass count two
-two_pass : {X : Type 0} (p : X → Bool) (xs : List X) (i j : ℕ) (d : X) → i < j → j < length xs → p (get_or xs i d) ≡ true → p (get_or xs j d) ≡ true → 2 ≤ count_by p xs
-two_pass p xs i j d before within first second =
-    omega (arith, count_by_more_yes p xs i d (omega arith) first, count_by_more_yes p xs j d within second, sum_by-take-le (λ x. cond (p x) 1 0) xs (j + 1), sum_by-take-le (λ x. cond (p x) 1 0) (take j xs) (i + 1), ap (count_by p) (take-take (i + 1) j xs (omega arith)))
+-- the texts have one name
+abbrev same_names : List ℕ → List ℕ → Bool
+same_names x y = bytes_eq (name_part x) (name_part y)
 
-cond-le : (b : Bool) → cond b 1 0 ≤ 1
-cond-le true = omega arith
-cond-le false = omega arith
+module _ {V K : Type 0} (version : Version V K) (version_laws : VersionLaws version) (v : V) where
+  -- a metric's component has another name than those of the metrics printed after it
+  distinct_cons : (kind : K) (rest : List (List ℕ)) (held : Option (version.Value kind)) → ((value : version.Value kind) → All (λ text. same_names (component (version.name kind) (reading version kind value)) text ≡ false) (map (read version) rest)) → IsDistinct same_names (map (read version) rest) → IsDistinct same_names (map (read version) (cons_option (option_map (component (version.name kind)) (option_map (version.spelling kind) held)) rest))
+  distinct_cons kind rest None apart distinct = distinct
+  distinct_cons kind rest (Some value) apart distinct =
+      rw (component_read version version_laws kind (version.spelling kind value)) (IsDistinct-cons same_names _ (map (read version) rest) (recursion_from_All _ _ (apart value)) distinct)
 
-module _ {V K : Type 0} (version : Version V K) (version_laws : VersionLaws version) (v : V) (kind : K) where
-  -- the text has the metric's name
-  is_named : List ℕ → Bool
-  is_named text = bytes_eq (name_part text) (version.name kind)
-
-  none_named : (kinds : List K) → All (λ other. other ≢ kind) kinds → count_by is_named (map (read version) (filter_map (component_of version v) kinds)) ≡ 0
-  unfolding is_named
-  none_named kinds others =
-      count_by-none is_named _ (holds_of_components version version_laws (λ text. is_named text ≡ false) v kinds (λ k d inside value held.
-      let named = name_part-component (version.name (get_or kinds k d)) (read version (version.spelling (get_or kinds k d) value)) (name_plain version version_laws (get_or kinds k d)) in
-      false_from_ne_true _ (λ same. others k d inside (names_differ version version_laws (get_or kinds k d) kind (sym named ∙ (bytes_eq-Decides _ _).0 same)))))
-
-  at_most_one : (value : version.Value kind) → version.value_of v kind ≡ Some value → count_by is_named (map (read version) (components_of version v)) ≤ 1
-  at_most_one value held =
-      let cut = printed_once version version_laws kind in
-      let before = map (read version) (filter_map (component_of version v) cut.before) in
-      let after = map (read version) (filter_map (component_of version v) cut.after) in
-      let here = component (version.name kind) (read version (version.spelling kind value)) in
-      let counted = λ (text : List ℕ). cond {A = ℕ} (is_named text) 1 0 in
-      omega (arith, ap (count_by is_named) (components_with version version_laws v kind value cut held), sum_by-append counted before (here ∷ after), sum_by-cons counted here after, cond-le (is_named here), none_named cut.before cut.not_before, none_named cut.after cut.not_after)
-
-  named_passes : (parts : List (List ℕ)) (place : ℕ) → place < length parts → name_at version parts place ≡ version.name kind → is_named (get_or (map (read version) parts) place []) ≡ true
-  unfolding is_named
-  named_passes parts place within named =
-      (bytes_eq-Decides _ _).1 (ap name_part (get_or-map (read version) parts place [] [] within) ∙ (name_part-read version.any_case (piece_at parts place) ∙ named))
+  distinct_from : (start : ℕ) (kinds : List K) → map (place_of version) kinds ≡ range_with_len start (length kinds) → IsDistinct same_names (map (read version) (filter_map (component_of version v) kinds))
+  unfolding IsDistinct
+  distinct_from start [] in_order = tt
+  distinct_from start (kind ∷ kinds) in_order =
+      let here : place_of version kind ≡ start = cc in
+      let later : map (place_of version) kinds ≡ range_with_len (start + 1) (length kinds) = cc in
+      distinct_cons kind (filter_map (component_of version v) kinds) (version.value_of v kind)
+      (λ value. holds_of_components version version_laws (λ text. same_names (component (version.name kind) (reading version kind value)) text ≡ false) v kinds (λ k d inside other held. false_from_ne_true _ (λ same.
+      let name : (each : K) (text : List ℕ) → name_part (component (version.name each) text) ≡ version.name each = λ each text. name_part-component (version.name each) text (name_plain version version_laws each) in
+      let one = names_differ version version_laws kind (get_or kinds k d) (sym (name kind _) ∙ (bytes_eq-Decides _ _).0 same ∙ name (get_or kinds k d) _) in
+      omega (arith, here, ap (place_of version) one, get_or-map (place_of version) kinds k d 0 inside, ap (λ list. get_or list k 0) later, get_or-range_with_len (start + 1) (length kinds) k 0 inside))))
+      (distinct_from (start + 1) kinds later)
 
   -- two places with one name are one place
-  pub names_apart : (parts : List (List ℕ)) (earlier place : ℕ) → AreComponentsOf version parts v → earlier < place → place < length parts → name_at version parts earlier ≡ version.name kind → name_at version parts place ≡ version.name kind → (value : version.Value kind) → version.value_of v kind ≡ Some value → ⊥
-  names_apart parts earlier place components before within first second value held =
-      let two = two_pass is_named (map (read version) parts) earlier place [] before (omega (arith, length-map parts (read version))) (named_passes parts earlier (omega arith) first) (named_passes parts place within second) in
-      omega (arith, two, at_most_one value held, sum_by-IsPermutation (λ text. cond (is_named text) 1 0) _ _ components.each_once)
+  names_apart : (parts : List (List ℕ)) (earlier place : ℕ) → AreComponentsOf version parts v → earlier < place → place < length parts → name_at version parts earlier ≡ name_at version parts place → ⊥
+  names_apart parts earlier place components before within same =
+      let distinct = IsDistinct-IsPermutation same_names (λ x y. nat_list_eq_equiv.symm (name_part x) (name_part y)) _ _ components.each_once (distinct_from 0 version.printed version_laws.in_order) in
+      let apart = apart_from_distinct same_names (map (read version) parts) earlier place [] distinct before (omega (arith, within, length-map parts (read version))) in
+      let name : (k : ℕ) → k < length parts → name_part (get_or (map (read version) parts) k []) ≡ name_at version parts k = λ k inside. ap name_part (get_or-map (read version) parts k [] [] inside) ∙ name_part-read version.any_case (piece_at parts k) in
+      true≢false (sym ((bytes_eq-Decides _ _).1 (name earlier (omega (arith, before, within)) ∙ same ∙ sym (name place within))) ∙ apart)
 
 -- options that have the same values
 same_options : {A : Type 0} (one other : Option A) → ((value : A) → one ≡ Some value → other ≡ Some value) → ((value : A) → other ≡ Some value → one ≡ Some value) → one ≡ other
@@ -66,24 +57,15 @@ same_options None None there back = refl
 same_options None (Some value) there back = back value refl
 
 module _ {V K : Type 0} (version : Version V K) (version_laws : VersionLaws version) where
-  -- a text is the component of one value
-  same_held : (v : V) (text : List ℕ) (held : IsHeldAs version v text) (value : version.Value held.kind) → text ≡ component (version.name held.kind) (read version (version.spelling held.kind value)) → version.value_of v held.kind ≡ Some value
-  same_held v text held value is =
-      let plain = name_plain version version_laws held.kind in
-      let spelled : read version (version.spelling held.kind held.value) ≡ read version (version.spelling held.kind value) =
-      sym (value_part-component (version.name held.kind) _ plain) ∙ (ap value_part (sym held.is ∙ is) ∙ value_part-component (version.name held.kind) _ plain) in
-      held.held ∙ ap Some (version_laws.one_value held.kind held.value value spelled)
-
-  held_as : (v : V) (text : List ℕ) (held : IsHeldAs version v text) (kind : K) (value : version.Value kind) → text ≡ component (version.name kind) (read version (version.spelling kind value)) → version.value_of v kind ≡ Some value
-  held_as v text held kind =
-      let named : (each : K) (spelled : List ℕ) → text ≡ component (version.name each) spelled → name_part text ≡ version.name each = λ each spelled is. ap name_part is ∙ name_part-component (version.name each) spelled (name_plain version version_laws each) in
-      λ value is. subst (λ each. (x : version.Value each) → text ≡ component (version.name each) (read version (version.spelling each x)) → version.value_of v each ≡ Some x) (names_differ version version_laws held.kind kind (sym (named held.kind _ held.is) ∙ named kind _ is)) (same_held v text held) value is
-
   -- a value of one vector is a value of the other, where the same pieces are the components of both
   value_shared : (v w : V) (parts : List (List ℕ)) → AreComponentsOf version parts v → AreComponentsOf version parts w → (kind : K) (value : version.Value kind) → version.value_of v kind ≡ Some value → version.value_of w kind ≡ Some value
   value_shared v w parts of_v of_w kind value held =
       let stands = held_stands version version_laws v parts kind value of_v held in
-      held_as w _ (piece_held version version_laws w parts stands.place of_w stands.within) kind value stands.is
+      let piece = piece_at parts stands.place in
+      let here = piece_held version version_laws w parts stands.place of_w stands.within in
+      let named = sym (name_from version version_laws piece here.kind _ here.is) ∙ name_from version version_laws piece kind _ stands.is in
+      let (other, is_held, is) = subst (λ each. (x : version.Value each) × (version.value_of w each ≡ Some x) × (read version piece ≡ component (version.name each) (reading version each x))) (names_differ version version_laws here.kind kind named) (here.value, here.held, here.is) in
+      is_held ∙ ap Some (version_laws.one_value kind other value (sym (value_from_piece version version_laws piece kind _ is) ∙ value_from_piece version version_laws piece kind _ stands.is))
 
   pub values_same : (v w : V) (parts : List (List ℕ)) → AreComponentsOf version parts v → AreComponentsOf version parts w → (kind : K) → version.value_of v kind ≡ version.value_of w kind
   values_same v w parts of_v of_w kind = same_options _ _ (value_shared v w parts of_v of_w kind) (value_shared w v parts of_w of_v kind)
@@ -91,27 +73,37 @@ module _ {V K : Type 0} (version : Version V K) (version_laws : VersionLaws vers
   pub vectors_same : (v w : V) (parts : List (List ℕ)) → version.front v ≡ version.front w → AreComponentsOf version parts v → AreComponentsOf version parts w → v ≡ w
   vectors_same v w parts front of_v of_w = version_laws.one_vector v w front (values_same v w parts of_v of_w)
 
-  -- the pieces of a vector's components have no fault
-  pub no_fault_held : (v : V) (parts : List (List ℕ)) (place : ℕ) → AreComponentsOf version parts v → place < length parts → (reason : Refusal K) → FaultAt version parts place reason → ⊥
-  no_fault_held v parts place components within =
-      let held = piece_held version version_laws v parts place components within in
-      let named : version.name held.kind ≡ name_at version parts place = sym (name_from version version_laws (piece_at parts place) held.kind _ held.is) in
+  -- the pieces of a vector's components have no fault, whatever follows them
+  no_fault_taken : (v : V) (parts : List (List ℕ)) (n : ℕ) → n ≤ length parts → AreComponentsOf version (take n parts) v → (place : ℕ) → place < n → (reason : Refusal K) → FaultAt version parts place reason → ⊥
+  no_fault_taken v parts n fits components place below =
+      let taken = length-take-le n parts fits in
+      let here : (k : ℕ) → k < n → piece_at (take n parts) k ≡ piece_at parts k = λ k inside. get_or-take n parts k [] inside in
+      let name : (k : ℕ) → k < n → name_at version (take n parts) k ≡ name_at version parts k = λ k inside. ap (λ piece. read version (name_part piece)) (here k inside) in
+      let held = piece_held version version_laws v (take n parts) place components (omega (arith, taken, below)) in
+      let is = ap (read version) (sym (here place below)) ∙ held.is in
+      let named : version.name held.kind ≡ name_at version parts place = sym (name_from version version_laws (piece_at parts place) held.kind _ is) in
       elim [
         | UnknownName name ↦ λ (is, unknown). unknown held.kind (named ∙ sym is)
-        | BadValue reported_kind value ↦ λ (kind, _, also_named, is, no_spelling).
+        | BadValue reported_kind value ↦ λ (kind, _, also_named, value_is, no_spelling).
             no_spelling (subst (λ each. Spells (reading version each) value) (names_differ version version_laws held.kind kind (named ∙ sym also_named))
-            (record { value = held.value; spelled = sym (value_from_piece version version_laws (piece_at parts place) held.kind _ held.is) ∙ sym is }))
+            (record { value = held.value; spelled = sym (value_from_piece version version_laws (piece_at parts place) held.kind _ is) ∙ sym value_is }))
         | Repeated kind ↦ λ (also_named, _, before).
-            let same_name = before.same_name ∙ (also_named ∙ sym named) in
-            names_apart version version_laws v held.kind parts before.earlier place components before.is_before within same_name (sym named) held.value held.held
+            names_apart version version_laws v (take n parts) before.earlier place components before.is_before (omega (arith, taken, below))
+            (name before.earlier (omega (arith, before.is_before, below)) ∙ before.same_name ∙ also_named ∙ sym (name place below))
         | _ ↦ λ none. none
       ]
+
+  pub no_fault_before : (v : V) (parts : List (List ℕ)) (n : ℕ) → n ≤ length parts → AreComponentsOf version (take n parts) v → HasNoFaultBefore version parts n
+  no_fault_before v parts n fits components = record { none = λ place reason below. no_fault_taken v parts n fits components place below reason }
+
+  pub no_fault_held : (v : V) (parts : List (List ℕ)) (place : ℕ) → AreComponentsOf version parts v → place < length parts → (reason : Refusal K) → FaultAt version parts place reason → ⊥
+  no_fault_held v parts place components within = no_fault_taken v parts (length parts) (omega arith) (all_taken version v parts components) place within
 
   -- pieces that are the components of a complete vector have no reason to be refused
   pub no_reason : (v : V) (parts : List (List ℕ)) → AreComponentsOf version parts v → IsComplete version v → (reason : Refusal K) → IsFirstReason version parts reason → ⊥
   no_reason v parts components complete (Missing kind) missing =
       let held = complete.present kind (missing.place, slice_get_within version.mandatory missing.place kind missing.is, get_or_from_slice_get version.mandatory missing.place kind kind missing.is) in
-      missing.absent (held_is_named version version_laws v parts (length parts) (omega arith) (rw (take_all (length parts) parts (omega arith)) components) kind held)
+      missing.absent (held_is_named version version_laws v parts (length parts) (omega arith) (all_taken version v parts components) kind held)
   no_reason v parts components complete reason is = no_fault_held v parts is.place components is.within reason is.fault
 
   -- a text that denotes a vector without a front that is no part

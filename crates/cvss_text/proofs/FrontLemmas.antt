@@ -1,19 +1,19 @@
 -- What is answered of a whole text, whether a version piece is before the components or not; and texts after a version
 -- piece.
-use Rattle.std.proofs.Common.{◌≡◌, ℕ, List, [], ◌++◌, length, drop, Ok, Err, sym, ap, ◌∙◌, subst, zero, suc, ◌∷◌, get_or, codes, refl, arith, All, Contains, IsUtf8}
-use Rattle.std.proofs.lemmas.List.{get_or-map, drop_at}
-use Rattle.std.proofs.lemmas.List.Elements.{All-append, All-nil, All-cons, All-drop}
+use Rattle.std.proofs.Common.{◌≡◌, ℕ, List, [], ◌++◌, length, drop, take, Result, Ok, Err, sym, ap, ◌∙◌, subst, zero, suc, ◌∷◌, codes, refl, arith, All, Contains, IsUtf8}
+use Rattle.std.proofs.lemmas.List.Sums.{get_or-le-sum_by}
+use Rattle.std.proofs.lemmas.List.Elements.{All-append, All-nil, All-cons}
 use Rattle.std.proofs.lemmas.List.Splits.{join_with_byte-slice_split}
 use Rattle.cvss_text.specs.declared.walk.Fault.{Fault}
-use Rattle.cvss_base.specs.Text.{slash, pieces, joined, IsComponent}
-use Rattle.cvss_base.specs.Version.{Version, Denotes, IsComplete, AreComponentsOf, version_piece, IsWellFormed}
+use Rattle.cvss_base.specs.Text.{slash, pieces, joined, value_part, IsComponent}
+use Rattle.cvss_base.specs.Version.{Version, canonical_text, Denotes, IsComplete, AreComponentsOf, version_piece, IsWellFormed}
 use Rattle.cvss_base.specs.Refusal.{Refusal, BadComponent, BadPiecesFirst, WrongPrefix, WrongVersion, AreComponentsBefore, IsFirstBadPiece, IsFirstReason, piece_at, IsReasonAfter, IsFirstRefusalAfter, ReportsVersion}
 use Rattle.cvss_base.specs.private.Component.{delimiter_bytes}
-use Rattle.cvss_text.specs.private.Walk.{VersionLaws, IsFirstOfPieces, IsBare, reason_of, FrontLaws, IsAnswer, IsFrontFault, IsPrintable}
-use Rattle.cvss_text.proofs.CanonicalLemmas.{denoted_once}
+use Rattle.cvss_text.specs.private.Walk.{VersionLaws, IsFirstOfPieces, IsBare, reason_of, FrontLaws, IsAnswer, IsAnswerAfter, IsAnswerBare, IsFrontFault, IsPrintable, IsReadLeft, StartsWith}
+use Rattle.cvss_text.proofs.CanonicalLemmas.{canonical_text-denotes, denoted_once}
 use Rattle.cvss_text.proofs.DenotesLemmas.{pieces_of_complete, no_reason, pieces_of_denoted}
-use Rattle.cvss_text.proofs.JoinLemmas.{are_parts, IsUtf8-parts}
-use Rattle.cvss_text.proofs.PieceLemmas.{IsUtf8-pieces}
+use Rattle.cvss_text.proofs.ComponentLemmas.{are_parts, IsUtf8-parts}
+use Rattle.cvss_text.proofs.PieceLemmas.{All-left, IsUtf8-pieces}
 use Rattle.cvss_text.proofs.RefusalLemmas.{one_refusal, one_refusal_after}
 use Rattle.cvss_text.proofs.TextLemmas.{IsPart, IsPart-component, name_part-component, value_part-component}
 
@@ -25,18 +25,24 @@ pub record IsDecided {V K : Type 0} (version : Version V K) (IsFormed : V → Ty
   pub one_reason : (one other : Refusal K) → BadPiecesFirst IsReason (pieces text) one → BadPiecesFirst IsReason (pieces text) other → one ≡ other
   pub none : (v : V) → Denotes version text v → IsFormed v → (reason : Refusal K) → BadPiecesFirst IsReason (pieces text) reason → ⊥
 
-module _ {V K : Type 0} {version : Version V K} {IsFormed : V → Type 0} {IsReason : Refusal K → Type 0} {text : List ℕ} (decided : IsDecided version IsFormed IsReason text) where
-  pub IsAnswer-read : (v : V) → Denotes version text v → IsFormed v → IsAnswer version IsFormed IsReason text (Ok v)
-  IsAnswer-read v denotes formed = record {
-    denoted = denotes;
-    well_formed = formed;
-    accepts = λ w other is. ap Ok (decided.once v w denotes formed other is);
-    utf8 = decided.utf8 v denotes formed;
-    refused = tt;
-    refuses = λ reason first. absurd (decided.none v denotes formed reason first);
-    printable = λ _. tt;
-  }
+-- a text denotes the vector whose front its pieces begin with, and whose components the others are
+pub Denotes-pieces : {V K : Type 0} (version : Version V K) (text : List ℕ) (front left : List (List ℕ)) → pieces text ≡ front ++ left → (v : V) → version.front v ≡ front → AreComponentsOf version left v → Denotes version text v
+Denotes-pieces version text front left cut v front_is components = record {
+  parts = left;
+  text_is = sym (join_with_byte-slice_split slash text) ∙ ap joined (cut ∙ ap (λ each. each ++ left) (sym front_is));
+  components = components;
+}
 
+-- the pieces that are left of a text in UTF-8
+pub IsUtf8-left : (text : List ℕ) (front left : List (List ℕ)) → pieces text ≡ front ++ left → IsUtf8 text → All IsUtf8 left
+IsUtf8-left text front left cut is = All-left IsUtf8 (pieces text) front left cut (IsUtf8-pieces text is)
+
+-- the vector that was read, or the fault that was found
+abbrev given : {V K : Type 0} → Result (Unit {0}) (Fault K) → V → Result V (Fault K)
+given (Ok _) v = Ok v
+given (Err fault) v = Err fault
+
+module _ {V K : Type 0} {version : Version V K} {IsFormed : V → Type 0} {IsReason : Refusal K → Type 0} {text : List ℕ} (decided : IsDecided version IsFormed IsReason text) where
   pub IsAnswer-refused : (fault : Fault K) → BadPiecesFirst IsReason (pieces text) (reason_of version fault) → (IsUtf8 text → IsPrintable version fault) → IsAnswer version IsFormed IsReason text (Err fault)
   IsAnswer-refused fault first printable = record {
     denoted = tt;
@@ -48,18 +54,23 @@ module _ {V K : Type 0} {version : Version V K} {IsFormed : V → Type 0} {IsRea
     printable = printable;
   }
 
--- a text denotes the vector whose front its pieces begin with, and whose components the others are
-pub Denotes-pieces : {V K : Type 0} (version : Version V K) (text : List ℕ) (front left : List (List ℕ)) → pieces text ≡ front ++ left → (v : V) → version.front v ≡ front → AreComponentsOf version left v → Denotes version text v
-Denotes-pieces version text front left cut v front_is components = record {
-  parts = left;
-  text_is = sym (join_with_byte-slice_split slash text) ∙ ap joined (cut ∙ ap (λ each. each ++ left) (sym front_is));
-  components = components;
-}
-
--- the pieces that are left of a text in UTF-8
-pub IsUtf8-left : (text : List ℕ) (front left : List (List ℕ)) → pieces text ≡ front ++ left → IsUtf8 text → All IsUtf8 left
-IsUtf8-left text front left cut is =
-    subst (All IsUtf8) (ap (drop (length front)) cut ∙ drop_at front left (length front) refl) (All-drop IsUtf8 (length front) (pieces text) (IsUtf8-pieces text is))
+  -- what is answered, where the pieces after the front of a vector without values were read into it
+  IsAnswer-left : (front left : List (List ℕ)) → pieces text ≡ front ++ left → (empty : V) → version.front empty ≡ front → ((v : V) → version.front v ≡ front → IsComplete version v → IsFormed v)
+      → ((reason : Refusal K) → IsFirstOfPieces version left reason → BadPiecesFirst IsReason (pieces text) reason) → (answer : Result (Unit {0}) (Fault K)) (v : V) → IsReadLeft version left empty answer v → IsAnswer version IsFormed IsReason text (given answer v)
+  IsAnswer-left front left cut empty is forms reasons (Ok _) v read =
+      let denotes = Denotes-pieces version text front left cut v (read.front ∙ is) read.components in
+      let formed = forms v (read.front ∙ is) read.complete in
+      record {
+        denoted = denotes;
+        well_formed = formed;
+        accepts = λ w other also. ap Ok (decided.once v w denotes formed other also);
+        utf8 = decided.utf8 v denotes formed;
+        refused = tt;
+        refuses = λ reason first. absurd (decided.none v denotes formed reason first);
+        printable = λ _. tt;
+      }
+  IsAnswer-left front left cut empty is forms reasons (Err fault) v read =
+      IsAnswer-refused fault (reasons (reason_of version fault) read.refused) (λ utf8. read.printable (IsUtf8-left text front left cut utf8))
 
 module _ {V K : Type 0} (version : Version V K) (version_laws : VersionLaws version) (text : List ℕ) where
   -- a text that denotes a complete vector is UTF-8, and all its pieces are components
@@ -90,6 +101,9 @@ module _ {V K : Type 0} (version : Version V K) (version_laws : VersionLaws vers
         (no_reason version version_laws v (pieces text) (subst (λ parts. AreComponentsOf version parts v) (sym cut) denotes.components) is.complete);
   }
 
+  pub IsAnswerBare-left : (empty : V) → version.front empty ≡ [] → (answer : Result (Unit {0}) (Fault K)) (v : V) → IsReadLeft version (pieces text) empty answer v → IsAnswerBare version text (given answer v)
+  IsAnswerBare-left empty is = IsAnswer-left decided_bare [] (pieces text) refl empty is (λ v front complete. record { frontless = front; complete = complete }) (λ reason first. first)
+
 -- texts after a version piece
 module _ {V K : Type 0} (version : Version V K) (version_laws : VersionLaws version) (front : FrontLaws version) (text : List ℕ) where
   front_parts : (v : V) (reported : List ℕ) → version.front v ≡ version_piece reported ∷ [] → delimiter_bytes reported ≡ 0 → All IsPart (version.front v)
@@ -101,29 +115,19 @@ module _ {V K : Type 0} (version : Version V K) (version_laws : VersionLaws vers
       pieces_of_denoted version version_laws v text denotes (front_parts v reported front_is plain) (rw front_is (omega arith))
       ∙ ap (λ front. front ++ denotes.parts) front_is
 
-  -- vectors that one text denotes have one front, and are one
-  pub fronts_same : (v w : V) → Denotes version text v → Denotes version text w → version.front v ≡ version.front w
-  fronts_same v w of_v of_w =
-      let piece_v = front.fronts v in
-      let piece_w = front.fronts w in
-      let both : version_piece piece_v.reported ∷ of_v.parts ≡ version_piece piece_w.reported ∷ of_w.parts =
-      sym (pieces_denoted_after v of_v piece_v.reported piece_v.front_is piece_v.plain)
-      ∙ pieces_denoted_after w of_w piece_w.reported piece_w.front_is piece_w.plain in
-      let first : version_piece piece_v.reported ≡ version_piece piece_w.reported = cc in
-      piece_v.front_is ∙ (ap (λ piece. piece ∷ []) first ∙ sym piece_w.front_is)
+  -- the front of a vector that a text denotes is its first piece, so two such vectors are one
+  front_first : (v : V) → Denotes version text v → version.front v ≡ take 1 (pieces text)
+  front_first v denotes = let piece = front.fronts v in piece.front_is ∙ sym (ap (take 1) (pieces_denoted_after v denotes piece.reported piece.front_is piece.plain))
 
   pub denoted_once_after : (v w : V) → Denotes version text v → Denotes version text w → v ≡ w
-  denoted_once_after v w of_v of_w = denoted_once version version_laws v w text (fronts_same v w of_v of_w) of_v of_w
+  denoted_once_after v w of_v of_w = denoted_once version version_laws v w text (front_first v of_v ∙ sym (front_first w of_w)) of_v of_w
 
   -- the piece that says a supported version
   module _ (reported : List ℕ) (supported : Contains version.supported reported) where
     reported_plain : delimiter_bytes reported ≡ 0
     reported_plain =
         let (place, within, is) = supported in
-        sym (ap delimiter_bytes is)
-        ∙ (sym (get_or-map delimiter_bytes version.supported place reported 0 within)
-        ∙ (ap (λ list. get_or list place 0) front.plain
-        ∙ get_or-map (λ _. 0) version.supported place reported 0 within))
+        omega (arith, get_or-le-sum_by delimiter_bytes version.supported place reported within, ap delimiter_bytes is, front.plain)
 
     piece_reports : ReportsVersion version (version_piece reported)
     piece_reports = record {
@@ -173,6 +177,13 @@ module _ {V K : Type 0} (version : Version V K) (version_laws : VersionLaws vers
     parts : (v : V) → IsWellFormed version v → All IsPart (version.front v)
     parts v formed = let is = formed.supported in front_parts v is.reported is.front_is (reported_plain is.reported is.supported)
 
+  pub IsAnswerAfter-left : (piece : List ℕ) (left : List (List ℕ)) → pieces text ≡ piece ∷ left → (empty : V) → StartsWith version piece empty → (answer : Result (Unit {0}) (Fault K)) (v : V) → IsReadLeft version left empty answer v → IsAnswerAfter version text (given answer v)
+  IsAnswerAfter-left piece left cut empty started =
+      let whole = cut ∙ ap (λ first. first ∷ left) started.is in
+      IsAnswer-left decided_after (version_piece (value_part piece) ∷ []) left whole empty started.starts.front_is
+      (λ v front complete. record { complete = complete; supported = record { reported = _; front_is = front; supported = started.starts.supported } })
+      (reason_after (value_part piece) started.starts.supported left whole)
+
 -- a fault of the first piece is a first refusal
 pub front_fault_first : {V K : Type 0} (version : Version V K) (text piece : List ℕ) (parts : List (List ℕ)) → pieces text ≡ piece ∷ parts → AreComponentsBefore (pieces text) (length (pieces text)) → (reason : Refusal K) → (IsComponent piece → IsFrontFault version piece reason)
     → IsFirstRefusalAfter version text reason
@@ -183,3 +194,9 @@ front_fault_first version text piece parts cut components =
       | WrongVersion reported ↦ λ fault. (components, rw cut (fault first))
       | _ ↦ λ fault. absurd (fault first)
     ]
+
+-- vectors with one canonical text are one
+pub same_text-once : {V K : Type 0} (version : Version V K) (version_laws : VersionLaws version) → FrontLaws version → (v w : V) → canonical_text version v ≡ canonical_text version w → v ≡ w
+same_text-once version version_laws front v w same =
+    denoted_once_after version version_laws front (canonical_text version w) v w
+    (subst (λ text. Denotes version text v) same (canonical_text-denotes version version_laws v)) (canonical_text-denotes version version_laws w)

@@ -1,20 +1,16 @@
 -- A text that begins with the components of a vector in printing order is read up to their end.
-use Rattle.std.proofs.Common.{◌≡◌, ℕ, ◌<◌, All, Ok, List, [], ◌∷◌, ◌++◌, append_assoc, drop, false, flat_map, length, take, refl, sym, ap, ◌∙◌, subst, arith}
-use Rattle.std.proofs.lemmas.List.{append-nil, drop_at, get_or-take, length-append, take_at}
+use Rattle.std.proofs.Common.{◌≡◌, ℕ, ◌<◌, All, Ok, List, [], ◌∷◌, ◌++◌, append_assoc, append-nil, false, flat_map, length, refl, sym, ap, ◌∙◌, subst, arith}
 use Rattle.std.proofs.lemmas.List.Elements.{All-cons, All-nil}
 use Rattle.std.proofs.lemmas.List.Splits.{join_with_byte-slice_split, slice_split-cons_yes}
-use Rattle.cvss_base.specs.Text.{slash, pieces, joined, name_part, value_part, IsComponent}
-use Rattle.cvss_base.specs.Version.{Version, read, reading, AreComponentsOf, canonical_text, components_of}
-use Rattle.cvss_base.specs.Refusal.{Refusal, UnknownName, BadValue, Repeated, Spells, piece_at, FaultAt}
+use Rattle.cvss_base.specs.Text.{slash, pieces, joined}
+use Rattle.cvss_base.specs.Version.{Version, AreComponentsOf, canonical_text, components_of}
 use Rattle.cvss_text.specs.private.Printing.{text_with_slash, texts_with_slash}
 use Rattle.cvss_text.specs.private.Walk.{VersionLaws, HasReadTo, IsInOrderTo, IsReadLeft, IsWhole}
 use Rattle.cvss_text.proofs.CanonicalLemmas.{own_components}
-use Rattle.cvss_text.proofs.DenotesLemmas.{no_fault_held}
-use Rattle.cvss_text.proofs.JoinLemmas.{IsUncut, are_parts, are_uncut, piece_is_component, pieces-all, pieces-then}
-use Rattle.cvss_text.proofs.MissingLemmas.{IsReadLeft-checked}
+use Rattle.cvss_text.proofs.ComponentLemmas.{IsUncut, are_parts, are_uncut, pieces-all, pieces-then}
+use Rattle.cvss_text.proofs.WalkLemmas.{HasReadTo-start, IsReadLeft-complete}
 use Rattle.cvss_text.proofs.PrintLemmas.{joined-with_slash}
 use Rattle.cvss_text.proofs.TextLemmas.{is_slash}
-use Rattle.cvss_text.proofs.WalkLemmas.{HasReadTo-all}
 
 -- the text of each metric before those of the metrics after it, and the rest
 abbrev pub in_turn : {K : Type 0} → (K → List ℕ) → List K → List ℕ → List ℕ
@@ -37,53 +33,13 @@ pub IsInOrderTo-end : {V K : Type 0} (version : Version V K) (front : List (List
 IsInOrderTo-end version front text v [] none is = is
 IsInOrderTo-end version front text v (byte ∷ rest) none is = absurd (omega (arith, none))
 
--- a fault at one of the first pieces is one of these pieces alone
-fault_taken : {V K : Type 0} (version : Version V K) (parts : List (List ℕ)) (n place : ℕ) → place < n → (reason : Refusal K) → FaultAt version parts place reason → FaultAt version (take n parts) place reason
-fault_taken version parts n place below =
-    let here : piece_at parts place ≡ piece_at (take n parts) place = sym (get_or-take n parts place [] below) in
-    let name = ap (λ piece. read version (name_part piece)) here in
-    let value = ap (λ piece. read version (value_part piece)) here in
-    elim [
-      | UnknownName name_read ↦ λ (is, unknown). (is ∙ name, unknown)
-      | BadValue reported_kind text ↦ λ (kind, reported, named, is, no_spelling). (kind, reported, named ∙ name, is ∙ value, no_spelling)
-      | Repeated kind ↦ λ (named, spelling, earlier). (
-        named ∙ name,
-        subst (Spells (reading version kind)) value spelling,
-        record {
-          earlier = earlier.earlier;
-          is_before = earlier.is_before;
-          same_name = sym (ap (λ piece. read version (name_part piece)) (sym (get_or-take n parts earlier.earlier [] (omega (arith, earlier.is_before, below))))) ∙ earlier.same_name;
-        },
-      )
-      | _ ↦ λ none. none
-    ]
-
 module _ {V K : Type 0} (version : Version V K) (version_laws : VersionLaws version) (v : V) (text : List ℕ) where
   own_parts : List (List ℕ)
   own_parts = components_of version v
 
-  -- the pieces of the text are the vector's components, and then those that are left
-  module _ (left : List (List ℕ)) (cut : pieces text ≡ own_parts ++ left) where
-    taken : take (length own_parts) (pieces text) ≡ own_parts
-    unfolding own_parts
-    taken = ap (take (length own_parts)) cut ∙ take_at own_parts left (length own_parts) refl
-
-    HasReadTo-own : HasReadTo version (pieces text) left v
-    unfolding own_parts
-    HasReadTo-own =
-        let own = own_components version version_laws v in
-        let size = length own_parts in
-        let components = subst (λ parts. AreComponentsOf version parts v) (sym taken) own in
-        record {
-          place = size;
-          within = omega (arith, ap length cut, length-append own_parts left);
-          left_is = sym (ap (drop size) cut ∙ drop_at own_parts left size refl);
-          components = record { each = λ k below. subst IsComponent (ap (λ parts. piece_at parts k) (sym taken) ∙ get_or-take size (pieces text) k [] below) (piece_is_component version version_laws v own_parts own k below) };
-          read = record {
-            components = components;
-            faultless = record { none = λ k reason below fault. no_fault_held version version_laws v (take size (pieces text)) k components (omega (arith, below, ap length taken)) reason (fault_taken version (pieces text) size k below reason fault) };
-          };
-        }
+  own : AreComponentsOf version own_parts v
+  unfolding own_parts
+  own = own_components version version_laws v
 
   -- such a text after a slash: a piece without bytes, the vector's components, and what is left
   pieces_from : (tail : List ℕ) (left : List (List ℕ)) → (pieces (joined ([] ∷ own_parts) ++ tail) ≡ [] ∷ (own_parts ++ left)) → slash ∷ text ≡ texts_with_slash version v version.printed ++ tail → pieces text ≡ own_parts ++ left
@@ -94,30 +50,25 @@ module _ {V K : Type 0} (version : Version V K) (version_laws : VersionLaws vers
       cc
 
   uncut_parts : All IsUncut ([] ∷ own_parts)
-  unfolding own_parts
-  uncut_parts = All-cons IsUncut [] own_parts (All-nil (λ byte. is_slash byte ≡ false)) (are_uncut own_parts (are_parts version version_laws v own_parts (own_components version version_laws v)))
+  uncut_parts = All-cons IsUncut [] own_parts (All-nil (λ byte. is_slash byte ≡ false)) (are_uncut own_parts (are_parts version version_laws v own_parts own))
 
   pub HasReadTo-begun : (rest : List ℕ) → slash ∷ text ≡ texts_with_slash version v version.printed ++ slash ∷ rest → HasReadTo version (pieces text) (pieces rest) v
-  HasReadTo-begun rest is = HasReadTo-own (pieces rest) (pieces_from (slash ∷ rest) (pieces rest) (pieces-then [] own_parts rest uncut_parts) is)
+  HasReadTo-begun rest is = record { before = own_parts; cut = pieces_from (slash ∷ rest) (pieces rest) (pieces-then [] own_parts rest uncut_parts) is; components = own }
 
   own_pieces : slash ∷ text ≡ texts_with_slash version v version.printed ++ [] → pieces text ≡ own_parts
   own_pieces is =
       pieces_from [] [] (ap pieces (append-nil (joined ([] ∷ own_parts))) ∙ pieces-all [] own_parts uncut_parts ∙ ap (λ parts. [] ∷ parts) (sym (append-nil own_parts))) is
       ∙ append-nil own_parts
 
-  HasReadTo-whole : slash ∷ text ≡ texts_with_slash version v version.printed ++ [] → HasReadTo version (pieces text) [] v
-  HasReadTo-whole is = HasReadTo-own [] (own_pieces is ∙ sym (append-nil own_parts))
-
   pub HasReadTo-end : (rest : List ℕ) → length rest ≡ 0 → slash ∷ text ≡ texts_with_slash version v version.printed ++ rest → HasReadTo version (pieces text) [] v
-  HasReadTo-end [] none is = HasReadTo-whole is
+  HasReadTo-end [] none is = record { before = own_parts; cut = own_pieces is ∙ sym (append-nil own_parts); components = own }
   HasReadTo-end (byte ∷ rest) none is = absurd (omega (arith, none))
 
   -- a text that is the components of a complete vector is read
   module _ (front : List (List ℕ)) (is : IsWhole version front text v) where
     pub IsReadLeft-whole : (empty : V) → front ≡ version.front empty → IsReadLeft version (pieces text) empty (Ok tt) v
     IsReadLeft-whole empty of =
-        let all = HasReadTo-all version version_laws (pieces text) [] v refl (HasReadTo-whole is.in_order.is) in
-        IsReadLeft-checked version v version_laws (pieces text) empty (Ok tt) all.0 all.1 (is.in_order.front_is ∙ of) is.present tt
+        IsReadLeft-complete version version_laws (pieces text) v (subst (λ parts. AreComponentsOf version parts v) (sym (own_pieces is.in_order.is)) own) empty (is.in_order.front_is ∙ of) is.present
 
     -- and so is the text that has it after the front the canonical one
     pub canonical_whole : (whole : List ℕ) → pieces whole ≡ front ++ pieces text → whole ≡ canonical_text version v
@@ -125,3 +76,5 @@ module _ {V K : Type 0} (version : Version V K) (version_laws : VersionLaws vers
     canonical_whole whole cut =
         sym (join_with_byte-slice_split slash whole)
         ∙ ap joined (cut ∙ (ap (λ front. front ++ pieces text) (sym is.in_order.front_is) ∙ ap (λ parts. version.front v ++ parts) (own_pieces is.in_order.is)))
+
+pub ruleset begun = (HasReadTo-begun, HasReadTo-end, HasReadTo-start, tt)

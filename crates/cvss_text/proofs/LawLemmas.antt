@@ -1,16 +1,17 @@
 -- What a version's laws say of its names and of its printing order.
-use Rattle.std.proofs.Common.{◌≡◌, ◌≢◌, ℕ, suc, ◌+◌, ◌-◌, ◌<◌, true, false, List, ◌∷◌, ◌++◌, length, get_or, take, drop, map, find, Some, None, sym, ap, ◌∙◌, arith, option_map, bytes_eq, drop-cons}
+use Rattle.std.proofs.Common.{◌≡◌, ◌≢◌, ℕ, suc, ◌+◌, ◌-◌, ◌<◌, true, false, List, ◌∷◌, ◌++◌, length, get_or, take, drop, map, find, Some, None, sym, ap, ◌∙◌, arith, option_map, bytes_eq, drop-cons, Option}
 use Rattle.std.specs.List.{slice_get, position_or_len, range_with_len, All}
 use Rattle.std.proofs.lemmas.List.{take-append-drop, drop_more, get_or-take, get_or-drop, get_or-map, get_or_past, length-take-le, length-drop, take_all}
 use Rattle.std.proofs.lemmas.List.FromFn.{get_or-range_with_len, fill_by_all}
 use Rattle.std.proofs.lemmas.Option.{slice_get-map, slice_get_within, get_or_from_slice_get, same_Some}
 use Rattle.std.proofs.lemmas.Slice.Eq.{bytes_eq-Decides}
-use Rattle.cvss_base.specs.Text.{component, name_part, value_part}
+use Rattle.cvss_base.specs.Text.{slash, component, name_part, value_part}
 use Rattle.cvss_base.specs.Version.{Version, read}
 use Rattle.cvss_base.specs.private.Component.{delimiter_bytes}
 use Rattle.cvss_text.specs.private.Walk.{VersionLaws, IsCut, place_of}
+use Rattle.cvss_text.specs.private.Printing.{with_slash}
 use Rattle.cvss_base.proofs.FindLemmas.{found_passes, not_found}
-use Rattle.cvss_text.proofs.TextLemmas.{read-component, delimiter_bytes-read, name_part-component, value_part-component}
+use Rattle.cvss_text.proofs.TextLemmas.{is_colon, delimiter_sorts, count_by-cons, value_after, read-component, delimiter_bytes-read, name_part-component, value_part-component}
 
 -- the printing order, cut at one metric, which is nowhere else
 pub record IsCutAt {K : Type 0} (printed : List K) (kind : K) : Type 0 where
@@ -23,11 +24,9 @@ pub record IsCutAt {K : Type 0} (printed : List K) (kind : K) : Type 0 where
 module _ {V K : Type 0} (version : Version V K) (version_laws : VersionLaws version) where
   -- what holds of each printed metric holds of each metric
   at_each : {Y : Type 0} (f g : K → Y) → map f version.printed ≡ map g version.printed → (kind : K) → f kind ≡ g kind
-  at_each f g same kind =
-      let place = place_of version kind in
-      let left : slice_get (map f version.printed) place ≡ Some (f kind) = slice_get-map f version.printed place ∙ ap (option_map f) (version_laws.placed kind) in
-      let right : slice_get (map g version.printed) place ≡ Some (g kind) = slice_get-map g version.printed place ∙ ap (option_map g) (version_laws.placed kind) in
-      same_Some (f kind) (g kind) (sym left ∙ (ap (λ list. slice_get list place) same ∙ right))
+  at_each {Y} f g same kind =
+      let at : (h : K → Y) → slice_get (map h version.printed) (place_of version kind) ≡ Some (h kind) = λ h. slice_get-map h version.printed (place_of version kind) ∙ ap (option_map h) (version_laws.placed kind) in
+      same_Some (f kind) (g kind) (sym (at f) ∙ (ap (λ list. slice_get list (place_of version kind)) same ∙ at g))
 
   pub name_read : (kind : K) → read version (version.name kind) ≡ version.name kind
   name_read = at_each (λ kind. read version (version.name kind)) version.name version_laws.names_read
@@ -99,3 +98,12 @@ module _ {V K : Type 0} (version : Version V K) (version_laws : VersionLaws vers
       let is_cut : piece ≡ take n piece ++ (58 ∷ take (length piece - suc n) rest) =
       sym (take-append-drop n piece) ∙ ap (λ l. take n piece ++ l) (drop-cons piece n 0 within ∙ (λ at. colon at ∷ sym value_is at)) in
       IsCut_named piece (take n piece) (take (length piece - suc n) rest) kind is_cut (named ∙ ap (read version) (sym name_is))
+
+-- the printed component gives the spelling back
+pub spelling_back : (name : List ℕ) (held : Option (List ℕ)) (text : List ℕ) → delimiter_bytes name ≡ 0 → Some text ≡ with_slash (option_map (component name) held) → Some (value_part text) ≡ held
+spelling_back name None text plain is = absurd (let no : Some text ≡ None = is in cc)
+spelling_back name (Some spelling) text plain is =
+    let text_is : text ≡ component (slash ∷ name) spelling = cc in
+    rw text_is (ap Some (value_after (slash ∷ name) spelling (omega (arith, count_by-cons is_colon slash name, delimiter_sorts name))))
+
+pub ruleset helds = (spelling_back, name_plain, tt)

@@ -29,13 +29,11 @@ pub numeral-injective : (m n : ℕ) → numeral m ≡ numeral n → m ≡ n
 numeral-injective m n same =
     sym (number_back m) ∙ (ap (λ text. number_from_digits 10 (map (λ c. c - 48) text)) same ∙ number_back n)
 
-digit_plain : (digit : ℕ) → digit < 10 → is_delimiter (48 + digit) ≡ false
-digit_plain digit below = grind (arith, nat_tests)
-
 digits_plain : (digits : List ℕ) → AllBelowBase 10 digits → delimiter_bytes (map (λ digit. 48 + digit) digits) ≡ 0
 digits_plain [] all = refl
 digits_plain (digit ∷ digits) all =
-    let plain = digit_plain digit all.0 in
+    let below = all.0 in
+    let plain : is_delimiter (48 + digit) ≡ false = grind (arith, nat_tests) in
     count_by-cons is_delimiter (48 + digit) (map (λ each. 48 + each) digits) ∙ rw (plain, zero-add) (digits_plain digits all.1)
 
 -- no digit is a delimiter byte

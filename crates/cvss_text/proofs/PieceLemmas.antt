@@ -1,21 +1,23 @@
--- How pieces come off a text, and that those of a text in UTF-8 are UTF-8.
-use Rattle.std.proofs.Common.{append_assoc, IfSome, get_or, ◌-◌, ◌≡◌, ℕ, ◌+◌, ◌<◌, ◌≤◌, Bool, false, cond, ltb, List, [], ◌∷◌, inl, inr, length, take, drop, Option, Some, None, refl, sym, ap, ◌∙◌, Bor, arith, ◌++◌, subst, ltb-true, ltb-false, IsUtf8}
-use Rattle.std.specs.List.{position, position_or_len, All, onto_first}
+-- How pieces come off a text and are cut at their colons, that those of a text in UTF-8 are UTF-8, and where a text is read.
+use Rattle.std.proofs.Common.{append_assoc, append-nil, ◌≡◌, ◌≢◌, ℕ, ◌+◌, ◌<◌, ◌≤◌, Bool, true, false, cond, eqb, ltb, List, [], ◌∷◌, ◌++◌, inl, inr, codes, length, get_or, take, drop, Option, Some, None, refl, sym, ap, ◌∙◌, Bor, arith, subst, ltb-true, ltb-false, IsUtf8}
+use Rattle.std.specs.List.{position, position_or_len, All}
 use Rattle.std.specs.Option.{option_map_or, unwrap_or}
 use Rattle.std.specs.Slice.{IsGetRangeResult}
-use Rattle.std.proofs.lemmas.Bool.{false_from_ne_true}
-use Rattle.std.proofs.lemmas.Bool.Decides.{nat_tests}
-use Rattle.std.proofs.lemmas.List.Folds.{list_any_none}
+use Rattle.std.proofs.lemmas.Bool.{eqb-true, false_from_ne_true, ne_eqb}
 use Rattle.std.proofs.lemmas.List.{take_all, take_rest, length-append, get_or_append_left, get_or_at, take_at, drop_at, drop-drop}
-use Rattle.std.proofs.lemmas.List.Splits.{slice_split_none, slice_split-cons_no, slice_split_first, join_with_byte-slice_split}
-use Rattle.std.proofs.lemmas.List.Sums.{fails_before_first}
+use Rattle.std.proofs.lemmas.List.Elements.{All-nil, All-cons, All-head, All-append, All-drop}
+use Rattle.std.proofs.lemmas.List.Folds.{list_any-append, list_any_at, list_any_none}
+use Rattle.std.proofs.lemmas.List.Splits.{length-slice_split, slice_split_at, slice_split_none, slice_split_first, join_with_byte-slice_split}
+use Rattle.std.proofs.lemmas.List.Sums.{fails_before_first, passes_at_first, split_at_first, sum_by-le}
 use Rattle.std.proofs.lemmas.Option.{cond_some, none-some}
-use Rattle.cvss_text.specs.private.Pieces.{AreParts, IsAfterComponent, IsAfterComponents, IsWithoutColon}
-use Rattle.cvss_base.specs.Text.{pieces, slash, colon, joined, component, IsComponent}
-use Rattle.cvss_text.proofs.TextLemmas.{is_slash, is_colon, position-within, colon-parts, count_by-cons}
-use Rattle.std.proofs.lemmas.List.Elements.{All-nil, All-cons, All-append}
 use Rattle.std.proofs.lemmas.Str.{IsUtf8-take, IsUtf8-drop, IsCharBoundary-before_ascii, IsCharBoundary-after_ascii}
+use Rattle.std.proofs.Math.Bool.{or-true}
 use Rattle.cvss_base.specs.Refusal.{AreComponentsBefore, IsFirstBadPiece, piece_at}
+use Rattle.cvss_base.specs.Text.{pieces, slash, colon, dot, has, joined, component, IsComponent}
+use Rattle.cvss_base.specs.Version.{version_piece}
+use Rattle.cvss_text.specs.Route.{Route, ToV20, route_of, route_of_pieces, route_of_parts}
+use Rattle.cvss_text.specs.private.Pieces.{AreParts, IsAfterComponent, IsAfterComponents, IsWithoutColon}
+use Rattle.cvss_text.proofs.TextLemmas.{is_slash, is_colon}
 
 -- the place of the first byte that passes a test
 module _ (p : ℕ → Bool) (text : List ℕ) where
@@ -30,18 +32,15 @@ module _ (p : ℕ → Bool) (text : List ℕ) where
       omega (arith, ltb-false _ _ past)
 
 -- the first piece ends at the first slash
-pub pieces-first : (text : List ℕ) (at : ℕ) → position is_slash text ≡ Some at → pieces text ≡ take at text ∷ pieces (drop (at + 1) text)
+pieces-first : (text : List ℕ) (at : ℕ) → position is_slash text ≡ Some at → pieces text ≡ take at text ∷ pieces (drop (at + 1) text)
 pieces-first text at found =
     let first = first_at is_slash text at found in
     slice_split_first is_slash text 0 first.0 ∙ rw first.1
 
--- without a slash the text is the one piece
-pub pieces-last : (text : List ℕ) → position is_slash text ≡ None → pieces text ≡ text ∷ []
-pieces-last text none = slice_split_none is_slash text (λ k d inside. fails_before_first is_slash text k d (omega (arith, first_nowhere is_slash text none)))
-
 -- the first piece ends at the first slash or at the end, and the others are those after it
 pub pieces-cut : (text : List ℕ) (found : Option ℕ) (rest : Option (Bor (List ℕ))) → position is_slash text ≡ found → IsGetRangeResult text (unwrap_or found (length text) + 1) (length text) rest → pieces text ≡ take (unwrap_or found (length text)) text ∷ option_map_or (λ left. pieces left.now) rest []
-pieces-cut text None None is cut = pieces-last text is ∙ rw (take_all (length text) text (omega arith))
+pieces-cut text None None is cut =
+    slice_split_none is_slash text (λ k d inside. fails_before_first is_slash text k d (omega (arith, first_nowhere is_slash text is))) ∙ rw (take_all (length text) text (omega arith))
 pieces-cut text None (Some left) is cut = absurd (omega (arith, cut.0.0))
 pieces-cut text (Some at) None is cut = absurd (elim cut.0 [ inl past ↦ omega (arith, first_at is_slash text at is) | inr past ↦ omega arith ])
 pieces-cut text (Some at) (Some left) is cut = pieces-first text at is ∙ rw (cut.0.2, take_rest text (at + 1))
@@ -50,13 +49,13 @@ pieces-cut text (Some at) (Some left) is cut = pieces-first text at is ∙ rw (c
 pub AreParts-first : (piece : List ℕ) (at : ℕ) → position is_colon piece ≡ Some at → AreParts piece (take at piece) (drop (at + 1) piece)
 AreParts-first piece at found =
     let first = first_at is_colon piece at found in
-    rw (sym first.1) (record { cut = colon-parts piece first.0; name_is = refl; value_is = refl })
+    rw (sym first.1) (record { cut = split_at_first is_colon piece 0 first.0 ∙ rw (eqb-true _ _ (passes_at_first is_colon piece 0 first.0)); name_is = refl; value_is = refl })
 
 pub without_colon : (piece : List ℕ) → position is_colon piece ≡ None → IsWithoutColon piece
-without_colon piece none = record {
-  colonless = list_any_none is_colon piece (λ place d inside. fails_before_first is_colon piece place d (omega (arith, first_nowhere is_colon piece none)));
-  no_component = λ is. omega (arith, first_nowhere is_colon piece none, position-within is_colon piece is.one_colon);
-}
+without_colon piece none =
+    let fails : All (λ byte. is_colon byte ≡ false) piece = λ place d inside. fails_before_first is_colon piece place d (omega (arith, first_nowhere is_colon piece none)) in
+    let uncounted = sum_by-le (λ byte. cond (is_colon byte) 1 0) 0 piece (λ place d inside. omega (arith, ap (λ test. cond {A = ℕ} test 1 0) (fails place d inside))) in
+    record { colonless = list_any_none is_colon piece fails; no_component = λ is. omega (arith, uncounted, is.one_colon) }
 
 -- a text cut at an ASCII byte
 cut_at_ascii : (front rest : List ℕ) (byte : ℕ) → byte < 128 → IsUtf8 (front ++ byte ∷ rest) → IsUtf8 front × IsUtf8 rest
@@ -83,13 +82,13 @@ pub IsUtf8-bad_piece : (text piece : List ℕ) → IsFirstBadPiece (pieces text)
 IsUtf8-bad_piece text piece bad is = rw bad.is (IsUtf8-pieces text is bad.place [] bad.within)
 
 -- the texts before and after a colon
-pub IsUtf8-name : (piece name value : List ℕ) → piece ≡ component name value → IsUtf8 piece → IsUtf8 name
-IsUtf8-name piece name value cut is = (cut_at_ascii name value colon (omega arith) (subst IsUtf8 cut is)).0
+pub utf8_parts : (piece name value : List ℕ) → piece ≡ component name value → IsUtf8 piece → IsUtf8 name × IsUtf8 value
+utf8_parts piece name value cut is = cut_at_ascii name value colon (omega arith) (subst IsUtf8 cut is)
 
-pub IsUtf8-value : (piece name value : List ℕ) → piece ≡ component name value → IsUtf8 piece → IsUtf8 value
-IsUtf8-value piece name value cut is = (cut_at_ascii name value colon (omega arith) (subst IsUtf8 cut is)).1
+-- the pieces that are left after no component, and after one more
+pub IsAfterComponents-none : (parts : List (List ℕ)) → IsAfterComponents parts parts
+IsAfterComponents-none parts = record { before = []; cut = refl; components = All-nil IsComponent }
 
--- the pieces that are left after components, and after one more
 pub IsAfterComponents-more : (parts left after : List (List ℕ)) → IsAfterComponents parts left → IsAfterComponent left after → IsAfterComponents parts after
 IsAfterComponents-more parts left after is first = record {
   before = is.before ++ first.piece ∷ [];
@@ -97,35 +96,63 @@ IsAfterComponents-more parts left after is first = record {
   components = All-append IsComponent is.before (first.piece ∷ []) is.components (All-cons IsComponent first.piece [] first.component (All-nil IsComponent));
 }
 
-components_before : (parts left : List (List ℕ)) (is : IsAfterComponents parts left) → AreComponentsBefore parts (length is.before)
-components_before parts left is = record {
-  each = λ place below. rw (ap (λ list. piece_at list place) is.cut ∙ get_or_append_left is.before left [] place below) (is.components place [] below);
-}
+module _ (parts left : List (List ℕ)) (is : IsAfterComponents parts left) where
+  components_before : AreComponentsBefore parts (length is.before)
+  components_before = record {
+    each = λ place below. rw (ap (λ list. piece_at list place) is.cut ∙ get_or_append_left is.before left [] place below) (is.components place [] below);
+  }
 
-pub IsFirstBadPiece-after : (parts left : List (List ℕ)) (piece : List ℕ) (rest : List (List ℕ)) → IsAfterComponents parts left → left ≡ piece ∷ rest → ¬ (IsComponent piece) → IsFirstBadPiece parts piece
-IsFirstBadPiece-after parts left piece rest is first bad = record {
-  place = length is.before;
-  within = omega (arith, ap length is.cut, length-append is.before left, ap length first);
-  is = sym (ap (λ list. piece_at list (length is.before)) (is.cut ∙ ap (λ list. is.before ++ list) first) ∙ get_or_at is.before piece rest [] (length is.before) refl);
-  bad = bad;
-  earlier = components_before parts left is;
-}
+  pub AreComponents-after : left ≡ [] → AreComponentsBefore parts (length parts)
+  AreComponents-after none = subst (AreComponentsBefore parts) (sym (ap length (is.cut ∙ ap (λ list. is.before ++ list) none ∙ append-nil is.before))) components_before
 
--- a component stays one with a letter before it
-IsAfterComponent-letter : (text : List ℕ) (after : List (List ℕ)) → 64 < get_or text 0 0 → IsAfterComponent (pieces (take (length text - 1) (drop 1 text))) after → IsAfterComponent (pieces text) after
-IsAfterComponent-letter [] after letter is = absurd (omega (arith, letter))
-IsAfterComponent-letter (byte ∷ rest) after letter is =
-    let no_slash : is_slash byte ≡ false = grind (arith, nat_tests) in
-    let no_colon : is_colon byte ≡ false = grind (arith, nat_tests) in
-    let none : cond {A = ℕ} (is_colon byte) 1 0 ≡ 0 = ap (λ test. cond {A = ℕ} test 1 0) no_colon in
-    let whole : take (length (byte ∷ rest) - 1) rest ≡ rest = take_all (length (byte ∷ rest) - 1) rest (omega arith) in
-    let first : pieces rest ≡ is.piece ∷ after = ap pieces (sym whole) ∙ is.first in
-    record {
-      piece = byte ∷ is.piece;
-      first = slice_split-cons_no is_slash byte rest no_slash ∙ ap (onto_first byte) first;
-      component = record { one_colon = omega (arith, count_by-cons is_colon byte is.piece, none, is.component.one_colon) };
-    }
+  pub IsFirstBadPiece-after : (piece : List ℕ) (rest : List (List ℕ)) → left ≡ piece ∷ rest → ¬ (IsComponent piece) → IsFirstBadPiece parts piece
+  IsFirstBadPiece-after piece rest first bad = record {
+    place = length is.before;
+    within = omega (arith, ap length is.cut, length-append is.before left, ap length first);
+    is = sym (ap (λ list. piece_at list (length is.before)) (is.cut ∙ ap (λ list. is.before ++ list) first) ∙ get_or_at is.before piece rest [] (length is.before) refl);
+    bad = bad;
+    earlier = components_before;
+  }
 
-pub IsAfterComponent-found : (text : List ℕ) (found : Option (Bor (List ℕ))) → 64 < get_or text 0 0 → IfSome found (λ rest. IsAfterComponent (pieces (take (length text - 1) (drop 1 text))) (pieces rest.now)) → IfSome found (λ rest. IsAfterComponent (pieces text) (pieces rest.now))
-IsAfterComponent-found text None letter is = tt
-IsAfterComponent-found text (Some rest) letter is = IsAfterComponent-letter text (pieces rest.now) letter is
+-- the pieces after others
+pub All-left : (P : List ℕ → Type 0) (parts before left : List (List ℕ)) → parts ≡ before ++ left → All P parts → All P left
+All-left P parts before left cut all = subst (All P) (ap (drop (length before)) cut ∙ drop_at before left (length before) refl) (All-drop P (length before) parts all)
+
+-- the route of a text that is cut at its first slash, and its first piece at its first colon
+pub cut_routed : (text piece prefix reported : List ℕ) (rest : List (List ℕ)) (to : Route) → pieces text ≡ piece ∷ rest → rest ≢ [] → AreParts piece prefix reported → to ≡ route_of_parts prefix reported → to ≡ route_of text
+cut_routed text piece prefix reported [] to cut some parts is = absurd (some refl)
+cut_routed text piece prefix reported (next ∷ more) to cut some parts is =
+    let colon_in : has colon piece ≡ true = ap (has colon) parts.cut ∙ list_any-append is_colon prefix (colon ∷ reported) ∙ or-true (has colon prefix) in
+    let by_parts : route_of_pieces (piece ∷ next ∷ more) ≡ route_of_parts prefix reported = rw (colon_in, sym parts.name_is, sym parts.value_is) refl in
+    is ∙ sym (ap route_of_pieces cut ∙ by_parts)
+
+-- the first piece of a text
+pub first_utf8 : (text piece : List ℕ) (rest : List (List ℕ)) → pieces text ≡ piece ∷ rest → IsUtf8 text → IsUtf8 piece
+first_utf8 text piece rest cut is = All-head IsUtf8 piece rest (subst (All IsUtf8) cut (IsUtf8-pieces text is))
+
+-- a text has a first piece
+pub some_piece : (text : List ℕ) → pieces text ≢ []
+some_piece text none = omega (arith, ap length none, length-slice_split (λ byte. eqb byte slash) text)
+
+-- a text that begins with a piece and a slash
+pub pieces_after : (piece rest : List ℕ) → has slash piece ≡ false → pieces (piece ++ (slash ∷ rest)) ≡ piece ∷ pieces rest
+pieces_after piece rest none = slice_split_at (λ each. eqb each slash) piece slash rest
+    (λ k d inside. false_from_ne_true _ (λ yes. let found = list_any_at (λ each. eqb each slash) piece k d inside yes in cc)) refl
+
+-- a text that begins with a component, a name of two letters and a value of one, says no version
+pub short_routed : (text : List ℕ) → 5 ≤ length text → 65 ≤ get_or text 0 0 → 65 ≤ get_or text 1 0 → get_or text 2 0 ≡ colon → 65 ≤ get_or text 3 0 → get_or text 4 0 ≡ slash → route_of text ≡ ToV20
+short_routed (a ∷ b ∷ x ∷ c ∷ y ∷ rest) some letter_a letter_b is_colon letter_c is_slash =
+    let another : (byte other : ℕ) → other < 65 → 65 ≤ byte → eqb byte other ≡ false = λ byte other below above. ne_eqb byte other (λ same. omega (arith, below, above, same)) in
+    let piece = component (a ∷ b ∷ []) (c ∷ []) in
+    let none : has slash piece ≡ false = rw (another a slash (omega arith) letter_a, another b slash (omega arith) letter_b, another c slash (omega arith) letter_c) refl in
+    let cut : pieces (a ∷ b ∷ x ∷ c ∷ y ∷ rest) ≡ piece ∷ pieces rest = rw (is_colon, is_slash) (pieces_after piece rest none) in
+    let parts = AreParts-first piece 2 (rw (another a colon (omega arith) letter_a, another b colon (omega arith) letter_b) refl) in
+    sym (cut_routed (a ∷ b ∷ x ∷ c ∷ y ∷ rest) piece (a ∷ b ∷ []) (c ∷ []) (pieces rest) ToV20 cut (some_piece rest) parts (rw (another c dot (omega arith) letter_c) refl))
+short_routed text some letter_a letter_b is_colon letter_c is_slash = absurd (omega (arith, some))
+
+-- a text that says its version after the prefix is read by the rules of that
+pub said_routed : (text reported rest : List ℕ) (to : Route) → text ≡ version_piece reported ++ (slash ∷ rest) → has slash reported ≡ false → to ≡ route_of_parts (codes "CVSS") reported → to ≡ route_of text
+said_routed text reported rest to is none routed =
+    cut_routed text (version_piece reported) (codes "CVSS") reported (pieces rest) to (ap pieces is ∙ pieces_after (version_piece reported) rest none) (some_piece rest) (record { cut = refl; name_is = refl; value_is = refl }) routed
+
+pub ruleset cuts = (pieces-cut, AreParts-first, without_colon, take_rest, tt)

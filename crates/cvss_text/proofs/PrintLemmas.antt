@@ -22,8 +22,10 @@ module _ {V K : Type 0} (version : Version V K) (v : V) where
   -- all components after slashes, without the first slash
   pub joined_after_first : (kinds : List K) → drop 1 (texts_with_slash version v kinds) ≡ joined (filter_map (component_of version v) kinds)
   joined_after_first [] = refl
-  joined_after_first (kind ∷ kinds) = after_first (component_of version v kind) kinds (joined_after_first kinds) where
-    after_first : (part : Option (List ℕ)) (kinds : List K) → drop 1 (texts_with_slash version v kinds) ≡ joined (filter_map (component_of version v) kinds)
-        → drop 1 (unwrap_or (with_slash part) [] ++ texts_with_slash version v kinds) ≡ joined (cons_option part (filter_map (component_of version v) kinds))
-    after_first None kinds others = others
-    after_first (Some piece) kinds others = sym (joined-with_slash piece kinds)
+  joined_after_first (kind ∷ kinds) =
+      elim (component_of version v kind) as (λ part. drop 1 (unwrap_or (with_slash part) [] ++ texts_with_slash version v kinds) ≡ joined (cons_option part (filter_map (component_of version v) kinds))) [
+        | None ↦ joined_after_first kinds
+        | Some piece ↦ sym (joined-with_slash piece kinds)
+      ]
+
+pub ruleset joins = (joined-with_slash, tt)

@@ -1,22 +1,22 @@
 -- Components that are read one after another to be set, and the vector that has their values.
-use Rattle.std.proofs.Common.{◌≡◌, inl, inr, ℕ, ◌+◌, ◌<◌, ◌≤◌, List, [], ◌∷◌, length, take, Option, Some, None, IsSome, IfSome, Ok, Err, refl, sym, ap, ◌∙◌, subst, arith, slice_get}
+use Rattle.std.proofs.Common.{◌≡◌, ◌⊎◌, inl, inr, ℕ, ◌+◌, ◌<◌, ◌≤◌, List, [], ◌∷◌, length, take, Option, Some, None, IsSome, IfSome, Ok, Err, refl, sym, ap, ◌∙◌, subst, arith, slice_get}
 use Rattle.std.specs.List.{cons_option, filter_map}
 use Rattle.std.specs.Option.{option_or}
-use Rattle.std.proofs.lemmas.List.{get_or-drop, length-drop, length-map, length-take-le}
+use Rattle.std.proofs.lemmas.List.{get_or-take, length-append, length-map, length-take-le}
 use Rattle.std.proofs.lemmas.List.Sorted.{length_permutation}
 use Rattle.std.proofs.lemmas.Bool.{cases_lt}
 use Rattle.std.proofs.lemmas.Option.{same_Some, slice_get_within}
-use Rattle.cvss_base.specs.Refusal.{AreComponentsBefore, Refusal, BadComponent, HasNoFaultBefore, Missing, piece_at}
+use Rattle.cvss_base.specs.Refusal.{Refusal, BadComponent, Missing, piece_at}
 use Rattle.cvss_base.specs.Text.{IsComponent, pieces}
 use Rattle.cvss_base.specs.Version.{Version, AreComponentsOf, IsComplete, component_of, components_of, read}
 use Rattle.cvss_text.specs.Setting.{AreRightBefore, IsBuildReason, IsBuilt, IsFirstWrong, IsSet, IsSetReason, IsWrongAt, components_in}
 use Rattle.cvss_text.specs.private.SettingSteps.{IsAnswered, IsCopied, IsWrongFor}
-use Rattle.cvss_text.specs.private.Walk.{HasNoValue, HasReadTo, IsFaultOf, VersionLaws, place_of, reason_of}
+use Rattle.cvss_text.specs.private.Walk.{HasNoValue, HasReadTo, VersionLaws, place_of, reason_of}
 use Rattle.cvss_text.specs.declared.walk.Fault.{Fault}
-use Rattle.cvss_text.proofs.DenotesLemmas.{no_fault_held, no_reason, values_same, vectors_same}
-use Rattle.cvss_text.proofs.JoinLemmas.{piece_is_component}
+use Rattle.cvss_text.proofs.ComponentLemmas.{all_taken, piece_is_component}
+use Rattle.cvss_text.proofs.DenotesLemmas.{no_fault_before, no_reason, values_same, vectors_same}
 use Rattle.cvss_text.proofs.RefusalLemmas.{faults_same, reasons_same, same_place}
-use Rattle.cvss_text.proofs.WalkLemmas.{HasRead-none, fault_at}
+use Rattle.cvss_text.proofs.WalkLemmas.{AreComponentsOf-none, fault_at, first_left, taken}
 
 -- the components of a text that is not empty are its pieces
 pub components_in-some : (text : List ℕ) → 0 < length text → pieces text ≡ components_in text
@@ -27,62 +27,90 @@ pub components_in-none : (text : List ℕ) → length text ≤ 0 → components_
 components_in-none [] none = refl
 components_in-none (byte ∷ bytes) none = absurd (omega (arith, none))
 
-cons_option-most : {X : Type 0} (part : Option X) (parts : List X) (n : ℕ) → length parts ≤ n → length (cons_option part parts) ≤ n + 1
-cons_option-most None parts n fits = omega arith
-cons_option-most (Some part) parts n fits = omega arith
-
 filter_map-most : {X Y : Type 0} (f : X → Option Y) (xs : List X) → length (filter_map f xs) ≤ length xs
 filter_map-most f [] = omega arith
-filter_map-most f (x ∷ xs) = omega (arith, cons_option-most (f x) (filter_map f xs) (length xs) (filter_map-most f xs))
+filter_map-most f (x ∷ xs) = elim (f x) as (λ part. length (cons_option part (filter_map f xs)) ≤ length (x ∷ xs)) [ None ↦ omega (arith, filter_map-most f xs) | Some _ ↦ omega (arith, filter_map-most f xs) ]
 
 -- an option, or another, has a value where one of them has
 or_some : {X : Type 0} (one other : Option X) → IsSome other → IsSome (option_or one other)
 or_some None other some = some
 or_some (Some value) other some = refl
 
-or_none : {X : Type 0} (one other : Option X) → one ≡ None → option_or one other ≡ other
-or_none one other none = ap (λ each. option_or each other) none
+or_twice : {X : Type 0} (one other : Option X) → option_or (option_or one other) other ≡ option_or one other
+or_twice None None = refl
+or_twice None (Some value) = refl
+or_twice (Some value) other = refl
 
--- the values for the metrics before an index are copied, and those from there on are not yet
+-- one vector is such, or there is one reason why none is
+pub record IsSole {V K : Type 0} (IsIt : V → Type 0) (IsReason : Option ℕ → Refusal K → Type 0) : Type 0 where
+  pub one : (v w : V) → IsIt v → IsIt w → v ≡ w
+  pub one_reason : (i j : Option ℕ) (one other : Refusal K) → IsReason i one → IsReason j other → (i ≡ j) × (one ≡ other)
+  pub none : (v : V) (index : Option ℕ) (reason : Refusal K) → IsIt v → IsReason index reason → ⊥
+
+module _ {V K : Type 0} (version : Version V K) {IsIt : V → Type 0} {IsReason : Option ℕ → Refusal K → Type 0} (sole : IsSole IsIt IsReason) where
+  pub IsAnswered-Ok : (v : V) → IsIt v → IsAnswered version IsIt IsReason (Ok v)
+  IsAnswered-Ok v is = record {
+    accepted = is;
+    accepts = λ w also. ap Ok (sole.one v w is also);
+    refused = tt;
+    refuses = λ index reason why. absurd (sole.none v index reason is why);
+    bound = tt;
+  }
+
+  pub IsAnswered-Err : (index : Option ℕ) (fault : Fault K) → IsReason index (reason_of version fault) → IfSome index (λ i. i ≤ length version.printed) → IsAnswered version IsIt IsReason (Err (index, fault))
+  IsAnswered-Err index fault why bound = record {
+    accepted = tt;
+    accepts = λ v is. absurd (sole.none v index (reason_of version fault) is why);
+    refused = why;
+    refuses = λ j other also. sole.one_reason index j (reason_of version fault) other why also;
+    bound = bound;
+  }
+
+-- the vector has the given value for a metric or, without one, its own
+abbrev IsCompletedAt : {V K : Type 0} → Version V K → V → V → V → K → Type 0
+IsCompletedAt version given own v kind =
+    version.value_of v kind ≡ option_or (version.value_of given kind) (version.value_of own kind)
+
+-- the metrics that are printed before an index are completed, and others are completed or as they were given
 pub record IsCompletedTo {V K : Type 0} (version : Version V K) (given own : V) (index : ℕ) (v : V) : Type 0 where
-  pub copied : (kind : K) → place_of version kind < index → version.value_of v kind ≡ option_or (version.value_of given kind) (version.value_of own kind)
-  pub kept : (kind : K) → index ≤ place_of version kind → version.value_of v kind ≡ version.value_of given kind
+  pub completed : (kind : K) → place_of version kind < index → IsCompletedAt version given own v kind
+  pub either : (kind : K) → (version.value_of v kind ≡ version.value_of given kind) ⊎ IsCompletedAt version given own v kind
   pub front : version.front v ≡ version.front given
 
 module _ {V K : Type 0} (version : Version V K) (version_laws : VersionLaws version) where
-  -- a component with a fault is wrong
-  pub wrong_for : (v : V) (piece : List ℕ) (reason : Refusal K) → IsComponent piece → IsFaultOf version v piece reason → IsWrongFor version v piece reason
-  wrong_for v piece (BadComponent _) is fault = absurd fault
-  wrong_for v piece reason is fault = (is, fault)
+  -- nothing is wrong with the first pieces, where they are a vector's components
+  right_taken : (v : V) (parts : List (List ℕ)) (n : ℕ) → n ≤ length parts → AreComponentsOf version (take n parts) v → AreRightBefore version parts n
+  right_taken v parts n fits components = record { none = none } where
+    none : (earlier : ℕ) (reason : Refusal K) → earlier < n → IsWrongAt version parts earlier reason → ⊥
+    none earlier (BadComponent piece) below wrong = wrong.1 (subst IsComponent (get_or-take n parts earlier [] below) (piece_is_component version version_laws v (take n parts) components earlier (omega (arith, below, length-take-le n parts fits))))
+    none earlier reason below wrong = (no_fault_before version version_laws v parts n fits components).none earlier reason below wrong.1
 
-  -- nothing is wrong with components that have no fault
-  pub right_before : (parts : List (List ℕ)) (index : ℕ) → AreComponentsBefore parts index → HasNoFaultBefore version parts index → AreRightBefore version parts index
-  right_before parts index components faultless = record { none = none } where
-    none : (earlier : ℕ) (reason : Refusal K) → earlier < index → IsWrongAt version parts earlier reason → ⊥
-    none earlier (BadComponent piece) below wrong = wrong.1 (components.each earlier below)
-    none earlier reason below wrong = faultless.none earlier reason below wrong.1
+  pub right_all : (v : V) (parts : List (List ℕ)) → AreComponentsOf version parts v → AreRightBefore version parts (length parts)
+  right_all v parts components = right_taken v parts (length parts) (omega arith) (all_taken version v parts components)
 
   pub right_held : (v : V) (parts : List (List ℕ)) (index : ℕ) → AreComponentsOf version parts v → index < length parts → (reason : Refusal K) → IsWrongAt version parts index reason → ⊥
-  right_held v parts index are within reason =
-      (right_before parts (length parts) (record { each = piece_is_component version version_laws v parts are }) (record { none = λ place fault below. no_fault_held version version_laws v parts place are below fault })).none index reason within
+  right_held v parts index components within reason = (right_all v parts components).none index reason within
 
   -- where the vector holds the components before those that are left, what is wrong with the next is the first that is
   module _ (parts left : List (List ℕ)) (v : V) (to : HasReadTo version parts left v) (index : ℕ) (at : index + length left ≡ length parts) where
-    at_place : to.place ≡ index
-    at_place = omega (arith, at, to.within, ap length to.left_is, length-drop to.place parts)
-
-    wrong_at : (reason : Refusal K) → IsWrongFor version v (piece_at parts to.place) reason → IsWrongAt version parts to.place reason
-    wrong_at (BadComponent text) is = is
-    wrong_at reason is = (is.0, fault_at version version_laws v parts to.place to.within to.read.components reason is.1)
+    at_place : length to.before ≡ index
+    at_place = omega (arith, at, ap length to.cut, length-append to.before left)
 
     pub IsFirstWrong-at : (piece : List ℕ) (after : List (List ℕ)) → left ≡ piece ∷ after → (reason : Refusal K) → IsWrongFor version v piece reason → IsFirstWrong version parts index reason
     IsFirstWrong-at piece after cut reason is =
-        let here : piece ≡ piece_at parts to.place = ap (λ list. piece_at list 0) (sym cut ∙ to.left_is) ∙ get_or-drop to.place parts 0 [] ∙ ap (piece_at parts) (omega arith) in
+        let here = first_left version version_laws parts left v to in
         subst (λ place. IsFirstWrong version parts place reason) at_place (record {
-          within = omega (arith, at, at_place, ap length cut);
-          is = wrong_at reason (subst (λ each. IsWrongFor version v each reason) here is);
-          earlier = right_before parts to.place to.components to.read.faultless;
+          within = within;
+          is = wrong_at reason (subst (λ each. IsWrongFor version v each reason) (ap (λ list. piece_at list 0) (sym cut) ∙ here) is);
+          earlier = right_taken v parts (length to.before) (omega (arith, within)) (taken version version_laws parts left v to);
         })
+      where
+        within : length to.before < length parts
+        within = omega (arith, at, at_place, ap length cut)
+
+        wrong_at : (reason : Refusal K) → IsWrongFor version v (piece_at parts (length to.before)) reason → IsWrongAt version parts (length to.before) reason
+        wrong_at (BadComponent text) is = is
+        wrong_at reason is = (is.0, fault_at version version_laws v parts (length to.before) (omega (arith, within)) (taken version version_laws parts left v to) reason is.1)
 
     -- no more components are read than a vector has metrics
     pub HasReadTo-most : index ≤ length version.printed
@@ -90,10 +118,8 @@ module _ {V K : Type 0} (version : Version V K) (version_laws : VersionLaws vers
         omega (
           arith,
           at_place,
-          to.within,
-          length-take-le to.place parts to.within,
-          length_permutation _ _ to.read.components.each_once,
-          length-map (take to.place parts) (read version),
+          length_permutation _ _ to.components.each_once,
+          length-map to.before (read version),
           length-map (components_of version v) (read version),
           filter_map-most (component_of version v) version.printed,
         )
@@ -105,34 +131,14 @@ module _ {V K : Type 0} (version : Version V K) (version_laws : VersionLaws vers
   wrongs_same parts index one (BadComponent _) a b = absurd (b.1 a.0)
   wrongs_same parts index one other a b = faults_same version version_laws parts index one other a.1 b.1
 
-  first_wrongs_same : (parts : List (List ℕ)) (i j : ℕ) (one other : Refusal K) → IsFirstWrong version parts i one → IsFirstWrong version parts j other → (i ≡ j) × (one ≡ other)
+  first_wrongs_same : (parts : List (List ℕ)) (i j : ℕ) (one other : Refusal K) → IsFirstWrong version parts i one → IsFirstWrong version parts j other → (Some i ≡ Some j) × (one ≡ other)
   first_wrongs_same parts i j one other first second =
       let same = same_place i j (λ before. second.earlier.none i one before first.is) (λ before. first.earlier.none j other before second.is) in
-      (same, wrongs_same parts j one other (subst (λ index. IsWrongAt version parts index one) same first.is) second.is)
-
-  -- what is answered, where one vector is, and where one reason is
-  module _ (IsIt : V → Type 0) (IsReason : Option ℕ → Refusal K → Type 0) where
-    pub IsAnswered-Ok : ((v w : V) → IsIt v → IsIt w → v ≡ w) → ((v : V) (index : Option ℕ) (reason : Refusal K) → IsIt v → IsReason index reason → ⊥) → (v : V) → IsIt v → IsAnswered version IsIt IsReason (Ok v)
-    IsAnswered-Ok one none v is = record {
-      accepted = is;
-      accepts = λ w also. ap Ok (one v w is also);
-      refused = tt;
-      refuses = λ index reason why. absurd (none v index reason is why);
-      bound = tt;
-    }
-
-    pub IsAnswered-Err : ((i j : Option ℕ) (one other : Refusal K) → IsReason i one → IsReason j other → (i ≡ j) × (one ≡ other)) → ((v : V) (index : Option ℕ) (reason : Refusal K) → IsIt v → IsReason index reason → ⊥) → (index : Option ℕ) (fault : Fault K) → IsReason index (reason_of version fault) → IfSome index (λ i. i ≤ length version.printed) → IsAnswered version IsIt IsReason (Err (index, fault))
-    IsAnswered-Err same none index fault why bound = record {
-      accepted = tt;
-      accepts = λ v is. absurd (none v index (reason_of version fault) is why);
-      refused = why;
-      refuses = λ j other also. same index j (reason_of version fault) other why also;
-      bound = bound;
-    }
+      (ap Some same, wrongs_same parts j one other (subst (λ index. IsWrongAt version parts index one) same first.is) second.is)
 
   -- set: one vector, one reason, and not both
   module _ (v : V) (parts : List (List ℕ)) where
-    pub set_once : (new other : V) → IsSet version v parts new → IsSet version v parts other → new ≡ other
+    set_once : (new other : V) → IsSet version v parts new → IsSet version v parts other → new ≡ other
     set_once new other is also =
         version_laws.one_vector new other (is.front_is ∙ sym also.front_is) (λ kind.
         is.values kind
@@ -143,18 +149,19 @@ module _ {V K : Type 0} (version : Version V K) (version_laws : VersionLaws vers
     set_no_reason new (Some index) reason is why = right_held is.given parts index is.components why.within reason why.is
     set_no_reason new None reason is why = why
 
-    pub set_reasons_same : (i j : Option ℕ) (one other : Refusal K) → IsSetReason version parts i one → IsSetReason version parts j other → (i ≡ j) × (one ≡ other)
-    set_reasons_same (Some i) (Some j) one other first second =
-        let same = first_wrongs_same parts i j one other first second in (ap Some same.0, same.1)
-    set_reasons_same None j one other first second = absurd first
-    set_reasons_same i None one other first second = absurd second
+    pub set_sole : IsSole (IsSet version v parts) (IsSetReason version parts)
+    set_sole = record { one = set_once; one_reason = reasons_same; none = set_no_reason } where
+      reasons_same : (i j : Option ℕ) (one other : Refusal K) → IsSetReason version parts i one → IsSetReason version parts j other → (i ≡ j) × (one ≡ other)
+      reasons_same (Some i) (Some j) one other first second = first_wrongs_same parts i j one other first second
+      reasons_same None j one other first second = absurd first
+      reasons_same i None one other first second = absurd second
 
     -- no component: the vector itself
     pub IsSet-none : (empty : V) → HasNoValue version empty → parts ≡ [] → IsSet version v parts v
     IsSet-none empty valueless none = record {
       given = empty;
-      components = subst (λ each. AreComponentsOf version each empty) (sym none) (HasRead-none version version_laws [] empty valueless).components;
-      values = λ kind. sym (or_none (version.value_of empty kind) (version.value_of v kind) (valueless.none kind));
+      components = subst (λ each. AreComponentsOf version each empty) (sym none) (AreComponentsOf-none version version_laws empty valueless);
+      values = λ kind. sym (ap (λ each. option_or each (version.value_of v kind)) (valueless.none kind));
       front_is = refl;
     }
 
@@ -165,54 +172,49 @@ module _ {V K : Type 0} (version : Version V K) (version_laws : VersionLaws vers
     }
 
   -- build: one vector, one reason, and not both
-  module _ (front parts : List (List ℕ)) where
-    pub built_once : (v w : V) → IsBuilt version front parts v → IsBuilt version front parts w → v ≡ w
-    built_once v w is also = vectors_same version version_laws v w parts (is.front_is ∙ sym also.front_is) is.components also.components
+  pub build_sole : (front parts : List (List ℕ)) → IsSole (IsBuilt version front parts) (IsBuildReason version parts)
+  build_sole front parts = record {
+    one = λ v w is also. vectors_same version version_laws v w parts (is.front_is ∙ sym also.front_is) is.components also.components;
+    one_reason = one_reason;
+    none = none;
+  } where
+    none : (v : V) (index : Option ℕ) (reason : Refusal K) → IsBuilt version front parts v → IsBuildReason version parts index reason → ⊥
+    none v (Some index) reason is why = right_held v parts index is.components why.within reason why.is
+    none v None (Missing kind) is why = no_reason version version_laws v parts is.components is.complete (Missing kind) why.1
+    none v None _ is why = absurd why
 
-    pub built_no_reason : (v : V) (index : Option ℕ) (reason : Refusal K) → IsBuilt version front parts v → IsBuildReason version parts index reason → ⊥
-    built_no_reason v (Some index) reason is why = right_held v parts index is.components why.within reason why.is
-    built_no_reason v None (Missing kind) is why = no_reason version version_laws v parts is.components is.complete (Missing kind) why.1
-    built_no_reason v None _ is why = absurd why
+    one_reason : (i j : Option ℕ) (one other : Refusal K) → IsBuildReason version parts i one → IsBuildReason version parts j other → (i ≡ j) × (one ≡ other)
+    one_reason (Some i) (Some j) one other first second = first_wrongs_same parts i j one other first second
+    one_reason (Some i) None one (Missing other) first second = absurd (second.0.none i one first.within first.is)
+    one_reason None (Some j) (Missing one) other first second = absurd (first.0.none j other second.within second.is)
+    one_reason None None (Missing one) (Missing other) first second = (refl, reasons_same version version_laws parts (Missing one) (Missing other) first.1 second.1)
+    one_reason (Some i) None one _ first second = absurd second
+    one_reason None None (Missing one) _ first second = absurd second
+    one_reason None _ _ _ first second = absurd first
 
-  pub build_reasons_same : (parts : List (List ℕ)) (i j : Option ℕ) (one other : Refusal K) → IsBuildReason version parts i one → IsBuildReason version parts j other → (i ≡ j) × (one ≡ other)
-  build_reasons_same parts (Some i) (Some j) one other first second =
-      let same = first_wrongs_same parts i j one other first second in (ap Some same.0, same.1)
-  build_reasons_same parts (Some i) None one (Missing other) first second = absurd (second.0.none i one first.within first.is)
-  build_reasons_same parts (Some i) None one _ first second = absurd second
-  build_reasons_same parts None (Some j) (Missing one) other first second = absurd (first.0.none j other second.within second.is)
-  build_reasons_same parts None None (Missing one) (Missing other) first second = (refl, reasons_same version version_laws parts (Missing one) (Missing other) first.1 second.1)
-  build_reasons_same parts None None (Missing one) _ first second = absurd second
-  build_reasons_same parts None _ _ _ first second = absurd first
+  module _ (given own : V) where
+    pub IsCompletedTo-start : IsCompletedTo version given own 0 given
+    IsCompletedTo-start = record { completed = λ kind below. absurd (omega (arith, below)); either = λ kind. inl refl; front = refl }
 
-  pub IsCompletedTo-start : (given own : V) → IsCompletedTo version given own 0 given
-  IsCompletedTo-start given own = record { copied = λ kind below. absurd (omega (arith, below)); kept = λ kind _. refl; front = refl }
+    completed_here : (kind : K) (old new : V) → IsCopied version own kind old new → (version.value_of old kind ≡ version.value_of given kind) ⊎ IsCompletedAt version given own old kind → IsCompletedAt version given own new kind
+    completed_here kind old new is (inl kept) = is.here ∙ ap (λ each. option_or each (version.value_of own kind)) kept
+    completed_here kind old new is (inr done) = is.here ∙ ap (λ each. option_or each (version.value_of own kind)) done ∙ or_twice (version.value_of given kind) (version.value_of own kind)
 
-  one_at_place : (kind other : K) → place_of version other ≡ place_of version kind → kind ≡ other
-  one_at_place kind other same = same_Some kind other (sym (version_laws.placed kind) ∙ (ap (slice_get version.printed) (sym same) ∙ version_laws.placed other))
+    pub IsCompletedTo-more : (index : ℕ) (kind : K) → slice_get version.printed index ≡ Some kind → (old new : V) → IsCopied version own kind old new → IsCompletedTo version given own index old → IsCompletedTo version given own (index + 1) new
+    IsCompletedTo-more index kind at old new is before =
+        let here = completed_here kind old new is (before.either kind) in
+        let at_kind : (other : K) → kind ≡ other → IsCompletedAt version given own new other = λ other same. subst (IsCompletedAt version given own new) same here in
+        record {
+          completed = λ other below. elim (cases_lt (place_of version other) index) [
+            | inl earlier ↦ elim (is.others other) [ inl same ↦ at_kind other (sym same) | inr same ↦ same ∙ before.completed other earlier ]
+            | inr back ↦ at_kind other (same_Some kind other (sym at ∙ ap (slice_get version.printed) (omega (arith, back, below)) ∙ version_laws.placed other))
+          ];
+          either = λ other. elim (is.others other) [
+            | inl same ↦ inr (at_kind other (sym same))
+            | inr same ↦ elim (before.either other) [ inl kept ↦ inl (same ∙ kept) | inr done ↦ inr (same ∙ done) ]
+          ];
+          front = is.front ∙ before.front;
+        }
 
-  module _ (given own : V) (index : ℕ) (kind : K) (at : place_of version kind ≡ index) (old new : V) (is : IsCopied version own kind old new) (before : IsCompletedTo version given own index old) where
-    copied_here : version.value_of new kind ≡ option_or (version.value_of given kind) (version.value_of own kind)
-    copied_here = is.here ∙ ap (λ each. option_or each (version.value_of own kind)) (before.kept kind (omega (arith, at)))
-
-    copied_to : (other : K) → place_of version other < index + 1 → version.value_of new other ≡ option_or (version.value_of given other) (version.value_of own other)
-    copied_to other below = elim (cases_lt (place_of version other) index) [
-      | inl earlier ↦ elim (is.others other) [
-        | inl same ↦ absurd (omega (arith, earlier, at, ap (place_of version) same))
-        | inr same ↦ same ∙ before.copied other earlier
-      ]
-      | inr back ↦ subst (λ each. version.value_of new each ≡ option_or (version.value_of given each) (version.value_of own each)) (one_at_place kind other (omega (arith, at, back, below))) copied_here
-    ]
-
-    pub IsCompletedTo-more : IsCompletedTo version given own (index + 1) new
-    IsCompletedTo-more = record {
-      copied = copied_to;
-      kept = λ other from. elim (is.others other) [
-        | inl same ↦ absurd (omega (arith, from, at, ap (place_of version) same))
-        | inr same ↦ same ∙ before.kept other (omega (arith, from))
-      ];
-      front = is.front ∙ before.front;
-    }
-
-  pub IsCompletedTo-all : (given own v : V) → IsCompletedTo version given own (length version.printed) v → (kind : K) → version.value_of v kind ≡ option_or (version.value_of given kind) (version.value_of own kind)
-  IsCompletedTo-all given own v all kind =
-      all.copied kind (slice_get_within version.printed (place_of version kind) kind (version_laws.placed kind))
+    pub IsCompletedTo-all : (v : V) → IsCompletedTo version given own (length version.printed) v → (kind : K) → IsCompletedAt version given own v kind
+    IsCompletedTo-all v all kind = all.completed kind (slice_get_within version.printed (place_of version kind) kind (version_laws.placed kind))

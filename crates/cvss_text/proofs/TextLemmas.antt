@@ -1,14 +1,13 @@
 -- Texts as they are read, and components cut at their colon.
-use Rattle.std.proofs.Common.{◌≡◌, ℕ, ◌+◌, ◌<◌, Bool, true, false, cond, eqb, ltb, inl, inr, List, [], ◌∷◌, ◌++◌, length, drop, refl, sym, ap, ◌∙◌, arith}
+use Rattle.std.proofs.Common.{◌≡◌, ℕ, ◌+◌, Bool, true, false, cond, eqb, ltb, List, [], ◌∷◌, length, drop, refl, sym, ap, ◌∙◌, arith}
 use Rattle.std.specs.Char.{to_ascii_uppercase}
 use Rattle.std.specs.List.{All, count_by, position_or_len}
-use Rattle.std.proofs.lemmas.Bool.{eqb-true, false_from_ne_true, cases_lt}
+use Rattle.std.proofs.lemmas.Bool.{false_from_ne_true}
 use Rattle.std.proofs.lemmas.Bool.Decides.{nat_tests}
 use Rattle.std.proofs.lemmas.List.{map-append, take-map, drop-map, take_at, drop_at, drop-drop, length-append, get_or_append_left, get_or_at}
-use Rattle.std.proofs.lemmas.List.Elements.{All-head, All-tail}
 use Rattle.std.proofs.lemmas.List.Folds.{fold-map}
-use Rattle.std.proofs.lemmas.List.Sums.{sum_by-cons, sum_by-append, get_or-le-sum_by, split_at_first, passes_at_first, fails_before_first, position_or_len_is}
-use Rattle.cvss_base.specs.Text.{slash, colon, IsComponent, name_part, value_part, component, uppercased, read_as}
+use Rattle.std.proofs.lemmas.List.Sums.{sum_by-cons, sum_by-append, get_or-le-sum_by, position_or_len_is}
+use Rattle.cvss_base.specs.Text.{slash, colon, name_part, value_part, component, uppercased, read_as}
 use Rattle.cvss_base.specs.private.Component.{is_delimiter, delimiter_bytes}
 
 abbrev pub is_slash : ℕ → Bool
@@ -29,14 +28,9 @@ uppercased_colon byte = grind (arith, nat_tests)
 uppercased_delimiter : (byte : ℕ) → is_delimiter (to_ascii_uppercase byte) ≡ is_delimiter byte
 uppercased_delimiter byte = grind (arith, nat_tests)
 
--- a test that does not see whether letters are in upper case
-module _ (p : ℕ → Bool) (keeps : (byte : ℕ) → p (to_ascii_uppercase byte) ≡ p byte) where
-  position-uppercased : (text : List ℕ) → position_or_len p (uppercased text) ≡ position_or_len p text
-  position-uppercased [] = refl
-  position-uppercased (byte ∷ text) = cc (keeps byte, position-uppercased text)
-
-  count_by-uppercased : (text : List ℕ) → count_by p (uppercased text) ≡ count_by p text
-  count_by-uppercased text = fold-map (λ n x. n + cond (p x) 1 0) to_ascii_uppercase 0 text ∙ simp keeps
+position-uppercased : (text : List ℕ) → position_or_len is_colon (uppercased text) ≡ position_or_len is_colon text
+position-uppercased [] = refl
+position-uppercased (byte ∷ text) = cc (uppercased_colon byte, position-uppercased text)
 
 -- how the parts of a piece are read
 pub read-component : (any_case : Bool) (name value : List ℕ) → read_as any_case (component name value) ≡ component (read_as any_case name) (read_as any_case value)
@@ -44,29 +38,23 @@ read-component true name value = map-append to_ascii_uppercase name (colon ∷ v
 read-component false name value = refl
 
 pub name_part-read : (any_case : Bool) (piece : List ℕ) → name_part (read_as any_case piece) ≡ read_as any_case (name_part piece)
-name_part-read true piece = rw (position-uppercased is_colon uppercased_colon piece) (take-map to_ascii_uppercase _ piece)
+name_part-read true piece = rw (position-uppercased piece) (take-map to_ascii_uppercase _ piece)
 name_part-read false piece = refl
 
 pub value_part-read : (any_case : Bool) (piece : List ℕ) → value_part (read_as any_case piece) ≡ read_as any_case (value_part piece)
-value_part-read true piece = rw (position-uppercased is_colon uppercased_colon piece) (drop-map to_ascii_uppercase _ piece)
+value_part-read true piece = rw (position-uppercased piece) (drop-map to_ascii_uppercase _ piece)
 value_part-read false piece = refl
 
+-- a test that does not see whether letters are in upper case
+count-read : (p : ℕ → Bool) → ((byte : ℕ) → p (to_ascii_uppercase byte) ≡ p byte) → (any_case : Bool) (piece : List ℕ) → count_by p (read_as any_case piece) ≡ count_by p piece
+count-read p keeps true piece = fold-map (λ n x. n + cond (p x) 1 0) to_ascii_uppercase 0 piece ∙ simp keeps
+count-read p keeps false piece = refl
+
 pub delimiter_bytes-read : (any_case : Bool) (piece : List ℕ) → delimiter_bytes (read_as any_case piece) ≡ delimiter_bytes piece
-delimiter_bytes-read true piece = count_by-uppercased is_delimiter uppercased_delimiter piece
-delimiter_bytes-read false piece = refl
+delimiter_bytes-read = count-read is_delimiter uppercased_delimiter
 
 pub IsPart-read : (any_case : Bool) (piece : List ℕ) → IsPart (read_as any_case piece) → IsPart piece
-IsPart-read true piece is = record {
-  one_colon = sym (count_by-uppercased is_colon uppercased_colon piece) ∙ is.one_colon;
-  one_delimiter = sym (delimiter_bytes-read true piece) ∙ is.one_delimiter;
-}
-IsPart-read false piece is = is
-
--- elements that fail count nothing
-pub count_by-none : {X : Type 0} (p : X → Bool) (xs : List X) → All (λ x. p x ≡ false) xs → count_by p xs ≡ 0
-count_by-none p [] none = refl
-count_by-none p (x ∷ xs) none =
-    omega (arith, sum_by-cons (λ x. cond (p x) 1 0) x xs, ap (λ b. cond {A = ℕ} b 1 0) (All-head (λ x. p x ≡ false) x xs none), count_by-none p xs (All-tail (λ x. p x ≡ false) x xs none))
+IsPart-read any_case piece is = record { one_colon = sym (count-read is_colon uppercased_colon any_case piece) ∙ is.one_colon; one_delimiter = sym (delimiter_bytes-read any_case piece) ∙ is.one_delimiter }
 
 -- bytes that pass a test, by their count
 module _ (p : ℕ → Bool) where
@@ -76,18 +64,6 @@ module _ (p : ℕ → Bool) where
   pub All-from_count : (text : List ℕ) → count_by p text ≡ 0 → All (λ byte. p byte ≡ false) text
   All-from_count text none k d inside =
       false_from_ne_true _ (λ passes. omega (arith, get_or-le-sum_by (λ x. cond (p x) 1 0) text k d inside, ap (λ b. cond {A = ℕ} b 1 0) passes))
-
-  position-none : (text rest : List ℕ) (byte : ℕ) → count_by p text ≡ 0 → p byte ≡ true → position_or_len p (text ++ byte ∷ rest) ≡ length text
-  position-none text rest byte none passes =
-      position_or_len_is p (text ++ byte ∷ rest) (length text) byte (omega (arith, length-append text (byte ∷ rest)))
-      (λ k below. rw (get_or_append_left text (byte ∷ rest) byte k below) (All-from_count text none k byte below))
-      (λ _. rw (get_or_at text byte rest byte (length text) refl) passes)
-
-  pub position-within : (text : List ℕ) → count_by p text ≡ 1 → position_or_len p text < length text
-  position-within text one = elim (cases_lt (position_or_len p text) (length text)) [
-    | inl within ↦ within
-    | inr past ↦ absurd (omega (arith, count_by-none p text (λ k d inside. fails_before_first p text k d (omega arith))))
-  ]
 
 -- a delimiter byte is a slash, a colon or beyond ASCII
 one_sort : (byte : ℕ) → cond {A = ℕ} (is_delimiter byte) 1 0 ≡ cond {A = ℕ} (is_slash byte) 1 0 + cond {A = ℕ} (is_colon byte) 1 0 + cond {A = ℕ} (ltb 127 byte) 1 0
@@ -101,7 +77,10 @@ delimiter_sorts (byte ∷ text) =
 -- a component whose name has no colon is cut there
 module _ (name value : List ℕ) (no_colon : count_by is_colon name ≡ 0) where
   colon_place : position_or_len is_colon (component name value) ≡ length name
-  colon_place = position-none is_colon name value colon no_colon refl
+  colon_place =
+      position_or_len_is is_colon (component name value) (length name) colon (omega (arith, length-append name (colon ∷ value)))
+      (λ k below. rw (get_or_append_left name (colon ∷ value) colon k below) (All-from_count is_colon name no_colon k colon below))
+      (λ _. rw (get_or_at name colon value colon (length name) refl) refl)
 
   pub name_before : name_part (component name value) ≡ name
   name_before = rw colon_place (take_at name (colon ∷ value) (length name) refl)
@@ -124,10 +103,3 @@ module _ (name value : List ℕ) (name_plain : delimiter_bytes name ≡ 0) where
     one_colon = omega (arith, counted is_colon, delimiter_sorts name, delimiter_sorts value);
     one_delimiter = omega (arith, counted is_delimiter);
   }
-
--- a piece with a colon is its name, the colon and its value
-pub colon-parts : (piece : List ℕ) → position_or_len is_colon piece < length piece → piece ≡ component (name_part piece) (value_part piece)
-colon-parts piece within = split_at_first is_colon piece 0 within ∙ rw (eqb-true _ _ (passes_at_first is_colon piece 0 within))
-
-pub component-parts : (piece : List ℕ) → IsComponent piece → piece ≡ component (name_part piece) (value_part piece)
-component-parts piece is = colon-parts piece (position-within is_colon piece is.one_colon)

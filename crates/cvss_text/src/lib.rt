@@ -3,6 +3,7 @@
 //! the errors that say why a text is no vector.
 #![tactic(auto)]
 
+mod beginning;
 pub mod buffer;
 pub mod cutting;
 pub mod fast_path;

@@ -56,6 +56,7 @@ impl<V: Listed> Iterator for Metrics<V> {
 }
 
 /// How the vector's value for a metric is spelled.
+#[tactic(auto, using(crate::proofs::LawLemmas::helds))]
 pub fn spelled<V: Printed>(vector: &V, kind: V::Kind) -> Option<&'static str>
     ensures { option_copied result ≡ held V.version vector.now kind }
 {

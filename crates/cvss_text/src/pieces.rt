@@ -1,8 +1,8 @@
 //! How the text of a vector is cut into pieces, and a component into its name and its value.
 
-ghost use Rattle.std.specs.Prelude.{◌≡◌, ◌↔◌, ◌∷◌, [], IsTrue, IfSome, MatchOption, Some, length, ◌==◌, position};
+ghost use Rattle.std.specs.Prelude.{◌≡◌, ◌↔◌, ◌∷◌, ℕ, List, [], IsTrue, IfSome, MatchOption, Some, length, ◌==◌, position};
 ghost use Rattle.cvss_base.specs.Text.{IsComponent, pieces};
-ghost use Rattle.cvss_text.specs.private.Pieces.{pieces_left, AreParts, IsAfterComponent, IsWithoutColon};
+ghost use Rattle.cvss_text.specs.private.Pieces.{pieces_left, AreParts, IsAfterComponent, IsAfterComponents, IsWithoutColon};
 ghost use Rattle.cvss_base.specs.Refusal.{AreComponentsBefore, IsFirstBadPiece, piece_at};
 
 /// The pieces of a text, cut at each slash.
@@ -42,6 +42,7 @@ pub fn front_of(text: &[u8]) -> (&[u8], Pieces<'_>)
 }
 
 /// The same, by a search for the slash.
+#[tactic(auto, using(crate::proofs::PieceLemmas::cuts))]
 fn cut_at_slash(text: &[u8]) -> (&[u8], Pieces<'_>)
     ensures { pieces text.now ≡ result.0.now ∷ pieces_left result.1 }
 {
@@ -71,12 +72,12 @@ pub fn is_component(piece: &[u8]) -> bool
     piece.iter().filter(|byte| **byte == b':').count() == 1
 }
 
-/// The first piece of a text that is no component.
+/// The first piece of a text that is no component, as the first of all pieces where components are
+/// before the text.
 #[inline(always)]
 pub fn first_bad_piece(text: &[u8]) -> Option<&[u8]>
-    ensures { MatchOption result
-        (AreComponentsBefore (pieces text.now) (length (pieces text.now)))
-        (λ piece. IsFirstBadPiece (pieces text.now) piece.now) }
+    ensures { (parts : List (List ℕ)) → IsAfterComponents parts (pieces text.now) → MatchOption result
+        (AreComponentsBefore parts (length parts)) (λ piece. IsFirstBadPiece parts piece.now) }
 {
     let mut left = pieces_of(text);
     while let Some(rest) = left.text() {
@@ -152,6 +153,7 @@ fn after_any_component(text: &[u8]) -> Option<Pieces<'_>>
 }
 
 /// The texts before and after the first colon of a piece.
+#[tactic(auto, using(crate::proofs::PieceLemmas::cuts))]
 pub fn parts_of(piece: &[u8]) -> Option<(&[u8], &[u8])>
     ensures { MatchOption result (IsWithoutColon piece.now)
         (λ parts. AreParts piece.now parts.0.now parts.1.now) }

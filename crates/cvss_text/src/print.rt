@@ -23,6 +23,7 @@ pub trait Printed: Components {
 
 /// Writes the canonical text of a vector after the piece that says its version into an empty buffer,
 /// and gives it.
+#[tactic(auto, using(crate::proofs::PrintLemmas::joins))]
 #[inline(always)]
 pub fn text_after<'a, V: Printed>(
     piece: [u8; 8],

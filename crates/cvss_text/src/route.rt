@@ -99,6 +99,7 @@ fn cut_after_four(text: &[u8]) -> Option<([u8; 4], &[u8])>
 
 /// What follows a component with a name of two letters and a value of one, and a slash: so begin most
 /// vectors of CVSS v2. `None` says nothing of the text.
+#[tactic(auto, using(crate::proofs::PieceLemmas::short_routed))]
 #[inline(always)]
 fn after_short_component(text: &[u8]) -> Option<&[u8]>
     ensures { IfSome result (λ rest. route_of text.now ≡ ToV20) }
@@ -110,6 +111,7 @@ fn after_short_component(text: &[u8]) -> Option<&[u8]>
 }
 
 /// By the rules of which version a text is read, where the end of its first piece has to be sought.
+#[tactic(auto, using(crate::proofs::PieceLemmas::first_utf8))]
 fn route_by_front(text: &[u8]) -> Route<'_>
     ensures route { as_route result ≡ route_of text.now }
     ensures after { IsAfterVersion (pieces text.now) result }

@@ -1,11 +1,12 @@
 //! How metrics are set in a vector, and how a vector is built from metrics alone, once for all
 //! versions. It takes no memory: a fault borrows the part of the text that it names.
 
-ghost use Rattle.std.specs.Prelude.{◌≡◌, ◌≤◌, [], IfOk, IfErr, OnOk, IfSome, Some, length};
-ghost use Rattle.cvss_base.specs.Text.{IsComponent, pieces};
+ghost use Rattle.std.specs.Prelude.{◌≡◌, ◌≤◌, IfOk, IfErr, OnOk, Some, length};
+ghost use Rattle.cvss_base.specs.Text.{pieces};
+ghost use Rattle.cvss_base.specs.Version.{AreComponentsOf};
 ghost use Rattle.cvss_text.specs.Setting.{IsBuildReason, IsBuilt, IsFirstWrong, IsSet, IsSetReason, components_in};
 ghost use Rattle.cvss_text.specs.private.SettingSteps.{IsAnswered, IsCopied, IsWrongFor};
-ghost use Rattle.cvss_text.specs.private.Walk.{Adds, HasNoValue, HasReadTo, reason_of};
+ghost use Rattle.cvss_text.specs.private.Walk.{Adds, HasNoValue, reason_of};
 ghost use Rattle.std.specs.Option.{option_or};
 
 use crate::metrics::spelled;
@@ -62,7 +63,7 @@ pub fn read_given<'a, V: Components>(
     empty: V,
 ) -> Result<V, (usize, Fault<'a, V::Kind>)>
     requires { HasNoValue V.version empty }
-    ensures read { IfOk result (HasReadTo V.version (pieces text.now) []) }
+    ensures components { IfOk result (AreComponentsOf V.version (pieces text.now)) }
     ensures front { IfOk result (λ given. V.version.front given ≡ V.version.front empty) }
     ensures refused { IfErr result (λ refused. IsFirstWrong V.version (pieces text.now) refused.0
         (reason_of V.version refused.1)) }
@@ -84,7 +85,6 @@ pub fn read_given<'a, V: Components>(
 
 /// Reads one component into the vector that holds those before it.
 fn read_one<'a, V: Components>(piece: &'a [u8], given: &mut V) -> Result<(), Fault<'a, V::Kind>>
-    ensures component { OnOk result (IsComponent piece.now) }
     ensures read { OnOk result (Adds V.version given.old piece.now given.new) }
     ensures refused { IfErr result
         (λ fault. IsWrongFor V.version given.old piece.now (reason_of V.version fault)) }

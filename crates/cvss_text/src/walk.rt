@@ -1,15 +1,16 @@
 //! The walk over a vector's components, once for all versions. It takes no memory: a fault borrows
 //! the part of the text that it names.
 
-ghost use Rattle.std.specs.Prelude.{◌≡◌, ◌∷◌, ℕ, List, IfSome, IfOk, IfErr, OnOk, Some, None, length, All, IsUtf8};
+ghost use Rattle.std.specs.Prelude.{◌≡◌, ◌∷◌, ℕ, List, IfSome, IfOk, IfErr, OnOk, Some, None, All, IsUtf8};
 ghost use Rattle.cvss_text.specs.private.Pieces.{pieces_left};
-ghost use Rattle.cvss_base.specs.Text.{IsComponent, pieces, slash};
-ghost use Rattle.cvss_base.specs.Version.{Version, read};
-ghost use Rattle.cvss_base.specs.Refusal.{AreComponentsBefore, piece_at};
-ghost use Rattle.cvss_text.specs.private.Walk.{HasNoValue, HasReadTo, IsAnswerBare, IsEmpty, IsFilled, IsInOrderTo, IsPut, IsCut, IsReadFirst, IsReadLeft, IsMissingFault, IsWhole, VersionLaws, Puts, Adds, HasRead, IsFaultOf, IsFirstOfPieces, first_missing, IsPrintable, reason_of};
+ghost use Rattle.cvss_base.specs.Text.{IsComponent, pieces};
+ghost use Rattle.cvss_base.specs.Version.{AreComponentsOf, Version, read};
+ghost use Rattle.cvss_base.specs.Refusal.{piece_at};
+ghost use Rattle.cvss_text.specs.private.Walk.{HasNoValue, IsAnswerBare, IsEmpty, IsFilled, IsInOrderTo, IsPut, IsCut, IsReadLeft, IsWhole, VersionLaws, Puts, Adds, IsFaultOf, IsFirstOfPieces, first_missing, IsPrintable, reason_of};
 
+use crate::beginning::begin;
 use crate::cutting::{cut_component, cut_first};
-use crate::pieces::{Pieces, first_bad_piece, pieces_of};
+use crate::pieces::{Pieces, first_bad_piece};
 
 /// Why a value does not go into a vector.
 #[derive(Drop)]
@@ -119,7 +120,6 @@ pub fn read_component<'a, V: Components>(
     piece: &'a [u8],
     vector: &mut V,
 ) -> Result<(), Fault<'a, V::Kind>>
-    ensures component { OnOk result (IsComponent piece.now) }
     ensures read { OnOk result (Adds V.version vector.old piece.now vector.new) }
     ensures refused { IfErr result (λ fault. IsComponent piece.now
         → IsFaultOf V.version vector.old piece.now (reason_of V.version fault)) }
@@ -155,8 +155,8 @@ fn read_first<'a, V: Components>(
     text: &'a [u8],
     vector: &mut V,
 ) -> Result<Pieces<'a>, Fault<'a, V::Kind>>
-    ensures read { IfOk result (λ left.
-        IsReadFirst V.version text.now vector.old vector.new (pieces_left left)) }
+    ensures read { IfOk result (λ left. (piece : List ℕ) × (pieces text.now ≡ piece ∷ pieces_left left)
+        × Adds V.version vector.old piece vector.new) }
     ensures refused { IfErr result (λ fault. IsComponent (piece_at (pieces text.now) 0)
         → IsFaultOf V.version vector.old (piece_at (pieces text.now) 0)
         (reason_of V.version fault)) }
@@ -167,58 +167,6 @@ fn read_first<'a, V: Components>(
     Ok(left)
 }
 
-/// Begins to read a text of components: the vector gets those with which it begins in printing order.
-/// The pieces after them are left.
-#[inline(always)]
-fn begin<'a, V: Components>(text: &'a [u8], vector: &mut V) -> Pieces<'a>
-    requires { HasNoValue V.version vector.old }
-    ensures read { HasReadTo V.version (pieces text.now) (pieces_left result) vector.new }
-    ensures front { V.version.front vector.new ≡ V.version.front vector.old }
-{
-    match vector.begun_in_order(text) {
-        Some((begun, rest)) => begin_after(text, begun, rest, vector),
-        None => pieces_of(text),
-    }
-}
-
-/// The same after the components of a vector, with which the text begins in printing order.
-#[inline(always)]
-fn begin_after<'a, V: Components>(
-    text: &'a [u8],
-    begun: V,
-    rest: &'a [u8],
-    vector: &mut V,
-) -> Pieces<'a>
-    requires valueless { HasNoValue V.version vector.old }
-    requires in_order { IsInOrderTo V.version (V.version.front vector.old) text.now begun rest.now }
-    ensures read { HasReadTo V.version (pieces text.now) (pieces_left result) vector.new }
-    ensures front { V.version.front vector.new ≡ V.version.front vector.old }
-{
-    if rest.is_empty() {
-        *vector = begun;
-        return Pieces::none();
-    }
-    match after_slash(rest) {
-        Some(left) => {
-            *vector = begun;
-            pieces_of(left)
-        }
-        // What was read does not end where a component does.
-        None => pieces_of(text),
-    }
-}
-
-/// What follows the slash with which a text begins.
-#[inline(always)]
-fn after_slash(text: &[u8]) -> Option<&[u8]>
-    ensures { IfSome result (λ rest. text.now ≡ slash ∷ rest.now) }
-{
-    match text {
-        [b'/', rest @ ..] => Some(rest),
-        _ => None,
-    }
-}
-
 /// Reads a text of components into a vector without values.
 // A call of its own keeps the vector in memory, which is faster than a local for each field.
 #[inline(never)]
@@ -227,10 +175,7 @@ fn read_components<'a, V: Components>(
     vector: &mut V,
 ) -> Result<(), Fault<'a, V::Kind>>
     requires { HasNoValue V.version vector.old }
-    ensures read { OnOk result
-        (HasRead V.version (pieces text.now) (length (pieces text.now)) vector.new) }
-    ensures components { OnOk result
-        (AreComponentsBefore (pieces text.now) (length (pieces text.now))) }
+    ensures components { OnOk result (AreComponentsOf V.version (pieces text.now) vector.new) }
     ensures front { OnOk result (V.version.front vector.new ≡ V.version.front vector.old) }
     ensures refused { IfErr result (λ fault.
         IsFirstOfPieces V.version (pieces text.now) (reason_of V.version fault)) }
@@ -264,11 +209,12 @@ pub fn read_text<'a, V: Components>(
     check_complete(vector)
 }
 
-/// Whether the vector has each metric that every vector has.
+/// Whether the vector, which was read whole, has each metric that every vector has.
 #[inline(always)]
 pub(crate) fn check_complete<'a, V: Components>(vector: &V) -> Result<(), Fault<'a, V::Kind>>
-    ensures complete { OnOk result (first_missing V.version vector.now ≡ None) }
-    ensures missing { IfErr result (IsMissingFault V.version vector.now) }
+    ensures { (left : List (List ℕ)) (empty : V) → AreComponentsOf V.version left vector.now
+        → V.version.front vector.now ≡ V.version.front empty
+        → IsReadLeft V.version left empty result vector.now }
 {
     match vector.first_missing() {
         Some(kind) => Err(Fault::MissingMandatoryMetric(kind)),

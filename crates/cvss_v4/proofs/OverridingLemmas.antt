@@ -1,22 +1,22 @@
 -- Overrides: the environmental metrics, and texts that are read one after another.
-use Rattle.std.proofs.Common.{◌≡◌, true, true≢false, inl, inr, ℕ, ◌+◌, ◌<◌, Option, List, [], ◌∷◌, ◌++◌, codes, length, IsSome, Contains, below_more, refl, sym, ap, ◌∙◌, subst, arith}
+use Rattle.std.proofs.Common.{◌≡◌, true, true≢false, inl, inr, ℕ, ◌+◌, ◌<◌, Option, List, [], ◌∷◌, ◌++◌, codes, length, take, IsSome, Contains, below_more, refl, sym, ap, ◌∙◌, subst, arith}
 use Rattle.std.specs.Option.{option_or}
+use Rattle.std.proofs.lemmas.List.{take_all, take_more}
 use Rattle.std.proofs.lemmas.List.Elements.{All-contains, filter_passes}
 use Rattle.cvss_base.specs.Refusal.{Refusal, BadComponent, Repeated, piece_at, name_at, FaultAt}
 use Rattle.cvss_base.specs.Text.{IsComponent, name_part}
 use Rattle.cvss_base.specs.Groups.{same_group}
 use Rattle.cvss_base.specs.V4Types.{name_of, group_of, declared}
-use Rattle.cvss_base.specs.Version.{numeral, read, version_piece, IsComplete}
-use Rattle.cvss_text.specs.private.Walk.{HasNoValue, IsFaultOf}
+use Rattle.cvss_base.specs.Version.{AreComponentsOf, numeral, read, version_piece, IsComplete}
+use Rattle.cvss_text.specs.private.Walk.{Adds, HasNoValue, IsFaultOf}
 use Rattle.cvss_base.specs.declared.group.MetricGroup.{MetricGroup}
 use Rattle.cvss_base.specs.declared.group.MetricGroup.TheVariants.{Base, Environmental}
 use Rattle.cvss_base.specs.declared.v4.MetricType.{MetricType}
-use Rattle.cvss_text.proofs.ComponentLemmas.{piece_held}
-use Rattle.cvss_text.proofs.DenotesLemmas.{no_fault_held, vectors_same}
-use Rattle.cvss_text.proofs.JoinLemmas.{piece_is_component}
+use Rattle.cvss_text.proofs.ComponentLemmas.{adds_component, name_from, piece_held, piece_is_component}
+use Rattle.cvss_text.proofs.DenotesLemmas.{no_fault_before, no_fault_held, vectors_same}
 use Rattle.cvss_text.proofs.LawLemmas.{names_differ}
 use Rattle.cvss_text.proofs.RefusalLemmas.{same_place, faults_same}
-use Rattle.cvss_text.proofs.WalkLemmas.{fault_at, name_from, AreComponentsOf-all, HasRead-none, HasRead-more}
+use Rattle.cvss_text.proofs.WalkLemmas.{AreComponentsOf-none, fault_at}
 use Rattle.cvss_v4.proofs.CompleteLemmas.{none_is_none}
 use Rattle.cvss_v4_metric.specs.Table.{mandatory}
 use Rattle.cvss_v4.specs.Overriding.{AreOverrides, IsOverridden, NamesOther, Objection, OfOtherGroup, OfText, ObjectionAt, IsFirstObjection}
@@ -46,7 +46,7 @@ no_objection_at texts place kind is named environment none (OfText reason) at = 
 pub HasReadOverrides-none : (texts : List (List ℕ)) (v : Vector) → v.minor_version ≡ 0 → HasNoValue v4 v → HasReadOverrides texts 0 v
 HasReadOverrides-none texts v version empty = record {
   version = version;
-  read = HasRead-none v4 v4_laws texts v empty;
+  read = AreComponentsOf-none v4 v4_laws v empty;
   environmental = record { each = λ kind some. absurd (none_is_none (value_at v kind) (empty.none kind) some) };
   faultless = record { none = λ earlier objection below. absurd (omega arith) };
 }
@@ -55,9 +55,10 @@ module _ (texts : List (List ℕ)) (place : ℕ) (within : place < length texts)
   pub HasReadOverrides-more : (old new : Vector) → IsComponent text → AddsOverride old text new → HasReadOverrides texts place old → HasReadOverrides texts (place + 1) new
   HasReadOverrides-more old new is added before =
       let adds = added.adds in
-      let all = HasRead-more v4 v4_laws texts place within text here old new is adds before.read in
+      let at_place = subst (λ piece. Adds v4 old piece new) here adds in
+      let all : AreComponentsOf v4 (take (place + 1) texts) new = rw (take_more texts place [] within) (adds_component v4 v4_laws old new (take place texts) (piece_at texts place) at_place before.read) in
       let named : name_of adds.kind ≡ name_at v4 texts place = adds.named ∙ ap (λ each. read v4 (name_part each)) here in
-      let none = no_objection_at texts place adds.kind (subst IsComponent here is) named added.environmental (λ reason fault. all.faultless.none place reason (omega arith) fault) in
+      let none = no_objection_at texts place adds.kind (subst IsComponent here is) named added.environmental (λ reason fault. (no_fault_before v4 v4_laws new texts (place + 1) (omega (arith, within)) all).none place reason (omega arith) fault) in
       record {
         version = one_minor_version new old adds.puts.front ∙ before.version;
         read = all;
@@ -66,7 +67,7 @@ module _ (texts : List (List ℕ)) (place : ℕ) (within : place < length texts)
       }
 
   objection_at : (v : Vector) → HasReadOverrides texts place v → (objection : Objection) → IsObjectionTo v (piece_at texts place) objection → ObjectionAt texts place objection
-  objection_at v before (OfText (Repeated kind)) (is, none, fault) = (is, none, fault_at v4 v4_laws v texts place (omega arith) before.read.components (Repeated kind) fault)
+  objection_at v before (OfText (Repeated kind)) (is, none, fault) = (is, none, fault_at v4 v4_laws v texts place (omega arith) before.read (Repeated kind) fault)
   objection_at v before objection is = is
 
   pub IsFirstObjection-at : (v : Vector) (objection : Objection) → IsObjectionTo v text objection → HasReadOverrides texts place v → IsFirstObjection texts place objection
@@ -78,7 +79,7 @@ module _ (texts : List (List ℕ)) (place : ℕ) (within : place < length texts)
 
 pub AreOverrides-all : (texts : List (List ℕ)) (v : Vector) → HasReadOverrides texts (length texts) v → AreOverrides texts v
 AreOverrides-all texts v all = record {
-  components = AreComponentsOf-all v4 v4_laws texts v all.read;
+  components = rw (take_all (length texts) texts (omega arith)) at all.read;
   environmental = all.environmental;
 }
 

@@ -1,7 +1,7 @@
 -- What the private walk over the components does at each step. What callers rely on is in
 -- Version and Refusal.
-use Rattle.std.specs.Prelude.{◌≡◌, ◌≢◌, ℕ, ◌⊎◌, List, [], ◌∷◌, ◌++◌, length, map, take, drop, Option, Some, None, IsSome, Result, Ok, IfOk, OnOk, IfErr, OnErr, IsErrAnd, Contains, slice_get, find, is_none, ◌<◌, ◌≤◌, ⊤}
-use Rattle.std.specs.List.{All, range_with_len}
+use Rattle.std.specs.Prelude.{◌≡◌, ◌≢◌, ℕ, ◌⊎◌, List, [], ◌∷◌, ◌++◌, length, map, Option, Some, None, IsSome, Result, Ok, IfOk, OnOk, IfErr, OnErr, IsErrAnd, Contains, slice_get, find, is_none, ⊤}
+use Rattle.std.specs.List.{All, range_with_len, sum_by}
 use Rattle.std.specs.Borrow.{Bor}
 use Rattle.std.specs.Str.{IsUtf8}
 use Rattle.cvss_text.specs.declared.walk.ComponentError.{ComponentError}
@@ -13,7 +13,7 @@ use Rattle.cvss_base.specs.laws.Order.{place_in}
 use Rattle.cvss_base.specs.private.Component.{delimiter_bytes}
 use Rattle.cvss_base.specs.Text.{slash, pieces, IsComponent, name_part, value_part, component}
 use Rattle.cvss_base.specs.Version.{Version, read, reading, version_piece, AreComponentsOf, Denotes, IsComplete, IsWellFormed}
-use Rattle.cvss_base.specs.Refusal.{Refusal, AreComponentsBefore, BadComponent, WrongPrefix, WrongVersion, UnknownName, BadValue, Repeated, Missing, Spells, HasNoFaultBefore, IsFirstReason, BadPiecesFirst, IsReasonAfter, IsWrongPrefix, IsWrongVersion}
+use Rattle.cvss_base.specs.Refusal.{Refusal, BadComponent, WrongPrefix, WrongVersion, UnknownName, BadValue, Repeated, Missing, Spells, IsFirstReason, BadPiecesFirst, IsReasonAfter, IsWrongPrefix, IsWrongVersion}
 
 -- the place of a metric in the printing order, which its name says
 abbrev pub place_of : {V K : Type 0} → Version V K → K → ℕ
@@ -110,14 +110,7 @@ pub record HasVersionPiece {V K : Type 0} (version : Version V K) (v : V) : Type
 -- what the walk needs to know of version pieces: no byte of them is delimiter
 pub record FrontLaws {V K : Type 0} (version : Version V K) : Type 0 where
   pub fronts : (v : V) → HasVersionPiece version v
-  pub plain : map delimiter_bytes version.supported ≡ map (λ _. 0) version.supported
-
--- the vector lacks this mandatory metric, and none that is before it
-pub record LacksFirst {V K : Type 0} (version : Version V K) (v : V) (kind : K) : Type 0 where
-  pub place : ℕ
-  pub is : slice_get version.mandatory place ≡ Some kind
-  pub absent : version.value_of v kind ≡ None
-  pub earlier : (before : ℕ) (other : K) → before < place → slice_get version.mandatory before ≡ Some other → IsSome (version.value_of v other)
+  pub plain : sum_by delimiter_bytes version.supported ≡ 0
 
 -- the first reason why the pieces are refused
 abbrev pub IsFirstOfPieces : {V K : Type 0} → Version V K → List (List ℕ) → Refusal K → Type 0
@@ -131,27 +124,14 @@ first_missing version v = find (λ kind. is_none (version.value_of v kind)) vers
 pub record Adds {V K : Type 0} (version : Version V K) (old : V) (piece : List ℕ) (new : V) : Type 0 where
   pub kind : K
   pub named : version.name kind ≡ read version (name_part piece)
+  pub cut : piece ≡ component (name_part piece) (value_part piece)
   pub puts : Puts version old kind (read version (value_part piece)) new
 
--- the first piece of the text is a component, which goes into the vector, and these pieces follow it
-pub record IsReadFirst {V K : Type 0} (version : Version V K) (text : List ℕ) (old new : V) (after : List (List ℕ)) : Type 0 where
-  pub piece : List ℕ
-  pub first : pieces text ≡ piece ∷ after
-  pub component : IsComponent piece
-  pub adds : Adds version old piece new
-
--- the vector holds the components before this place, none of which has a fault
-pub record HasRead {V K : Type 0} (version : Version V K) (parts : List (List ℕ)) (place : ℕ) (v : V) : Type 0 where
-  pub components : AreComponentsOf version (take place parts) v
-  pub faultless : HasNoFaultBefore version parts place
-
--- the vector holds the components before those that are left, none of which has a fault
+-- the vector holds the components before the pieces that are left
 pub record HasReadTo {V K : Type 0} (version : Version V K) (parts left : List (List ℕ)) (v : V) : Type 0 where
-  pub place : ℕ
-  pub within : place ≤ length parts
-  pub left_is : left ≡ drop place parts
-  pub components : AreComponentsBefore parts place
-  pub read : HasRead version parts place v
+  pub before : List (List ℕ)
+  pub cut : parts ≡ before ++ left
+  pub components : AreComponentsOf version before v
 
 -- a text of components begins with those of the vector, in printing order, and goes on with this rest
 pub record IsInOrderTo {V K : Type 0} (version : Version V K) (front : List (List ℕ)) (text : List ℕ) (v : V) (rest : List ℕ) : Type 0 where
@@ -194,10 +174,7 @@ IsFaultOf version v piece (Repeated kind) =
     (version.name kind ≡ read version (name_part piece))
     × Spells (reading version kind) (read version (value_part piece))
     × IsSome (version.value_of v kind)
-IsFaultOf version v piece (BadComponent _) = ⊥
-IsFaultOf version v piece (WrongPrefix _) = ⊥
-IsFaultOf version v piece (WrongVersion _) = ⊥
-IsFaultOf version v piece (Missing _) = ⊥
+IsFaultOf version v piece _ = ⊥
 
 -- what cutting a piece answers: its metric and value, or that it is no component, or of no metric
 pub record IsCutAnswer {V K : Type 0} (version : Version V K) (piece : List ℕ) (answer : Result (K × Bor (List ℕ)) (Fault K)) : Type 0 where
@@ -205,11 +182,6 @@ pub record IsCutAnswer {V K : Type 0} (version : Version V K) (piece : List ℕ)
   pub refused : IfErr answer (λ fault. (v : V) → IsComponent piece → IsFaultOf version v piece (reason_of version fault))
   pub unnamed : OnErr answer (IsComponent piece → (kind : K) → version.name kind ≢ read version (name_part piece))
   pub printable : IsUtf8 piece → IfErr answer (IsPrintable version)
-
--- the fault that the vector lacks a mandatory metric, the first of them
-abbrev pub IsMissingFault : {V K : Type 0} → Version V K → V → Fault K → Type 0
-IsMissingFault version v (MissingMandatoryMetric kind) = first_missing version v ≡ Some kind
-IsMissingFault version v _ = ⊥
 
 -- what reading these pieces into a vector without values answers: all of them are read, and it is complete, or the first
 -- reason why they are refused

@@ -1,9 +1,9 @@
 -- What the private code that reads overrides does at each step. No public clause cites it.
-use Rattle.std.specs.Prelude.{◌≡◌, ℕ, List, ⊤}
+use Rattle.std.specs.Prelude.{◌≡◌, ℕ, List, take, ⊤}
 use Rattle.cvss_base.specs.Refusal.{BadComponent}
 use Rattle.cvss_base.specs.Text.{IsComponent, name_part}
-use Rattle.cvss_base.specs.Version.{read}
-use Rattle.cvss_text.specs.private.Walk.{Adds, HasRead, IsFaultOf, IsPrintable, reason_of}
+use Rattle.cvss_base.specs.Version.{AreComponentsOf, read}
+use Rattle.cvss_text.specs.private.Walk.{Adds, IsFaultOf, IsPrintable, reason_of}
 use Rattle.cvss_base.specs.V4Types.{group_of}
 use Rattle.cvss_base.specs.declared.group.MetricGroup.TheVariants.{Environmental}
 use Rattle.cvss_v4.specs.Overriding.{IsEnvironmental, NamesOther, Objection, OfOtherGroup, OfText, HasNoObjectionBefore}
@@ -37,6 +37,6 @@ IsPrintableFault (Component fault) = IsPrintable v4 fault
 -- the vector has minor version 0 and holds the overrides before a place, with which nothing is wrong
 pub record HasReadOverrides (texts : List (List ℕ)) (place : ℕ) (v : Vector) : Type 0 where
   pub version : v.minor_version ≡ 0
-  pub read : HasRead v4 texts place v
+  pub read : AreComponentsOf v4 (take place texts) v
   pub environmental : IsEnvironmental v
   pub faultless : HasNoObjectionBefore texts place

@@ -1,10 +1,10 @@
-use Rattle.std.proofs.Common.{[], refl, sym, ap, ◌∙◌, subst, arith}
+use Rattle.std.proofs.Common.{refl, sym, ap, ◌∙◌, subst, arith}
 use Rattle.std.proofs.lemmas.Bool.Decides.{nat_tests}
 use Rattle.cvss_base.specs.Text.{pieces}
 use Rattle.cvss_base.specs.Version.{AreComponentsOf}
 use Rattle.cvss_text.specs.Setting.{components_in}
 use Rattle.cvss_text.proofs.SettingLemmas.{components_in-none, components_in-some, right_held}
-use Rattle.cvss_text.proofs.WalkLemmas.{AreComponentsOf-all, HasRead-none, HasReadTo-all}
+use Rattle.cvss_text.proofs.WalkLemmas.{AreComponentsOf-none}
 use Rattle.cvss_ffi.proofs.exact.partial.Goals as goal
 
 pub returns-then-is_empty-clause-is : goal.returns-then-is_empty-clause-is
@@ -16,21 +16,19 @@ returns-then-is_empty-clause-is g c =
       utf8 = read.1;
       front_is = refl;
       components = subst (λ parts. AreComponentsOf version parts c.args.empty) (sym none ∙ ap components_in read.0)
-          (HasRead-none version g.met.V.Components.version_laws [] c.args.empty c.requires).components;
+          (AreComponentsOf-none version g.met.V.Components.version_laws c.args.empty c.requires);
     }
 
 pub returns-in-Ok-read_given-clause-is : goal.returns-in-Ok-read_given-clause-is
 returns-in-Ok-read_given-clause-is g c =
     let version = g.V.Components.version in
-    let version_laws = g.met.V.Components.version_laws in
-    let parts = pieces c.in-Ok.metrics.now in
     let vector = c.in-Ok-read_given.vector in
     let same = sym (components_in-some c.in-Ok.metrics.now (grind (arith, nat_tests))) in
     record {
       utf8 = c.in-Ok.ensures.cases.1;
       front_is = c.in-Ok-read_given.ensures.front;
       components = subst (λ each. AreComponentsOf version each vector) (sym same ∙ ap components_in c.in-Ok.ensures.cases.0)
-          (AreComponentsOf-all version version_laws parts vector (HasReadTo-all version version_laws parts [] vector refl c.in-Ok-read_given.ensures.read).0);
+          c.in-Ok-read_given.ensures.components;
     }
 
 pub returns-in-Err-clause-none : goal.returns-in-Err-clause-none

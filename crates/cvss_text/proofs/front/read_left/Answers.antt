@@ -1,12 +1,7 @@
 use Rattle.std.proofs.Common.{[], refl}
-use Rattle.cvss_text.proofs.MissingLemmas.{IsReadLeft-checked}
-use Rattle.cvss_text.proofs.WalkLemmas.{HasReadTo-all, HasReadTo-start}
+use Rattle.cvss_text.proofs.WalkLemmas.{AreComponentsOf-none}
 use Rattle.cvss_text.proofs.front.read_left.Goals as goal
 
 pub returns-in-None : goal.returns-in-None
 returns-in-None g c =
-    let version = g.V.Components.version in
-    let version_laws = g.met.V.Components.version_laws in
-    let vector = c.args.vector.now in
-    let none = HasReadTo-all version version_laws [] [] vector refl (HasReadTo-start version version_laws [] vector c.requires) in
-    rw c.in-None.ensures (IsReadLeft-checked version vector version_laws [] vector c.check_complete.result none.0 none.1 refl c.check_complete.ensures.complete c.check_complete.ensures.missing)
+    rw c.in-None.ensures (c.check_complete.ensures [] c.args.vector.now (AreComponentsOf-none g.V.Components.version g.met.V.Components.version_laws c.args.vector.now c.requires) refl)

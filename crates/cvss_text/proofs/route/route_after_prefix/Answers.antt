@@ -1,7 +1,7 @@
 use Rattle.std.proofs.Common.{◌∷◌, ◌++◌, ap, codes, refl, ◌∙◌}
 use Rattle.cvss_base.specs.Text.{slash}
 use Rattle.cvss_text.specs.Route.{ToV30, ToV31, ToV40}
-use Rattle.cvss_text.proofs.CutLemmas.{said_routed}
+use Rattle.cvss_text.proofs.PieceLemmas.{said_routed}
 use Rattle.cvss_text.proofs.route.route_after_prefix.Goals as goal
 
 pub returns-then-are_four-clause-route : goal.returns-then-are_four-clause-route

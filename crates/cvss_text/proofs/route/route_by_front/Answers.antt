@@ -1,12 +1,7 @@
-use Rattle.std.proofs.Common.{◌∷◌, ◌∙◌, ap, subst, sym}
+use Rattle.std.proofs.Common.{◌∷◌, ◌∙◌, ap}
 use Rattle.cvss_base.specs.Text.{pieces}
-use Rattle.cvss_text.specs.private.Routing.{IsAfterVersion}
-use Rattle.cvss_text.proofs.CutLemmas.{cut_routed, first_utf8, some_piece}
-use Rattle.cvss_text.proofs.PieceLemmas.{IsUtf8-name, IsUtf8-value}
+use Rattle.cvss_text.proofs.PieceLemmas.{cut_routed, first_utf8, some_piece, utf8_parts}
 use Rattle.cvss_text.proofs.route.route_by_front.Goals as goal
-
-pub returns-in_default-clause-printable : goal.returns-in_default-clause-printable
-returns-in_default-clause-printable c = first_utf8 c.args.text.now _ _ c.front_of.ensures
 
 pub returns-in-Some-parts_of-clause-route : goal.returns-in-Some-parts_of-clause-route
 returns-in-Some-parts_of-clause-route c =
@@ -17,13 +12,4 @@ returns-in-Some-parts_of-clause-route c =
 pub returns-in-Some-parts_of-clause-printable : goal.returns-in-Some-parts_of-clause-printable
 returns-in-Some-parts_of-clause-printable c = λ is.
     let piece = first_utf8 c.args.text.now _ _ c.front_of.ensures is in
-    c.route_by.ensures.printable (IsUtf8-name _ _ _ c.in-Some-parts_of.ensures.cut piece) (IsUtf8-value _ _ _ c.in-Some-parts_of.ensures.cut piece)
-
-pub returns-in-None-clause-printable : goal.returns-in-None-clause-printable
-returns-in-None-clause-printable c = first_utf8 c.args.text.now _ _ c.front_of.ensures
-
-pub returns-in-Some-parts_of-clause-after : goal.returns-in-Some-parts_of-clause-after
-returns-in-Some-parts_of-clause-after c =
-    let after = c.in-Some.after.now in
-    let cut = c.front_of.ensures ∙ (ap (λ rest. c.front_of.result.0.now ∷ rest) c.in-Some.ensures ∙ ap (λ piece. piece ∷ pieces after) c.in-Some-parts_of.ensures.cut) in
-    subst (λ parts. IsAfterVersion parts c.route_by.result) (sym cut) c.route_by.ensures.after
+    c.route_by.ensures.printable (utf8_parts _ _ _ c.in-Some-parts_of.ensures.cut piece).0 (utf8_parts _ _ _ c.in-Some-parts_of.ensures.cut piece).1

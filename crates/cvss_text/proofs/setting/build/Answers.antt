@@ -1,39 +1,26 @@
-use Rattle.std.proofs.Common.{[], Some, None, length, refl, sym}
+use Rattle.std.proofs.Common.{Some, None, sym}
 use Rattle.cvss_base.specs.Text.{pieces}
-use Rattle.cvss_text.specs.Setting.{IsBuildReason, IsBuilt}
 use Rattle.cvss_text.specs.declared.walk.Fault.TheVariants.{MissingMandatoryMetric}
-use Rattle.cvss_text.proofs.MissingLemmas.{IsComplete-from, LacksFirst-from}
-use Rattle.cvss_text.proofs.SettingLemmas.{IsAnswered-Err, IsAnswered-Ok, build_reasons_same, built_no_reason, built_once, right_before}
-use Rattle.cvss_text.proofs.WalkLemmas.{AreComponentsOf-all, HasReadTo-all, IsFirstMissing-from}
+use Rattle.cvss_text.proofs.WalkLemmas.{IsComplete-from, IsFirstMissing-from}
+use Rattle.cvss_text.proofs.SettingLemmas.{IsAnswered-Err, IsAnswered-Ok, build_sole, right_all}
 use Rattle.cvss_text.proofs.setting.build.Goals as goal
 
 pub returns-in-Some : goal.returns-in-Some
 returns-in-Some g c =
     let version = g.V.Components.version in
     let version_laws = g.met.V.Components.version_laws in
-    let front = version.front c.args.empty in
     let parts = pieces c.args.text.now in
-    let read = HasReadTo-all version version_laws parts [] c.in-Ok.given refl c.in-Ok.ensures.read in
-    let missing = IsFirstMissing-from version version_laws parts c.in-Ok.given c.in-Some.kind read.0 (LacksFirst-from version c.in-Ok.given c.in-Some.kind (sym c.in-Some.ensures)) in
-    IsAnswered-Err version version_laws (IsBuilt version front parts) (IsBuildReason version parts) (build_reasons_same version version_laws parts) (built_no_reason version version_laws front parts) None (MissingMandatoryMetric c.in-Some.kind) (right_before version version_laws parts (length parts) read.1 read.0.faultless, missing) tt
+    let components = c.in-Ok.ensures.components in
+    let missing = IsFirstMissing-from version version_laws parts c.in-Ok.given components c.in-Some.kind (sym c.in-Some.ensures) in
+    IsAnswered-Err version (build_sole version version_laws (version.front c.args.empty) parts) None (MissingMandatoryMetric c.in-Some.kind) (right_all version version_laws c.in-Ok.given parts components, missing) tt
 
 pub returns-in-None : goal.returns-in-None
 returns-in-None g c =
     let version = g.V.Components.version in
-    let version_laws = g.met.V.Components.version_laws in
-    let front = version.front c.args.empty in
-    let parts = pieces c.args.text.now in
-    IsAnswered-Ok version version_laws (IsBuilt version front parts) (IsBuildReason version parts) (built_once version version_laws front parts) (built_no_reason version version_laws front parts) c.in-Ok.given
-    (record {
-      front_is = c.in-Ok.ensures.front;
-      components = AreComponentsOf-all version version_laws parts c.in-Ok.given (HasReadTo-all version version_laws parts [] c.in-Ok.given refl c.in-Ok.ensures.read).0;
-      complete = IsComplete-from version c.in-Ok.given (sym c.in-None.ensures);
-    })
+    IsAnswered-Ok version (build_sole version g.met.V.Components.version_laws (version.front c.args.empty) (pieces c.args.text.now)) c.in-Ok.given
+    (record { front_is = c.in-Ok.ensures.front; components = c.in-Ok.ensures.components; complete = IsComplete-from version c.in-Ok.given (sym c.in-None.ensures) })
 
 pub returns-in-Err : goal.returns-in-Err
 returns-in-Err g c =
     let version = g.V.Components.version in
-    let version_laws = g.met.V.Components.version_laws in
-    let front = version.front c.args.empty in
-    let parts = pieces c.args.text.now in
-    IsAnswered-Err version version_laws (IsBuilt version front parts) (IsBuildReason version parts) (build_reasons_same version version_laws parts) (built_no_reason version version_laws front parts) (Some c.in-Err.index) c.in-Err.fault c.in-Err.ensures.refused c.in-Err.ensures.bound
+    IsAnswered-Err version (build_sole version g.met.V.Components.version_laws (version.front c.args.empty) (pieces c.args.text.now)) (Some c.in-Err.index) c.in-Err.fault c.in-Err.ensures.refused c.in-Err.ensures.bound

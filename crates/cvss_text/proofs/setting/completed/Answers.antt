@@ -1,5 +1,5 @@
-use Rattle.std.proofs.Common.{◌≡◌, get_or, length, sym, ap, subst, ◌∙◌, arith}
-use Rattle.cvss_text.proofs.LawLemmas.{only_place}
+use Rattle.std.proofs.Common.{◌≡◌, Some, length, slice_get, sym, ap, subst, ◌∙◌, arith}
+use Rattle.std.proofs.lemmas.Option.{slice_get-get_or}
 use Rattle.cvss_text.proofs.SettingLemmas.{IsCompletedTo, IsCompletedTo-all, IsCompletedTo-more, IsCompletedTo-start}
 use Rattle.cvss_text.proofs.setting.completed.Goals as goal
 
@@ -9,11 +9,9 @@ loop-kind-init g c = IsCompletedTo-start g.V.Components.version g.met.V.Componen
 pub loop-kind-preserved : goal.loop-kind-preserved
 loop-kind-preserved g c =
     let version = g.V.Components.version in
-    let index = c.loop-kind.kind-index in
-    let kind = c.kind-item.result in
-    let here : get_or version.printed index kind ≡ kind = sym (c.kind-item.is ∙ ap (λ kinds. get_or kinds index kind) c.printed-kind-items.ensures) in
-    let at = only_place version g.met.V.Components.version_laws kind index kind (omega (arith, c.loop-kind-test.true, ap length c.printed-kind-items.ensures)) here in
-    IsCompletedTo-more version g.met.V.Components.version_laws c.args.given c.args.own.now index kind (sym at) c.loop-kind.vector _ c.copy_value.ensures c.loop-kind.invariant
+    let items = c.printed-kind-items.ensures in
+    let at = ap (λ kinds. slice_get kinds c.loop-kind.kind-index) (sym items) ∙ slice_get-get_or _ c.loop-kind.kind-index c.kind-item.result c.loop-kind-test.true ∙ ap Some (sym c.kind-item.is) in
+    IsCompletedTo-more version g.met.V.Components.version_laws c.args.given c.args.own.now c.loop-kind.kind-index c.kind-item.result at c.loop-kind.vector _ c.copy_value.ensures c.loop-kind.invariant
 
 pub returns-clause-values : goal.returns-clause-values
 returns-clause-values g c =

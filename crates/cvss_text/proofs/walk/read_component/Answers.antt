@@ -1,6 +1,5 @@
-use Rattle.std.proofs.lemmas.Result.{err_from_is_err_and, on_ok_weaker}
-use Rattle.cvss_text.proofs.PieceLemmas.{IsUtf8-value}
-use Rattle.cvss_text.proofs.WalkLemmas.{IsComponent-read}
+use Rattle.std.proofs.lemmas.Result.{err_from_is_err_and}
+use Rattle.cvss_text.proofs.PieceLemmas.{utf8_parts}
 use Rattle.cvss_text.proofs.walk.read_component.Goals as goal
 
 pub returns-in_err-kind-clause-refused : goal.returns-in_err-kind-clause-refused
@@ -8,11 +7,5 @@ returns-in_err-kind-clause-refused g c =
     let exit = err_from_is_err_and c.from_residual.result c.from_residual.ensures.1 in
     rw (exit.1, exit.2) (c.in_err-kind.ensures.refused c.args.vector.now)
 
-pub returns-clause-component : goal.returns-clause-component
-returns-clause-component g c =
-    on_ok_weaker c.put_component.result
-    (IsComponent-read g.V.Components.version g.met.V.Components.version_laws c.in_ok-kind.ensures.cut)
-    c.put_component.ensures.put
-
 pub returns-clause-printable : goal.returns-clause-printable
-returns-clause-printable g c = λ is. c.put_component.ensures.printable (IsUtf8-value _ _ _ c.in_ok-kind.ensures.cut.cut is)
+returns-clause-printable g c = λ is. c.put_component.ensures.printable (utf8_parts _ _ _ c.in_ok-kind.ensures.cut.cut is).1

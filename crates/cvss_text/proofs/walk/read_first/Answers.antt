@@ -1,10 +1,7 @@
 use Rattle.std.proofs.Common.{subst, All, IsUtf8}
 use Rattle.std.proofs.lemmas.List.Elements.{All-head}
 use Rattle.std.proofs.lemmas.Result.{err_from_is_err_and}
-use Rattle.cvss_base.specs.Version.{read}
-use Rattle.cvss_text.specs.private.Walk.{Puts}
-use Rattle.cvss_text.proofs.PieceLemmas.{IsUtf8-value}
-use Rattle.cvss_text.proofs.WalkLemmas.{IsComponent-read}
+use Rattle.cvss_text.proofs.PieceLemmas.{utf8_parts}
 use Rattle.cvss_text.proofs.walk.read_first.Goals as goal
 
 pub returns-in_err-kind-clause-refused : goal.returns-in_err-kind-clause-refused
@@ -17,20 +14,4 @@ returns-in_err-put_component-clause-printable g c = λ is.
     let exit = err_from_is_err_and c.from_residual-in_err-put_component.result c.from_residual-in_err-put_component.ensures.1 in
     let cut = c.in_ok-kind.ensures.cut in
     let piece = All-head IsUtf8 _ _ (subst (All IsUtf8) cut.first is) in
-    rw (exit.1, exit.2) (c.in_err-put_component.ensures.printable (IsUtf8-value _ _ _ cut.is.cut piece))
-
-pub returns-clause-read : goal.returns-clause-read
-returns-clause-read g c =
-    let version = g.V.Components.version in
-    let cut = c.in_ok-kind.ensures.cut in
-    let puts = c.in_ok-put_component.ensures.put in
-    record {
-      piece = cut.piece;
-      first = cut.first;
-      component = IsComponent-read version g.met.V.Components.version_laws cut.is puts;
-      adds = record {
-        kind = c.in_ok-kind.kind;
-        named = cut.is.named;
-        puts = subst (λ value. Puts version c.args.vector.now c.in_ok-kind.kind (read version value) c.put_component.new.vector) cut.is.value_is puts;
-      };
-    }
+    rw (exit.1, exit.2) (c.in_err-put_component.ensures.printable (utf8_parts _ _ _ cut.is.cut piece).1)

@@ -1,9 +1,5 @@
 use Rattle.cvss_base.specs.Text.{pieces}
-use Rattle.cvss_text.proofs.MissingLemmas.{IsReadLeft-checked}
 use Rattle.cvss_text.proofs.walk.read_text.Goals as goal
 
 pub returns : goal.returns
-returns g c =
-    let all = c.in_ok-read_components.ensures in
-    IsReadLeft-checked g.V.Components.version c.read_components.new.vector g.met.V.Components.version_laws (pieces c.args.text.now) c.args.vector.now c.check_complete.result
-    all.read all.components all.front c.check_complete.ensures.complete c.check_complete.ensures.missing
+returns g c = c.check_complete.ensures (pieces c.args.text.now) c.args.vector.now c.in_ok-read_components.ensures.components c.in_ok-read_components.ensures.front

@@ -1,6 +1,6 @@
 use Rattle.std.proofs.Common.{ap}
 use Rattle.cvss_base.specs.Version.{canonical_text}
-use Rattle.cvss_text.proofs.SameTextLemmas.{same_text-once}
+use Rattle.cvss_text.proofs.FrontLemmas.{same_text-once}
 use Rattle.cvss_v3.specs.Vector.{v3}
 use Rattle.cvss_v3.specs.private.VectorLaws.{v3_laws, v3_front_laws}
 use Rattle.cvss_v3.proofs.vector.Vector.same_text.Goals as goal

@@ -1,6 +1,6 @@
 use Rattle.std.proofs.Common.{ap}
 use Rattle.cvss_base.specs.Version.{canonical_text}
-use Rattle.cvss_text.proofs.SameTextLemmas.{same_text-once}
+use Rattle.cvss_text.proofs.FrontLemmas.{same_text-once}
 use Rattle.cvss_v4.specs.Vector.{v4}
 use Rattle.cvss_v4.specs.private.VectorLaws.{v4_laws, v4_front_laws}
 use Rattle.cvss_v4.proofs.vector.Vector.same_text.Goals as goal
