@@ -1,13 +1,14 @@
 -- What reading a text answers, from what the rules of its version read.
-use Rattle.std.proofs.Common.{◌≡◌, ◌++◌, List, ℕ, zero, suc, Result, Ok, Err, refl, sym, ap, ◌∙◌, subst, IsUtf8, codes, lit<}
+use Rattle.std.proofs.Common.{◌≡◌, ◌++◌, arith, List, ℕ, zero, suc, Bool, true, false, None, Result, Ok, Err, refl, sym, ap, ◌∙◌, subst, IsUtf8, codes, lit<}
 use Rattle.cvss_base.specs.Refusal.{Refusal}
 use Rattle.cvss_base.specs.Text.{pieces}
 use Rattle.cvss_base.specs.Version.{Version, Denotes, IsComplete}
 use Rattle.cvss_any.specs.Answers.{HasScore}
-use Rattle.cvss_text.specs.Route.{NoVersion, Route, ToV30, ToV31, ToNoVersion, route_of}
+use Rattle.cvss_any.specs.Complete.{first_missing, missing_by}
+use Rattle.cvss_text.specs.Route.{NoVersion, Route, ToV40, ToNoVersion, route_of}
 use Rattle.cvss_any.specs.Dispatch.{DenotesCvss, IsFirstRefusalCvss, IsFirstReasonAt, without_version}
 use Rattle.cvss_any.specs.private.Steps.{IsRead, IsPrintableFault, read_as, reason_read}
-use Rattle.cvss_any.specs.private.Versions.{IsRoutedV3, front_of, wrapped_v3}
+use Rattle.cvss_any.specs.private.Versions.{IsRoutedV3, front_of, route_v3, wrapped_v3}
 use Rattle.cvss_any.specs.declared.reading.ReadFault.{ReadFault}
 use Rattle.cvss_any.specs.declared.reading.ReadFault.TheVariants as reported
 use Rattle.cvss_any.specs.declared.vector.Cvss.{Cvss}
@@ -22,6 +23,7 @@ use Rattle.cvss_v3.specs.Vector.{v3}
 use Rattle.cvss_v3.specs.declared.vector.Vector as vector_v3
 use Rattle.cvss_v4.specs.private.VectorLaws.{v4_laws, v4_front_laws}
 use Rattle.cvss_v4.specs.Vector.{v4}
+use Rattle.cvss_v4.specs.declared.vector.Vector as vector_v4
 use Rattle.cvss_any.proofs.RouteLemmas.{denoted_routed, route_for, v3_denoted}
 use Rattle.cvss_any.proofs.UniqueLemmas.{one_refusal, one_vector}
 
@@ -42,7 +44,7 @@ module _ (text : List ℕ) where
   none : (cvss : Cvss) → DenotesCvss text cvss → (reason : Refusal _) → IsFirstRefusalCvss text reason → ⊥
   none cvss denotes reason first = none_at cvss denotes reason (subst (λ route. IsFirstReasonAt route text reason) (denoted_routed text cvss denotes) first)
 
-  scored : (cvss : Cvss) → DenotesCvss text cvss → HasScore cvss
+  pub scored : (cvss : Cvss) → DenotesCvss text cvss → HasScore cvss
   scored (CvssV40 v) denotes = denotes.well_formed.complete
   scored (CvssV20 v) denotes = tt
   scored (CvssV30 v) denotes = tt
@@ -78,35 +80,42 @@ module _ (text : List ℕ) where
   pub unread : (why : NoVersion) (fault : ReadFault) → route_of text ≡ ToNoVersion why → reason_read fault ≡ without_version why → (IsUtf8 text → IsPrintableFault fault) → IsRead text (Err fault)
   unread why fault route says = read_err fault (reason_at (ToNoVersion why) route (reason_read fault) says)
 
-  -- what the rules of a version read of the pieces after a front
-  module _ {V K : Type 0} (version : Version V K) (wrap : V → Cvss) (reported : Fault K → ReadFault) (front left : List (List ℕ)) where
-    pub read_any : pieces text ≡ front ++ left
+  -- what the rules of a version read of the components
+  module _ {V K : Type 0} (version : Version V K) (wrap : V → Cvss) (reported : Fault K → ReadFault) (to : Route) (front : List (List ℕ)) (components : List ℕ) where
+    pub read_any : route_of text ≡ to → pieces text ≡ front ++ pieces components
         → ((v : V) → Denotes version text v → version.front v ≡ front → IsComplete version v → DenotesCvss text (wrap v))
-        → ((fault : Fault K) → IsFirstOfPieces version left (reason_of version fault) → IsFirstRefusalCvss text (reason_read (reported fault)))
+        → ((fault : Fault K) → IsFirstOfPieces version (pieces components) (reason_of version fault) → IsFirstReasonAt to text (reason_read (reported fault)))
         → ((fault : Fault K) → IsPrintable version fault → IsPrintableFault (reported fault))
-        → (empty : V) → version.front empty ≡ front → (answer : Result (Unit {0}) (Fault K)) (v : V) → IsReadLeft version left empty answer v → IsRead text (read_as wrap reported answer v)
-    read_any cut denotes reasons printable empty is (Ok _) v read =
+        → (empty : V) → version.front empty ≡ front → (answer : Result (Unit {0}) (Fault K)) (v : V) → IsReadLeft version (pieces components) empty answer v → IsRead text (read_as wrap reported answer v)
+    read_any routed cut denotes reasons printable empty is (Ok _) v read =
         let same = read.front ∙ is in
-        read_ok (wrap v) (denotes v (Denotes-pieces version text front left cut v same read.components) same read.complete)
-    read_any cut denotes reasons printable empty is (Err fault) v read =
-        read_err (reported fault) (reasons fault read.refused) (λ utf8. printable fault (read.printable (IsUtf8-left text front left cut utf8)))
+        read_ok (wrap v) (denotes v (Denotes-pieces version text front (pieces components) cut v same read.components) same read.complete)
+    read_any routed cut denotes reasons printable empty is (Err fault) v read =
+        read_err (reported fault) (reason_at to routed (reason_read (reported fault)) (reasons fault read.refused)) (λ utf8. printable fault (read.printable (IsUtf8-left text front (pieces components) cut utf8)))
 
-  -- those of CVSS v3
-  module _ (left : List (List ℕ)) where
-    denoted_v3 : (minor : ℕ) → IsRoutedV3 text left minor → (v : vector_v3.Vector) → Denotes v3 text v → v3.front v ≡ front_of (codes "3.") minor → IsComplete v3 v → DenotesCvss text (wrapped_v3 minor v)
-    denoted_v3 zero is v denotes front complete = v3_denoted text left 0 ToV30 v is denotes (record { complete = complete; supported = record { reported = codes "3.0"; front_is = front; supported = (0, lit< tt, refl) } }) (λ no. cc)
-    denoted_v3 (suc zero) is v denotes front complete = v3_denoted text left 1 ToV31 v is denotes (record { complete = complete; supported = record { reported = codes "3.1"; front_is = front; supported = (1, lit< tt, refl) } }) (λ no. cc)
-    denoted_v3 (suc (suc minor)) is v denotes front complete = absurd is
+  -- those of CVSS v3 and v4.0
+  module _ (components : List ℕ) where
+    denoted_v3 : (minor : ℕ) → IsRoutedV3 text components minor → (v : vector_v3.Vector) → Denotes v3 text v → v3.front v ≡ front_of (codes "3.") minor → IsComplete v3 v → DenotesCvss text (wrapped_v3 minor v)
+    denoted_v3 zero is v denotes front complete = v3_denoted text components 0 v is denotes (record { complete = complete; supported = record { reported = codes "3.0"; front_is = front; supported = (0, lit< tt, refl) } }) (λ no. cc)
+    denoted_v3 (suc zero) is v denotes front complete = v3_denoted text components 1 v is denotes (record { complete = complete; supported = record { reported = codes "3.1"; front_is = front; supported = (1, lit< tt, refl) } }) (λ no. cc)
+    denoted_v3 (suc (suc minor)) is v denotes front complete = absurd (omega (arith, is.known))
 
-    reason_v3 : (minor : ℕ) → IsRoutedV3 text left minor → (fault : Fault _) → IsFirstOfPieces v3 left (reason_of v3 fault) → IsFirstRefusalCvss text (reason_read (reported.V3 fault))
-    reason_v3 zero is fault first = reason_at ToV30 is.route _ (record { own = reason_of v3 fault; first = reason_after v3 v3_laws v3_front_laws text (codes "3.0") (0, lit< tt, refl) left is.after (reason_of v3 fault) first; is = refl })
-    reason_v3 (suc zero) is fault first = reason_at ToV31 is.route _ (record { own = reason_of v3 fault; first = reason_after v3 v3_laws v3_front_laws text (codes "3.1") (1, lit< tt, refl) left is.after (reason_of v3 fault) first; is = refl })
-    reason_v3 (suc (suc minor)) is fault first = absurd is
+    reason_v3 : (minor : ℕ) → IsRoutedV3 text components minor → (fault : Fault _) → IsFirstOfPieces v3 (pieces components) (reason_of v3 fault) → IsFirstReasonAt (route_v3 minor) text (reason_read (reported.V3 fault))
+    reason_v3 zero is fault first = record { own = reason_of v3 fault; first = reason_after v3 v3_laws v3_front_laws text (codes "3.0") (0, lit< tt, refl) (pieces components) is.cut (reason_of v3 fault) first; is = refl }
+    reason_v3 (suc zero) is fault first = record { own = reason_of v3 fault; first = reason_after v3 v3_laws v3_front_laws text (codes "3.1") (1, lit< tt, refl) (pieces components) is.cut (reason_of v3 fault) first; is = refl }
+    reason_v3 (suc (suc minor)) is fault first = absurd (omega (arith, is.known))
 
-    pub cut_v3 : (minor : ℕ) → IsRoutedV3 text left minor → pieces text ≡ front_of (codes "3.") minor ++ left
-    cut_v3 zero is = is.after
-    cut_v3 (suc zero) is = is.after
-    cut_v3 (suc (suc minor)) is = absurd is
+    pub read_v3 : (minor : ℕ) → IsRoutedV3 text components minor → (empty : vector_v3.Vector) → v3.front empty ≡ front_of (codes "3.") minor → (answer : Result (Unit {0}) (Fault _)) (v : vector_v3.Vector) → IsReadLeft v3 (pieces components) empty answer v → IsRead text (read_as (wrapped_v3 minor) reported.V3 answer v)
+    read_v3 minor is = read_any v3 (wrapped_v3 minor) reported.V3 (route_v3 minor) (front_of (codes "3.") minor) components is.routed is.cut (denoted_v3 minor is) (reason_v3 minor is) (λ fault printable. printable)
 
-    pub read_v3 : (minor : ℕ) → IsRoutedV3 text left minor → (empty : vector_v3.Vector) → v3.front empty ≡ front_of (codes "3.") minor → (answer : Result (Unit {0}) (Fault _)) (v : vector_v3.Vector) → IsReadLeft v3 left empty answer v → IsRead text (read_as (wrapped_v3 minor) reported.V3 answer v)
-    read_v3 minor is = read_any v3 (wrapped_v3 minor) reported.V3 (front_of (codes "3.") minor) left (cut_v3 minor is) (denoted_v3 minor is) (reason_v3 minor is) (λ fault is. is)
+    pub read_v4 : (minor : ℕ) → minor ≡ 0 → route_of text ≡ ToV40 → pieces text ≡ front_of (codes "4.") minor ++ pieces components → (empty : vector_v4.Vector) → v4.front empty ≡ front_of (codes "4.") minor → (answer : Result (Unit {0}) (Fault _)) (v : vector_v4.Vector) → IsReadLeft v4 (pieces components) empty answer v → IsRead text (read_as CvssV40 reported.V4 answer v)
+    read_v4 zero known routed cut = read_any v4 CvssV40 reported.V4 ToV40 (front_of (codes "4.") 0) components routed cut
+        (λ v denotes front complete. record { denoted = denotes; well_formed = record { complete = complete; supported = record { reported = codes "4.0"; front_is = front; supported = (0, lit< tt, refl) } } })
+        (λ fault first. record { own = reason_of v4 fault; first = reason_after v4 v4_laws v4_front_laws text (codes "4.0") (0, lit< tt, refl) (pieces components) cut (reason_of v4 fault) first; is = refl })
+        (λ fault printable. printable)
+    read_v4 (suc minor) known routed cut = absurd (omega (arith, known))
+
+-- what lacks no base metric lacks none that it may not
+pub none_missing : (allow_incomplete : Bool) (cvss : Cvss) → first_missing cvss ≡ None → missing_by allow_incomplete cvss ≡ None
+none_missing true cvss none = refl
+none_missing false cvss none = none

@@ -3,25 +3,20 @@ use Rattle.std.proofs.Common.{◌≡◌, ℕ, ◌≤◌, List, Option, Some, Non
 use Rattle.cvss_base.specs.Refusal.{Refusal}
 use Rattle.cvss_base.specs.Version.{Version}
 use Rattle.cvss_text.specs.private.SettingSteps.{IsAnswered}
-use Rattle.cvss_text.specs.private.Walk.{HasNoValue, reason_of}
-use Rattle.cvss_base.specs.declared.v4.MetricType as type_v4
-use Rattle.cvss_base.specs.declared.v4.MetricType.TheVariants as kind_v4
+use Rattle.cvss_text.specs.private.Walk.{reason_of}
 use Rattle.cvss_text.specs.declared.walk.Fault.{Fault}
 use Rattle.cvss_any.specs.Dispatch.{IsReasonOf, wrapped}
 use Rattle.cvss_any.specs.Refusals.{refusal_of}
 use Rattle.cvss_any.specs.Answers.{HasScore}
-use Rattle.cvss_any.specs.Setting.{IsBuiltAs, IsOf, IsWith}
+use Rattle.cvss_any.specs.Setting.{IsOf, IsWith}
 use Rattle.cvss_any.specs.private.SettingSteps.{IsAnsweredBy}
 use Rattle.cvss_any.specs.declared.metric_type.MetricType.{MetricType}
 use Rattle.cvss_any.specs.declared.setting.SetError.{SetError}
-use Rattle.cvss_any.specs.declared.setting.Version as version_of_cvss
-use Rattle.cvss_any.specs.declared.setting.Version.TheVariants.{V20, V30, V31, V40}
 use Rattle.cvss_any.specs.declared.vector.Cvss.{Cvss}
 use Rattle.cvss_any.specs.declared.vector.Cvss.TheVariants.{CvssV20, CvssV30, CvssV31, CvssV40}
 use Rattle.cvss_text.specs.Setting.{components_in}
 use Rattle.cvss_text.proofs.SettingLemmas.{IsComplete-set}
 use Rattle.cvss_v4.specs.Vector.{v4}
-use Rattle.cvss_v4.specs.declared.vector.Vector as vector_v4
 use Rattle.cvss_v4.specs.private.VectorLaws.{v4_laws}
 
 fewer : (index : Option ℕ) (n : ℕ) → n ≤ 32 → IfSome index (λ i. i ≤ n) → IfSome index (λ i. i ≤ 32)
@@ -52,22 +47,9 @@ module _ {V K : Type 0} {version : Version V K} {IsIt : V → Type 0} {IsReason 
     bound = subst (λ each. IfSome each (λ i. i ≤ 32)) (sym at) (fewer refused.0 (length version.printed) most is.bound);
   }
 
--- a vector that has a score keeps one, and each that is built has one
+-- a vector that has a score keeps one
 pub scored_with : (cvss new : Cvss) (metrics : List ℕ) → IsWith cvss metrics new → HasScore cvss → HasScore new
 scored_with (CvssV20 v) new metrics is scored = subst HasScore (sym is.is) tt
 scored_with (CvssV30 v) new metrics is scored = subst HasScore (sym is.is) tt
 scored_with (CvssV31 v) new metrics is scored = subst HasScore (sym is.is) tt
 scored_with (CvssV40 v) new metrics is scored = subst HasScore (sym is.is) (IsComplete-set v4 v4_laws v (components_in metrics) is.own is.holds scored)
-
-pub scored_built : (version : version_of_cvss.Version) (new : Cvss) (metrics : List ℕ) → IsBuiltAs version metrics new → HasScore new
-scored_built V20 new metrics is = subst HasScore (sym is.is) tt
-scored_built V30 new metrics is = subst HasScore (sym is.is) tt
-scored_built V31 new metrics is = subst HasScore (sym is.is) tt
-scored_built V40 new metrics is = subst HasScore (sym is.is) is.holds.complete
-
-same_v4 : (v : vector_v4.Vector) (minor : ℕ) (kind : type_v4.MetricType) → v4.value_of (record v { minor_version = minor }) kind ≡ v4.value_of v kind
-same_v4 v minor = elim [ kind_v4.AC ↦ refl | _ ↦ refl ]
-
--- a vector without values has none with another minor version
-pub valueless_v4 : (v : vector_v4.Vector) (minor : ℕ) → ((kind : type_v4.MetricType) → v4.value_of v kind ≡ None) → HasNoValue v4 (record v { minor_version = minor })
-valueless_v4 v minor none = record { none = λ kind. same_v4 v minor kind ∙ none kind }

@@ -18,3 +18,9 @@ abbrev pub description_of : MetricType → List ℕ
 description_of (V2 metric) = of_v2.description_of metric
 description_of (V3 metric) = of_v3.description_of metric
 description_of (V4 metric) = of_v4.description_of metric
+
+-- the metric in messages
+abbrev pub words_of : MetricType → List ℕ
+words_of (V2 metric) = of_v2.words_of metric
+words_of (V3 metric) = of_v3.words_of metric
+words_of (V4 metric) = of_v4.words_of metric

@@ -1,25 +1,14 @@
 -- What is said of a text that is refused. The words are those of the errors (cvss_base, ErrorText).
 use Rattle.std.specs.Prelude.{◌≡◌, ◌⊎◌, ℕ, List, ◌++◌, codes}
 use Rattle.std.specs.Str.{IsUtf8}
-use Rattle.cvss_base.specs.ErrorText.{described, quoted}
+use Rattle.cvss_base.specs.ErrorText.{quoted}
 use Rattle.cvss_base.specs.Refusal.{Refusal, BadComponent, WrongPrefix, WrongVersion, UnknownName, BadValue, Repeated, Missing}
 use Rattle.cvss_any.specs.Dispatch.{IsFirstRefusalCvss}
-use Rattle.cvss_any.specs.MetricTypes.{name_of, description_of}
+use Rattle.cvss_any.specs.MetricTypes.{words_of}
 use Rattle.cvss_any.specs.Refusals.{refusal_of}
 use Rattle.cvss_any.specs.declared.metric_type.MetricType.{MetricType}
-use Rattle.cvss_any.specs.declared.metric_type.MetricType.TheVariants.{V2, V3, V4}
 use Rattle.cvss_any.specs.declared.refusal.ReadError.{ReadError}
 use Rattle.cvss_any.specs.declared.refusal.ReadError.TheVariants.{NotUtf8, Invalid}
-
--- the version of a metric
-abbrev pub version_words : MetricType → List ℕ
-version_words (V2 _) = codes "CVSSv2 "
-version_words (V3 _) = codes "CVSSv3 "
-version_words (V4 _) = codes "CVSSv4 "
-
--- a metric, by its version, its abbreviation and its name
-abbrev pub metric_words : MetricType → List ℕ
-metric_words metric = version_words metric ++ described (name_of metric) (description_of metric) ++ codes " metric"
 
 -- the reason's text
 abbrev pub reason_text : Refusal MetricType → List ℕ
@@ -27,9 +16,9 @@ reason_text (BadComponent component) = codes "invalid CVSS metric group componen
 reason_text (WrongPrefix prefix) = codes "invalid CVSS string prefix: " ++ quoted prefix
 reason_text (WrongVersion version) = codes "unsupported CVSS version: " ++ version
 reason_text (UnknownName name) = codes "unknown CVSS metric name: " ++ quoted name
-reason_text (BadValue metric value) = codes "invalid " ++ metric_words metric ++ codes ": " ++ quoted value
-reason_text (Repeated metric) = codes "duplicate " ++ metric_words metric
-reason_text (Missing metric) = codes "missing mandatory " ++ metric_words metric
+reason_text (BadValue metric value) = codes "invalid " ++ words_of metric ++ codes ": " ++ quoted value
+reason_text (Repeated metric) = codes "duplicate " ++ words_of metric
+reason_text (Missing metric) = codes "missing mandatory " ++ words_of metric
 
 -- the words for bytes that are not UTF-8
 abbrev pub not_utf8_text : List ℕ

@@ -8,7 +8,7 @@ ghost use Rattle.cvss_any.specs.declared.metric_type.MetricType.TheVariants.{V3}
 use crate::metric_type::MetricType;
 use crate::v3;
 use crate::vector::Cvss;
-use cvss_base::v3 as base_v3;
+use cvss_base::v3::MetricType::{A, AC, AV, C, I, PR, S, UI};
 
 impl Cvss {
     /// The first base metric of CVSS v3 that the vector lacks, in the order of the specification (v3.1,
@@ -42,40 +42,23 @@ impl Cvss {
 pub(crate) fn missing_of_v3(vector: &v3::Vector) -> Option<MetricType>
     ensures { result ≡ option_map V3 (first_missing_base vector.now) }
 {
-    match first_missing_base(vector) {
-        Some(kind) => Some(MetricType::V3(kind)),
-        None => None,
-    }
-}
-
-/// The first base metric that a vector of CVSS v3 lacks.
-#[inline(always)]
-fn first_missing_base(vector: &v3::Vector) -> Option<base_v3::MetricType>
-    ensures { result ≡ first_missing_base vector.now }
-{
     if vector.av.is_none() {
-        return Some(base_v3::MetricType::AV);
+        Some(MetricType::V3(AV))
+    } else if vector.ac.is_none() {
+        Some(MetricType::V3(AC))
+    } else if vector.pr.is_none() {
+        Some(MetricType::V3(PR))
+    } else if vector.ui.is_none() {
+        Some(MetricType::V3(UI))
+    } else if vector.s.is_none() {
+        Some(MetricType::V3(S))
+    } else if vector.c.is_none() {
+        Some(MetricType::V3(C))
+    } else if vector.i.is_none() {
+        Some(MetricType::V3(I))
+    } else if vector.a.is_none() {
+        Some(MetricType::V3(A))
+    } else {
+        None
     }
-    if vector.ac.is_none() {
-        return Some(base_v3::MetricType::AC);
-    }
-    if vector.pr.is_none() {
-        return Some(base_v3::MetricType::PR);
-    }
-    if vector.ui.is_none() {
-        return Some(base_v3::MetricType::UI);
-    }
-    if vector.s.is_none() {
-        return Some(base_v3::MetricType::S);
-    }
-    if vector.c.is_none() {
-        return Some(base_v3::MetricType::C);
-    }
-    if vector.i.is_none() {
-        return Some(base_v3::MetricType::I);
-    }
-    if vector.a.is_none() {
-        return Some(base_v3::MetricType::A);
-    }
-    None
 }

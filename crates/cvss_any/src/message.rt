@@ -2,7 +2,8 @@
 
 ghost use Rattle.std.specs.Prelude.{◌≡◌, ◌++◌, ◌≤◌, ◌<◌, ◌+◌, ◌^◌, codes, length};
 ghost use Rattle.cvss_base.specs.ErrorText.{quoted as quoted_text};
-ghost use Rattle.cvss_any.specs.Reasons.{error_message, metric_words, reason_text, version_words};
+ghost use Rattle.cvss_any.specs.MetricTypes.{words_of};
+ghost use Rattle.cvss_any.specs.Reasons.{error_message, reason_text};
 ghost use Rattle.cvss_any.specs.Refusals.{refusal_of};
 ghost use Rattle.cvss_any.specs.Segments.{segment_text, text_of};
 
@@ -23,7 +24,7 @@ impl<'a> Message<'a> {
         ensures bound { length (text_of result.segments) < 2 ^ 63 + 300 }
     {
         match error {
-            ReadError::NotUtf8 => two([Segment::words("not UTF-8"), Segment::words("")]),
+            ReadError::NotUtf8 => two("not UTF-8", Segment::words("")),
             ReadError::Invalid(refusal) => Message::of_refusal(refusal),
         }
     }
@@ -38,25 +39,22 @@ impl<'a> Message<'a> {
                 quoted("invalid CVSS metric group component: `", component)
             }
             Refusal::WrongPrefix(prefix) => quoted("invalid CVSS string prefix: `", prefix),
-            Refusal::WrongVersion(version) => {
-                two([Segment::words("unsupported CVSS version: "), version])
-            }
+            Refusal::WrongVersion(version) => { two("unsupported CVSS version: ", version) }
             Refusal::UnknownName(name) => quoted("unknown CVSS metric name: `", name),
             Refusal::BadValue(metric, value) => invalid(metric, value),
-            Refusal::Repeated(metric) => two([duplicate(metric), Segment::words(metric.words())]),
-            Refusal::Missing(metric) => two([missing(metric), Segment::words(metric.words())]),
+            Refusal::Repeated(metric) => two("duplicate ", Segment::words(metric.words())),
+            Refusal::Missing(metric) => two("missing mandatory ", Segment::words(metric.words())),
         }
     }
 }
 
-fn two<'a>(both: [Segment<'a>; 2]) -> Message<'a>
-    ensures { text_of result.segments ≡ text_of both.entry }
+/// Words and a text.
+fn two<'a>(words: &'static str, text: Segment<'a>) -> Message<'a>
+    ensures { text_of result.segments ≡ words.now ++ segment_text text.entry }
 {
     let none = Segment::words("");
-    let [first, second] = both;
-    Message {
-        segments: [first, second, none, none, none],
-    }
+    let segments = [Segment::words(words), text, none, none, none];
+    Message { segments }
 }
 
 /// Words that end in a back tick, a text, and a back tick.
@@ -72,52 +70,16 @@ fn quoted<'a>(words: &'static str, text: Segment<'a>) -> Message<'a>
 
 /// That a metric has no such value.
 fn invalid<'a>(metric: MetricType, value: Segment<'a>) -> Message<'a>
-    ensures text { text_of result.segments ≡ codes "invalid " ++ metric_words metric ++ codes ": "
+    ensures text { text_of result.segments ≡ codes "invalid " ++ words_of metric ++ codes ": "
         ++ quoted_text (segment_text value.entry) }
     ensures bound { length (text_of result.segments) < 2 ^ 63 + 300 }
 {
     let segments = [
-        bad_value(metric),
+        Segment::words("invalid "),
         Segment::words(metric.words()),
         Segment::words(": `"),
         value,
         Segment::words("`"),
     ];
     Message { segments }
-}
-
-/// The words before a metric that has no such value.
-fn bad_value<'a>(metric: MetricType) -> Segment<'a>
-    ensures text { segment_text result ≡ codes "invalid " ++ version_words metric }
-    ensures short { length (segment_text result) ≤ 30 }
-{
-    Segment::words(match metric {
-        MetricType::V2(_) => "invalid CVSSv2 ",
-        MetricType::V3(_) => "invalid CVSSv3 ",
-        MetricType::V4(_) => "invalid CVSSv4 ",
-    })
-}
-
-/// The words before a metric that occurs twice.
-fn duplicate<'a>(metric: MetricType) -> Segment<'a>
-    ensures text { segment_text result ≡ codes "duplicate " ++ version_words metric }
-    ensures short { length (segment_text result) ≤ 30 }
-{
-    Segment::words(match metric {
-        MetricType::V2(_) => "duplicate CVSSv2 ",
-        MetricType::V3(_) => "duplicate CVSSv3 ",
-        MetricType::V4(_) => "duplicate CVSSv4 ",
-    })
-}
-
-/// The words before a metric that is missing.
-fn missing<'a>(metric: MetricType) -> Segment<'a>
-    ensures text { segment_text result ≡ codes "missing mandatory " ++ version_words metric }
-    ensures short { length (segment_text result) ≤ 30 }
-{
-    Segment::words(match metric {
-        MetricType::V2(_) => "missing mandatory CVSSv2 ",
-        MetricType::V3(_) => "missing mandatory CVSSv3 ",
-        MetricType::V4(_) => "missing mandatory CVSSv4 ",
-    })
 }

@@ -1,8 +1,7 @@
 //! The metrics of all versions.
 
-ghost use Rattle.std.specs.Prelude.{◌≡◌, ◌≤◌, ◌++◌, codes, length};
-ghost use Rattle.cvss_base.specs.ErrorText.{described};
-ghost use Rattle.cvss_any.specs.MetricTypes.{name_of, description_of};
+ghost use Rattle.std.specs.Prelude.{◌≡◌, ◌≤◌, length};
+ghost use Rattle.cvss_any.specs.MetricTypes.{name_of, description_of, words_of};
 
 use cvss_base::{Named, v2, v3, v4};
 
@@ -37,10 +36,10 @@ impl MetricType {
         }
     }
 
-    /// The metric's short and full names, as messages have them.
+    /// The metric in messages, with its version and both names.
     pub(crate) fn words(self) -> &'static str
-        ensures text { result.now ≡ described (name_of self) (description_of self) ++ codes " metric" }
-        ensures short { length result.now ≤ 72 }
+        ensures text { result.now ≡ words_of self }
+        ensures short { length result.now ≤ 80 }
     {
         match self {
             MetricType::V2(metric) => metric.row().3,

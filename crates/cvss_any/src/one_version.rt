@@ -1,10 +1,10 @@
 //! What each version brings to a vector of any version. CVSS v3.0 and v3.1 are one version here, with
 //! two minor versions.
 
-ghost use Rattle.std.specs.Prelude.{◌≡◌, ◌≤◌, ◌++◌, [], ℕ, Bool, List, None, Result, codes, ⊤};
+ghost use Rattle.std.specs.Prelude.{◌≡◌, ◌≤◌, [], ℕ, Bool, List, None, Result, codes, ⊤};
 ghost use Rattle.cvss_base.specs.Text.{pieces};
 ghost use Rattle.cvss_base.specs.Version.{canonical_text};
-ghost use Rattle.cvss_text.specs.Route.{ToV20, ToV40, route_of};
+ghost use Rattle.cvss_text.specs.Route.{Route, ToV20, ToV40};
 ghost use Rattle.cvss_text.specs.declared.walk.Fault.{Fault};
 ghost use Rattle.cvss_text.specs.private.Walk.{HasNoValue, IsReadLeft};
 ghost use Rattle.cvss_any.specs.Answers.{HasScore, text_of};
@@ -17,7 +17,7 @@ ghost use Rattle.cvss_any.specs.declared.reading.ReadFault.TheVariants as read;
 ghost use Rattle.cvss_any.specs.declared.vector.Cvss.{Cvss};
 ghost use Rattle.cvss_any.specs.declared.vector.Cvss.TheVariants as wrapped;
 ghost use Rattle.cvss_any.specs.private.Steps.{IsRead, read_as};
-ghost use Rattle.cvss_any.specs.private.Versions.{IsRouted, IsRoutedV3, front_of, wrapped_v3};
+ghost use Rattle.cvss_any.specs.private.Versions.{IsRouted, front_of, route_v3, wrapped_v3};
 
 use crate::complete::missing_of_v3;
 use crate::metric_type::MetricType;
@@ -37,7 +37,7 @@ pub(crate) trait OneVersion: Printed {
 
     ghost front: { ℕ → List (List ℕ) };
 
-    ghost is_routed: { List ℕ → List ℕ → ℕ → Type 0 };
+    ghost route: { ℕ → Route };
 
     ghost has_minor: { ℕ → Type 0 };
 
@@ -63,13 +63,11 @@ pub(crate) trait OneVersion: Printed {
     /// What the rules of this version read of the components of a text that says it, is what the text
     /// denotes. A law: it does nothing.
     fn reads_by_its_rules(text: &[u8], components: &[u8], minor_version: usize, empty: Self)
-        requires routed { is_routed text.now components.now minor_version }
+        requires routed { IsRouted has_minor route front text.now components.now minor_version }
         requires front { Self.version.front empty ≡ front minor_version }
         ensures read { (answer : Result (Unit {0}) (Fault Self.Kind)) (v : Self)
             → IsReadLeft Self.version (pieces components.now) empty answer v
             → IsRead text.now (read_as (joined minor_version) reported answer v) }
-        ensures minor { has_minor minor_version }
-        ensures cut { pieces text.now ≡ front minor_version ++ pieces components.now }
         ensures text { (v : Self) → text_of (joined minor_version v) ≡ canonical_text Self.version v }
         ensures complete { (allow_incomplete : Bool) (v : Self) → Self.has_base v
             → missing_by allow_incomplete (joined minor_version v) ≡ None };
@@ -98,7 +96,7 @@ impl OneVersion for v2::Vector {
 
     ghost front = { λ _. [] };
 
-    ghost is_routed = { λ text components _. (route_of text ≡ ToV20) × (components ≡ text) };
+    ghost route = { λ _. ToV20 };
 
     ghost has_minor = { λ _. ⊤ };
 
@@ -124,12 +122,7 @@ impl OneVersion for v2::Vector {
     }
 
     #[inline(always)]
-    fn reads_by_its_rules(
-        _text: &[u8],
-        _components: &[u8],
-        _minor_version: usize,
-        _empty: v2::Vector,
-    ) {}
+    fn reads_by_its_rules(_text: &[u8], _components: &[u8], _minor: usize, _empty: v2::Vector) {}
 
     #[inline(always)]
     fn missing_by(&self, _allow_incomplete: bool) -> Option<MetricType> {
@@ -157,7 +150,7 @@ impl OneVersion for v3::Vector {
 
     ghost front = { front_of (codes "3.") };
 
-    ghost is_routed = { λ text components. IsRoutedV3 text (pieces components) };
+    ghost route = { route_v3 };
 
     ghost has_minor = { λ minor. minor ≤ 1 };
 
@@ -190,12 +183,7 @@ impl OneVersion for v3::Vector {
     }
 
     #[inline(always)]
-    fn reads_by_its_rules(
-        _text: &[u8],
-        _components: &[u8],
-        _minor_version: usize,
-        _empty: v3::Vector,
-    ) {}
+    fn reads_by_its_rules(_text: &[u8], _components: &[u8], _minor: usize, _empty: v3::Vector) {}
 
     #[inline(always)]
     fn missing_by(&self, allow_incomplete: bool) -> Option<MetricType> {
@@ -230,8 +218,7 @@ impl OneVersion for v4::Vector {
 
     ghost front = { front_of (codes "4.") };
 
-    ghost is_routed = { λ text components minor. (minor ≡ 0)
-        × IsRouted ToV40 (codes "4.0") text (pieces components) };
+    ghost route = { λ _. ToV40 };
 
     ghost has_minor = { λ minor. minor ≡ 0 };
 
@@ -247,7 +234,6 @@ impl OneVersion for v4::Vector {
 
     #[inline(always)]
     fn without_metrics(minor_version: usize) -> v4::Vector {
-        cvss_v4::laws::default_vectors_have_no_metric();
         let mut empty = v4::Vector::default();
         empty.minor_version = minor_version;
         empty
@@ -261,12 +247,7 @@ impl OneVersion for v4::Vector {
     }
 
     #[inline(always)]
-    fn reads_by_its_rules(
-        _text: &[u8],
-        _components: &[u8],
-        _minor_version: usize,
-        _empty: v4::Vector,
-    ) {}
+    fn reads_by_its_rules(_text: &[u8], _components: &[u8], _minor: usize, _empty: v4::Vector) {}
 
     #[inline(always)]
     fn missing_by(&self, _allow_incomplete: bool) -> Option<MetricType> {

@@ -9,6 +9,7 @@ ghost use Rattle.cvss_any.specs.Complete.{IsPublishedBy, IsPublishedOfComplete, 
 ghost use Rattle.cvss_any.specs.declared.published.Published.{Published};
 ghost use Rattle.cvss_any.specs.declared.refusal.ReadError.{ReadError};
 ghost use Rattle.cvss_any.specs.private.Steps.{IsUnpublished};
+ghost use Rattle.cvss_any.specs.private.Versions.{IsRouted};
 
 use crate::one_version::OneVersion;
 use crate::published::Published;
@@ -137,7 +138,7 @@ fn published_whole<V: OneVersion>(
     components: &[u8],
     minor_version: usize,
 ) -> Option<Published>
-    requires { V.is_routed text.now components.now minor_version }
+    requires { IsRouted V.has_minor V.route V.front text.now components.now minor_version }
     ensures { IfSome result
         (λ published. (allow_incomplete : Bool) → IsPublishedBy allow_incomplete text.now text.now published) }
 {
@@ -157,7 +158,7 @@ fn publish_rest<V: OneVersion, P: Publishing>(
     allow_incomplete: bool,
     out: &mut Vec<u8>,
 ) -> Result<bool, AllocError>
-    requires { V.is_routed text.now components.now minor_version }
+    requires { IsRouted V.has_minor V.route V.front text.now components.now minor_version }
     ensures { IfOk result (λ is. IsPublishedTo P.accepted P.rejected allow_incomplete text.now
         out.old.items is out.new.items) }
 {

@@ -10,6 +10,7 @@ ghost use Rattle.cvss_any.specs.Bytes.{IsRefusedAs};
 ghost use Rattle.cvss_any.specs.Dispatch.{cvss_reason, without_version};
 ghost use Rattle.cvss_any.specs.Refusals.{IsReadErrorFor, refusal_of};
 ghost use Rattle.cvss_any.specs.private.Steps.{IsPrintableFault, IsRead, reason_read};
+ghost use Rattle.cvss_any.specs.private.Versions.{IsRouted};
 
 use crate::bytes_error::BytesError;
 use crate::one_version::OneVersion;
@@ -53,7 +54,7 @@ fn read_version<'a, V: OneVersion>(
     components: &'a [u8],
     minor_version: usize,
 ) -> Result<Cvss, ReadFault<'a>>
-    requires { V.is_routed text.now components.now minor_version }
+    requires { IsRouted V.has_minor V.route V.front text.now components.now minor_version }
     ensures { IsRead text.now result }
 {
     let mut vector = V::without_metrics(minor_version);

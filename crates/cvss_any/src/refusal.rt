@@ -68,25 +68,12 @@ impl<'a> Refusal<'a> {
         ensures { refusal_of result ≡ wrapped V.wrap (reason_of V.version fault.entry) }
     {
         match fault {
-            Fault::InvalidComponent(component) => {
-                let component = Segment::given(component);
-                Refusal::BadComponent(component)
-            }
-            Fault::InvalidPrefix(prefix) => {
-                let prefix = Segment::given(prefix);
-                Refusal::WrongPrefix(prefix)
-            }
-            Fault::UnsupportedVersion(version) => {
-                let version = Segment::given(version);
-                Refusal::WrongVersion(version)
-            }
-            Fault::UnknownMetric(name) => {
-                let name = Segment::read(V::any_case(), name);
-                Refusal::UnknownName(name)
-            }
+            Fault::InvalidComponent(piece) => Refusal::BadComponent(Segment::given(piece)),
+            Fault::InvalidPrefix(prefix) => Refusal::WrongPrefix(Segment::given(prefix)),
+            Fault::UnsupportedVersion(version) => Refusal::WrongVersion(Segment::given(version)),
+            Fault::UnknownMetric(name) => Refusal::UnknownName(Segment::read(V::any_case(), name)),
             Fault::InvalidMetric(kind, value) => {
-                let value = Segment::read(V::any_case(), value);
-                Refusal::BadValue(V::of_any(kind), value)
+                Refusal::BadValue(V::of_any(kind), Segment::read(V::any_case(), value))
             }
             Fault::DuplicateMetric(kind) => Refusal::Repeated(V::of_any(kind)),
             Fault::MissingMandatoryMetric(kind) => Refusal::Missing(V::of_any(kind)),

@@ -115,27 +115,20 @@ reaches a b p q n order =
     let parts : up a * q + down b * p ≤ up b * p + down a * q = omega (arith, ints) in
     omega (arith, ints, mul-le-mul_right n parts)
 
+-- a factor goes into both summands
+sum_times : (x y : Exact) (n : ℕ) → (x ⊕ y).top *ℤ pos n ≡ x.top *ℤ pos (y.bottom * n) +ℤ y.top *ℤ pos (x.bottom * n)
+sum_times x y n =
+    let sum = times_sum (x.top *ℤ pos y.bottom) (y.top *ℤ pos x.bottom) n in
+    omega (arith, ints, sum, times_times x.top (pos y.bottom) n, times_times y.top (pos x.bottom) n)
+
 -- of greater summands the sum is greater
 pub sum_at_most : (x x' y y' : Exact) → x ⊑ x' → y ⊑ y' → x ⊕ y ⊑ x' ⊕ y'
 sum_at_most x x' y y' left right =
-    let n = x'.bottom * y'.bottom in
-    let n' = x.bottom * y.bottom in
     let left_reached = reaches x.top x'.top x.bottom x'.bottom (y.bottom * y'.bottom) left.at_most in
     let right_reached = reaches y.top y'.top y.bottom y'.bottom (x.bottom * x'.bottom) right.at_most in
-    record {
-      at_most = omega (
-        arith,
-        ints,
-        left_reached,
-        right_reached,
-        times_sum (x.top *ℤ pos y.bottom) (y.top *ℤ pos x.bottom) n,
-        times_sum (x'.top *ℤ pos y'.bottom) (y'.top *ℤ pos x'.bottom) n',
-        times_times x.top (pos y.bottom) n,
-        times_times y.top (pos x.bottom) n,
-        times_times x'.top (pos y'.bottom) n',
-        times_times y'.top (pos x'.bottom) n',
-      );
-    }
+    let sum = sum_times x y (x'.bottom * y'.bottom) in
+    let sum' = sum_times x' y' (x.bottom * y.bottom) in
+    record { at_most = omega (arith, ints, left_reached, right_reached, sum, sum') }
 
 -- of a greater number and a smaller one taken away the difference is greater
 pub difference_at_most : (x x' y y' : Exact) → x ⊑ x' → y' ⊑ y → x ⊖ y ⊑ x' ⊖ y'
@@ -148,15 +141,9 @@ difference_at_most x x' y y' left right =
 pub scaled_at_most : (x y : Exact) (n m : ℕ) → x ⊑ y → x ⊗ n over m ⊑ y ⊗ n over m
 scaled_at_most x y n m order =
     let reached = reaches x.top y.top x.bottom y.bottom (n * m) order.at_most in
-    record {
-      at_most = omega (
-        arith,
-        ints,
-        reached,
-        times_times x.top (pos n) (y.bottom * m),
-        times_times y.top (pos n) (x.bottom * m),
-      );
-    }
+    let left = times_times x.top (pos n) (y.bottom * m) in
+    let right = times_times y.top (pos n) (x.bottom * m) in
+    record { at_most = omega (arith, ints, reached, left, right) }
 
 -- equal summands have equal sums
 pub sum_equal : {x x' y y' : Exact} → x ≈ x' → y ≈ y' → x ⊕ y ≈ x' ⊕ y'

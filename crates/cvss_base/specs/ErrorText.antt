@@ -11,23 +11,19 @@ use Rattle.cvss_base.specs.V4Types as v4
 abbrev pub quoted : List ℕ → List ℕ
 quoted text = codes "`" ++ text ++ codes "`"
 
--- a metric's abbreviation, and its name in parentheses
-abbrev pub described : List ℕ → List ℕ → List ℕ
-described name description = name ++ codes " (" ++ description ++ codes ")"
-
 -- the refusal's text
 abbrev pub error_text : Error → List ℕ
 error_text (InvalidComponent component) = codes "invalid CVSS metric group component: " ++ quoted (string_bytes component)
 error_text (InvalidPrefix prefix) = codes "invalid CVSS string prefix: " ++ quoted (string_bytes prefix)
 error_text (UnsupportedVersion version) = codes "unsupported CVSS version: " ++ string_bytes version
-error_text (InvalidMetricV2 kind value) = codes "invalid CVSSv2 " ++ described (v2.name_of kind) (v2.description_of kind) ++ codes " metric: " ++ quoted (string_bytes value)
-error_text (DuplicateMetricV2 kind) = codes "duplicate CVSSv2 " ++ described (v2.name_of kind) (v2.description_of kind) ++ codes " metric"
-error_text (MissingMandatoryMetricV2 kind) = codes "missing mandatory CVSSv2 " ++ described (v2.name_of kind) (v2.description_of kind) ++ codes " metric"
-error_text (InvalidMetricV3 kind value) = codes "invalid CVSSv3 " ++ described (v3.name_of kind) (v3.description_of kind) ++ codes " metric: " ++ quoted (string_bytes value)
-error_text (DuplicateMetricV3 kind) = codes "duplicate CVSSv3 " ++ described (v3.name_of kind) (v3.description_of kind) ++ codes " metric"
-error_text (InvalidMetricV4 kind value) = codes "invalid CVSSv4 " ++ described (v4.name_of kind) (v4.description_of kind) ++ codes " metric: " ++ quoted (string_bytes value)
-error_text (DuplicateMetricV4 kind) = codes "duplicate CVSSv4 " ++ described (v4.name_of kind) (v4.description_of kind) ++ codes " metric"
-error_text (MissingMandatoryMetricV4 kind) = codes "missing mandatory CVSSv4 " ++ described (v4.name_of kind) (v4.description_of kind) ++ codes " metric"
+error_text (InvalidMetricV2 kind value) = codes "invalid " ++ v2.words_of kind ++ codes ": " ++ quoted (string_bytes value)
+error_text (DuplicateMetricV2 kind) = codes "duplicate " ++ v2.words_of kind
+error_text (MissingMandatoryMetricV2 kind) = codes "missing mandatory " ++ v2.words_of kind
+error_text (InvalidMetricV3 kind value) = codes "invalid " ++ v3.words_of kind ++ codes ": " ++ quoted (string_bytes value)
+error_text (DuplicateMetricV3 kind) = codes "duplicate " ++ v3.words_of kind
+error_text (InvalidMetricV4 kind value) = codes "invalid " ++ v4.words_of kind ++ codes ": " ++ quoted (string_bytes value)
+error_text (DuplicateMetricV4 kind) = codes "duplicate " ++ v4.words_of kind
+error_text (MissingMandatoryMetricV4 kind) = codes "missing mandatory " ++ v4.words_of kind
 error_text (InvalidNomenclatureV4 nomenclature) = codes "invalid CVSSv4 nomenclature: " ++ quoted (string_bytes nomenclature)
 error_text (InvalidSeverity name) = codes "invalid CVSS Qualitative Severity Rating: " ++ quoted (string_bytes name)
 error_text (UnknownMetric name) = codes "unknown CVSS metric name: " ++ quoted (string_bytes name)

@@ -1,6 +1,6 @@
 -- How the text of a vector is cut into components: CVSS v2 guide, section 2.4; v3.1 specification,
 -- section 6; v4.0 specification, section 7.
-use Rattle.std.specs.Prelude.{◌≡◌, ℕ, ◌==◌, Bool, true, false, List, ◌∷◌, ◌++◌, map, count_by}
+use Rattle.std.specs.Prelude.{◌≡◌, ℕ, ◌==◌, Bool, true, false, List, ◌∷◌, ◌++◌, codes, map, count_by}
 use Rattle.std.specs.List.{slice_split, join_with_byte, before_first, after_first, list_any}
 use Rattle.std.specs.Char.{to_ascii_uppercase}
 
@@ -43,6 +43,10 @@ value_part piece = after_first (λ byte. byte == colon) piece
 -- the component with this name and value
 abbrev pub component : List ℕ → List ℕ → List ℕ
 component name value = name ++ (colon ∷ value)
+
+-- a metric in messages, by its version, its abbreviation and its name in parentheses
+abbrev pub described : List ℕ → List ℕ → List ℕ → List ℕ
+described version name words = version ++ codes " " ++ name ++ codes " (" ++ words ++ codes ") metric"
 
 -- the text with its ASCII letters turned to upper case
 abbrev pub uppercased : List ℕ → List ℕ

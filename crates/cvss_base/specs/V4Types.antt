@@ -3,6 +3,7 @@
 use Rattle.std.specs.Prelude.{ℕ, List, [], ◌∷◌, codes, Option, Some, None}
 use Rattle.std.specs.String.{string_bytes}
 use Rattle.cvss_base.specs.Refusal.{Refusal, BadValue, Repeated, Missing}
+use Rattle.cvss_base.specs.Text.{described}
 use Rattle.cvss_base.specs.declared.error.Error.{Error}
 use Rattle.cvss_base.specs.declared.error.Error.TheVariants.{InvalidMetricV4, DuplicateMetricV4, MissingMandatoryMetricV4}
 use Rattle.cvss_base.specs.declared.group.MetricGroup.{MetricGroup}
@@ -56,6 +57,10 @@ description_of kind = (row_of kind).1
 -- the group to which the metric belongs
 abbrev pub group_of : MetricType → MetricGroup
 group_of kind = (row_of kind).2
+
+-- the metric in messages
+abbrev pub words_of : MetricType → List ℕ
+words_of kind = described (codes "CVSSv4") (row_of kind).0 (row_of kind).1
 
 -- the metrics as they are compared, the least first
 abbrev pub declared : List MetricType

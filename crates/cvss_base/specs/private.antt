@@ -1,2 +1,1 @@
 pub mod Component
-pub mod Unknown

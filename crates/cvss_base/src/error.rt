@@ -3,12 +3,11 @@
 ghost use Rattle.std.specs.Prelude.{◌≡◌, Some, ◌++◌, codes};
 ghost use Rattle.std.specs.Fmt.{DisplaysOnOk};
 ghost use Rattle.cvss_base.specs.declared.error.Error.TheVariants.{OutOfMemory};
-ghost use Rattle.cvss_base.specs.ErrorText.{error_text, quoted, described};
-ghost use Rattle.cvss_base.specs.private.Unknown.{ReportsUnknown};
+ghost use Rattle.cvss_base.specs.ErrorText.{error_text, quoted};
 
 use crate::named::Named;
 use crate::{v2, v3, v4};
-use std::alloc::{AllocError, Global};
+use std::alloc::AllocError;
 use std::fmt;
 
 /// Why a text is no vector, metric or severity.
@@ -77,78 +76,47 @@ pub enum Error {
     OutOfMemory,
 }
 
-impl Error {
-    /// The error that no metric has this name.
-    pub(crate) fn unknown_metric(alloc: Global, name: &str) -> Error
-        ensures { ReportsUnknown name.now result }
-    {
-        match String::from_str(alloc, name) {
-            Ok(name) => Error::UnknownMetric { name },
-            Err(_) => Error::OutOfMemory,
-        }
-    }
-}
-
 impl fmt::Display for Error {
     ghost output = { λ error. Some (error_text error) };
 
     fn fmt<W: fmt::Write>(&self, f: &mut fmt::Formatter<W>) -> fmt::Result {
         match self {
             Error::InvalidComponent { component } => {
-                write_quoted(
-                    "invalid CVSS metric group component: ",
-                    component.as_str(),
-                    f,
-                )
+                write_quoted("invalid CVSS metric group component: ", component, f)
             }
             Error::InvalidPrefix { prefix } => {
-                write_quoted("invalid CVSS string prefix: ", prefix.as_str(), f)
+                write_quoted("invalid CVSS string prefix: ", prefix, f)
             }
             Error::UnsupportedVersion { version } => {
-                write_after("unsupported CVSS version: ", version.as_str(), f)
+                write!(f, "unsupported CVSS version: {version}")
             }
-            Error::InvalidMetricV2 { metric_type, value } => {
-                write_invalid("invalid CVSSv2 ", *metric_type, value.as_str(), f)
-            }
-            Error::DuplicateMetricV2 { metric_type } => {
-                write_metric("duplicate CVSSv2 ", *metric_type, f)
-            }
-            Error::MissingMandatoryMetricV2 { metric_type } => {
-                write_metric("missing mandatory CVSSv2 ", *metric_type, f)
-            }
-            Error::InvalidMetricV3 { metric_type, value } => {
-                write_invalid("invalid CVSSv3 ", *metric_type, value.as_str(), f)
-            }
-            Error::DuplicateMetricV3 { metric_type } => {
-                write_metric("duplicate CVSSv3 ", *metric_type, f)
-            }
-            Error::InvalidMetricV4 { metric_type, value } => {
-                write_invalid("invalid CVSSv4 ", *metric_type, value.as_str(), f)
-            }
-            Error::DuplicateMetricV4 { metric_type } => {
-                write_metric("duplicate CVSSv4 ", *metric_type, f)
-            }
-            Error::MissingMandatoryMetricV4 { metric_type } => {
-                write_metric("missing mandatory CVSSv4 ", *metric_type, f)
-            }
+            Error::InvalidMetricV2 { metric_type, value } => write_invalid(*metric_type, value, f),
+            Error::DuplicateMetricV2 { metric_type } => write_metric("duplicate ", *metric_type, f),
+            Error::MissingMandatoryMetricV2 { metric_type } => write_metric(
+                "missing mandatory ",
+                *metric_type,
+                f,
+            ),
+            Error::InvalidMetricV3 { metric_type, value } => write_invalid(*metric_type, value, f),
+            Error::DuplicateMetricV3 { metric_type } => write_metric("duplicate ", *metric_type, f),
+            Error::InvalidMetricV4 { metric_type, value } => write_invalid(*metric_type, value, f),
+            Error::DuplicateMetricV4 { metric_type } => write_metric("duplicate ", *metric_type, f),
+            Error::MissingMandatoryMetricV4 { metric_type } => write_metric(
+                "missing mandatory ",
+                *metric_type,
+                f,
+            ),
             Error::InvalidNomenclatureV4 { nomenclature } => {
-                write_quoted("invalid CVSSv4 nomenclature: ", nomenclature.as_str(), f)
+                write_quoted("invalid CVSSv4 nomenclature: ", nomenclature, f)
             }
             Error::InvalidSeverity { name } => {
-                write_quoted(
-                    "invalid CVSS Qualitative Severity Rating: ",
-                    name.as_str(),
-                    f,
-                )
+                write_quoted("invalid CVSS Qualitative Severity Rating: ", name, f)
             }
-            Error::UnknownMetric { name } => {
-                write_quoted("unknown CVSS metric name: ", name.as_str(), f)
-            }
+            Error::UnknownMetric { name } => write_quoted("unknown CVSS metric name: ", name, f),
             Error::OutOfMemory => f.write_str("out of memory"),
         }
     }
 }
-
 /// Writes a text between back ticks.
 fn write_quoted<W: fmt::Write>(
     before: &'static str,
@@ -161,43 +129,28 @@ fn write_quoted<W: fmt::Write>(
     write!(f, "{before}`{text}`")
 }
 
-/// Writes a text as it is.
-fn write_after<W: fmt::Write>(
-    before: &'static str,
-    text: &str,
-    f: &mut fmt::Formatter<W>,
-) -> fmt::Result
-    ensures { DisplaysOnOk W.write_str_gives f.old result (Some (before.now ++ text.now)) f.new }
-{
-    write!(f, "{before}{text}")
-}
-
 /// Writes what is wrong with a metric.
 fn write_metric<N: Named, W: fmt::Write>(
     before: &'static str,
     kind: N,
     f: &mut fmt::Formatter<W>,
 ) -> fmt::Result
-    ensures { DisplaysOnOk W.write_str_gives f.old result (Some (before.now
-        ++ described (N.row_of kind).0 (N.row_of kind).1 ++ codes " metric")) f.new }
+    ensures { DisplaysOnOk W.write_str_gives f.old result
+        (Some (before.now ++ N.words_of kind)) f.new }
 {
-    let metric = kind.row().3;
-    write!(f, "{before}{metric}")
+    write!(f, "{before}{}", kind.row().3)
 }
 
 /// Writes that a metric has no such value.
 fn write_invalid<N: Named, W: fmt::Write>(
-    before: &'static str,
     kind: N,
     value: &str,
     f: &mut fmt::Formatter<W>,
 ) -> fmt::Result
-    ensures { DisplaysOnOk W.write_str_gives f.old result (Some (before.now
-        ++ described (N.row_of kind).0 (N.row_of kind).1 ++ codes " metric: "
-        ++ quoted value.now)) f.new }
+    ensures { DisplaysOnOk W.write_str_gives f.old result
+        (Some (codes "invalid " ++ N.words_of kind ++ codes ": " ++ quoted value.now)) f.new }
 {
-    write_metric(before, kind, f)?;
-    write!(f, ": `{value}`")
+    write!(f, "invalid {}: `{value}`", kind.row().3)
 }
 
 impl std::error::Error for Error {}

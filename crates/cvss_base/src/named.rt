@@ -1,21 +1,26 @@
 //! The names of a metric type, and the type that is looked up by its name, once for all versions.
 
-ghost use Rattle.std.specs.Prelude.{◌≡◌, ◌++◌, IfOk, IfErr, Some, Ok, ℕ, List, codes, find, bytes_eq};
-ghost use Rattle.cvss_base.specs.ErrorText.{described};
+ghost use Rattle.std.specs.Prelude.{◌≡◌, IfOk, IfErr, IfSome, Some, Ok, ℕ, List, Option, find, bytes_eq};
+ghost use Rattle.cvss_base.specs.Refusal.{Refusal, UnknownName};
+ghost use Rattle.cvss_base.specs.Reported.{Reports};
 ghost use Rattle.cvss_base.specs.declared.group.MetricGroup.{MetricGroup};
-ghost use Rattle.cvss_base.specs.private.Unknown.{ReportsUnknown};
 
 use crate::error::Error;
 use crate::group::MetricGroup;
 use std::alloc::Global;
 
-/// The abbreviation, the name in words, the group, and both names as messages have them.
+/// The abbreviation, the name in words, the group, and the metric as messages have it.
 pub type Row = (&'static str, &'static str, MetricGroup, &'static str);
 
-/// The row of an abbreviation, a name in words and a group.
+/// The row of a version, a group, an abbreviation and a name in words.
 macro_rules! row {
-    ($name:literal, $words:literal, $group:ident) => {
-        ($name, $words, $group, concat!($name, " (", $words, ") metric"))
+    ($version:ident $group:ident $name:ident $words:literal) => {
+        (
+            stringify!($name),
+            $words,
+            $group,
+            concat!("CVSS", stringify!($version), " ", stringify!($name), " (", $words, ") metric"),
+        )
     };
 }
 
@@ -25,13 +30,15 @@ pub(crate) use row;
 pub trait Named: Copy + 'static {
     ghost row_of: { Self → List ℕ × List ℕ × MetricGroup };
 
+    ghost words_of: { Self → List ℕ };
+
     ghost declared: { List Self };
 
     fn row(self) -> Row
         ensures abbreviation { result.0.now ≡ (row_of self).0 }
         ensures words { result.1.now ≡ (row_of self).1 }
         ensures group { result.2 ≡ (row_of self).2 }
-        ensures both { result.3.now ≡ described (row_of self).0 (row_of self).1 ++ codes " metric" };
+        ensures message { result.3.now ≡ words_of self };
 
     // Each is the first of its abbreviation.
     ghost first: { (kind : Self)
@@ -41,7 +48,8 @@ pub trait Named: Copy + 'static {
 /// The metric type with this name, exactly as it is written, where all metric types are given.
 fn kind_of<N: Named>(all: &[N], name: &str) -> Option<N>
     requires { all.now ≡ N.declared }
-    ensures { result ≡ find (λ kind. bytes_eq (N.row_of kind).0 name.now) N.declared }
+    ensures named { IfSome result (λ kind. (N.row_of kind).0 ≡ name.now) }
+    ensures read { (kind : N) → (N.row_of kind).0 ≡ name.now → result ≡ Some kind }
 {
     all.iter().copied().find(|kind| kind.row().0 == name)
 }
@@ -52,10 +60,13 @@ pub(crate) fn from_name<N: Named>(alloc: Global, all: &[N], name: &str) -> Resul
     requires { all.now ≡ N.declared }
     ensures named { IfOk result (λ kind. (N.row_of kind).0 ≡ name.now) }
     ensures read { (kind : N) → (N.row_of kind).0 ≡ name.now → result ≡ Ok kind }
-    ensures refused { IfErr result (ReportsUnknown name.now) }
+    ensures refused { IfErr result (λ error. (own : Error → Option (Refusal N))
+        → Reports own (UnknownName name.now) error) }
 {
     match kind_of(all, name) {
         Some(kind) => Ok(kind),
-        None => Err(Error::unknown_metric(alloc, name)),
+        None => Err(Error::UnknownMetric {
+            name: String::from_str(alloc, name)?,
+        }),
     }
 }

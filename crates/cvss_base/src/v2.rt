@@ -4,7 +4,7 @@ ghost use Rattle.std.specs.Prelude.{◌≡◌, IfOk, IfErr, Ok, Some};
 ghost use Rattle.std.proofs.Common.{rules};
 ghost use Rattle.cvss_base.specs.Refusal.{UnknownName};
 ghost use Rattle.cvss_base.specs.Reported.{Reports};
-ghost use Rattle.cvss_base.specs.V2Types.{v2_reason, row_of, name_of, description_of, group_of, declared};
+ghost use Rattle.cvss_base.specs.V2Types.{v2_reason, row_of, name_of, description_of, group_of, words_of, declared};
 
 use crate::error::Error;
 use crate::group::MetricGroup::{self, Base, Environmental, Temporal};
@@ -37,20 +37,20 @@ const ALL: [MetricType; 14] = [A, AC, AV, Au, C, I, E, RL, RC, CDP, TD, CR, IR, 
 
 /// The abbreviation of each metric type, its name in words and its group, as they are declared.
 const ROWS: [Row; 14] = [
-    row!("A", "Availability Impact", Base),
-    row!("AC", "Access Complexity", Base),
-    row!("AV", "Access Vector", Base),
-    row!("Au", "Authentication", Base),
-    row!("C", "Confidentiality Impact", Base),
-    row!("I", "Integrity Impact", Base),
-    row!("E", "Exploitability", Temporal),
-    row!("RL", "Remediation Level", Temporal),
-    row!("RC", "Report Confidence", Temporal),
-    row!("CDP", "Collateral Damage Potential", Environmental),
-    row!("TD", "Target Distribution", Environmental),
-    row!("CR", "Confidentiality Requirement", Environmental),
-    row!("IR", "Integrity Requirement", Environmental),
-    row!("AR", "Availability Requirement", Environmental),
+    row!(v2 Base A "Availability Impact"),
+    row!(v2 Base AC "Access Complexity"),
+    row!(v2 Base AV "Access Vector"),
+    row!(v2 Base Au "Authentication"),
+    row!(v2 Base C "Confidentiality Impact"),
+    row!(v2 Base I "Integrity Impact"),
+    row!(v2 Temporal E "Exploitability"),
+    row!(v2 Temporal RL "Remediation Level"),
+    row!(v2 Temporal RC "Report Confidence"),
+    row!(v2 Environmental CDP "Collateral Damage Potential"),
+    row!(v2 Environmental TD "Target Distribution"),
+    row!(v2 Environmental CR "Confidentiality Requirement"),
+    row!(v2 Environmental IR "Integrity Requirement"),
+    row!(v2 Environmental AR "Availability Requirement"),
 ];
 
 impl MetricType {
@@ -91,6 +91,8 @@ impl MetricType {
 
 impl Named for MetricType {
     ghost row_of = { row_of };
+
+    ghost words_of = { words_of };
 
     ghost declared = { declared };
 

@@ -4,7 +4,7 @@ ghost use Rattle.std.specs.Prelude.{◌≡◌, IfOk, IfErr, Ok, Some};
 ghost use Rattle.std.proofs.Common.{rules};
 ghost use Rattle.cvss_base.specs.Refusal.{UnknownName};
 ghost use Rattle.cvss_base.specs.Reported.{Reports};
-ghost use Rattle.cvss_base.specs.V3Types.{v3_reason, row_of, name_of, description_of, group_of, declared};
+ghost use Rattle.cvss_base.specs.V3Types.{v3_reason, row_of, name_of, description_of, group_of, words_of, declared};
 
 use crate::error::Error;
 use crate::group::MetricGroup::{self, Base, Environmental, Temporal};
@@ -47,28 +47,28 @@ const ALL: [MetricType; 22] = [
 
 /// The abbreviation of each metric type, its name in words and its group, as they are declared.
 const ROWS: [Row; 22] = [
-    row!("A", "Availability Impact", Base),
-    row!("AC", "Attack Complexity", Base),
-    row!("AV", "Attack Vector", Base),
-    row!("C", "Confidentiality Impact", Base),
-    row!("I", "Integrity Impact", Base),
-    row!("PR", "Privileges Required", Base),
-    row!("S", "Scope", Base),
-    row!("UI", "User Interaction", Base),
-    row!("E", "Exploit Code Maturity", Temporal),
-    row!("RL", "Remediation Level", Temporal),
-    row!("RC", "Report Confidence", Temporal),
-    row!("CR", "Confidentiality Requirements", Environmental),
-    row!("IR", "Integrity Requirements", Environmental),
-    row!("AR", "Availability Requirements", Environmental),
-    row!("MAV", "Modified Attack Vector", Environmental),
-    row!("MAC", "Modified Attack Complexity", Environmental),
-    row!("MPR", "Modified Privileges Required", Environmental),
-    row!("MUI", "Modified User Interaction", Environmental),
-    row!("MS", "Modified Scope", Environmental),
-    row!("MC", "Modified Confidentiality", Environmental),
-    row!("MI", "Modified Integrity", Environmental),
-    row!("MA", "Modified Availability", Environmental),
+    row!(v3 Base A "Availability Impact"),
+    row!(v3 Base AC "Attack Complexity"),
+    row!(v3 Base AV "Attack Vector"),
+    row!(v3 Base C "Confidentiality Impact"),
+    row!(v3 Base I "Integrity Impact"),
+    row!(v3 Base PR "Privileges Required"),
+    row!(v3 Base S "Scope"),
+    row!(v3 Base UI "User Interaction"),
+    row!(v3 Temporal E "Exploit Code Maturity"),
+    row!(v3 Temporal RL "Remediation Level"),
+    row!(v3 Temporal RC "Report Confidence"),
+    row!(v3 Environmental CR "Confidentiality Requirements"),
+    row!(v3 Environmental IR "Integrity Requirements"),
+    row!(v3 Environmental AR "Availability Requirements"),
+    row!(v3 Environmental MAV "Modified Attack Vector"),
+    row!(v3 Environmental MAC "Modified Attack Complexity"),
+    row!(v3 Environmental MPR "Modified Privileges Required"),
+    row!(v3 Environmental MUI "Modified User Interaction"),
+    row!(v3 Environmental MS "Modified Scope"),
+    row!(v3 Environmental MC "Modified Confidentiality"),
+    row!(v3 Environmental MI "Modified Integrity"),
+    row!(v3 Environmental MA "Modified Availability"),
 ];
 
 impl MetricType {
@@ -109,6 +109,8 @@ impl MetricType {
 
 impl Named for MetricType {
     ghost row_of = { row_of };
+
+    ghost words_of = { words_of };
 
     ghost declared = { declared };
 

@@ -4,7 +4,7 @@ ghost use Rattle.std.specs.Prelude.{◌≡◌, IfOk, IfErr, Ok, Some};
 ghost use Rattle.std.proofs.Common.{rules};
 ghost use Rattle.cvss_base.specs.Refusal.{UnknownName};
 ghost use Rattle.cvss_base.specs.Reported.{Reports};
-ghost use Rattle.cvss_base.specs.V4Types.{v4_reason, row_of, name_of, description_of, group_of, declared};
+ghost use Rattle.cvss_base.specs.V4Types.{v4_reason, row_of, name_of, description_of, group_of, words_of, declared};
 
 use crate::error::Error;
 use crate::group::MetricGroup::{self, Base, Environmental, Supplemental, Threat};
@@ -58,70 +58,38 @@ const ALL: [MetricType; 32] = [
 
 /// The abbreviation of each metric type, its name in words and its group, as they are declared.
 const ROWS: [Row; 32] = [
-    row!("AC", "Attack Complexity", Base),
-    row!("AT", "Attack Requirements", Base),
-    row!("AV", "Attack Vector", Base),
-    row!("PR", "Privileges Required", Base),
-    row!("SA", "Availability Impact to the Subsequent System", Base),
-    row!(
-        "SC",
-        "Confidentiality Impact to the Subsequent System",
-        Base
-    ),
-    row!("SI", "Integrity Impact to the Subsequent System", Base),
-    row!("UI", "User Interaction", Base),
-    row!("VA", "Availability Impact to the Vulnerable System", Base),
-    row!(
-        "VC",
-        "Confidentiality Impact to the Vulnerable System",
-        Base
-    ),
-    row!("VI", "Integrity Impact to the Vulnerable System", Base),
-    row!("E", "Exploit Maturity", Threat),
-    row!("AR", "Availability Requirements", Environmental),
-    row!("CR", "Confidentiality Requirements", Environmental),
-    row!("IR", "Integrity Requirements", Environmental),
-    row!("MAC", "Modified Attack Complexity", Environmental),
-    row!("MAT", "Modified Attack Requirements", Environmental),
-    row!("MAV", "Modified Attack Vector", Environmental),
-    row!("MPR", "Modified Privileges Required", Environmental),
-    row!(
-        "MSA",
-        "Modified Availability Impact to the Subsequent System",
-        Environmental
-    ),
-    row!(
-        "MSC",
-        "Modified Confidentiality Impact to the Subsequent System",
-        Environmental
-    ),
-    row!(
-        "MSI",
-        "Modified Integrity Impact to the Subsequent System",
-        Environmental
-    ),
-    row!("MUI", "Modified User Interaction", Environmental),
-    row!(
-        "MVA",
-        "Modified Availability Impact to the Vulnerable System",
-        Environmental
-    ),
-    row!(
-        "MVC",
-        "Modified Confidentiality Impact to the Vulnerable System",
-        Environmental
-    ),
-    row!(
-        "MVI",
-        "Modified Integrity Impact to the Vulnerable System",
-        Environmental
-    ),
-    row!("AU", "Automatable", Supplemental),
-    row!("R", "Recovery", Supplemental),
-    row!("RE", "Vulnerability Response Effort", Supplemental),
-    row!("S", "Safety", Supplemental),
-    row!("U", "Provider Urgency", Supplemental),
-    row!("V", "Value Density", Supplemental),
+    row!(v4 Base AC "Attack Complexity"),
+    row!(v4 Base AT "Attack Requirements"),
+    row!(v4 Base AV "Attack Vector"),
+    row!(v4 Base PR "Privileges Required"),
+    row!(v4 Base SA "Availability Impact to the Subsequent System"),
+    row!(v4 Base SC "Confidentiality Impact to the Subsequent System"),
+    row!(v4 Base SI "Integrity Impact to the Subsequent System"),
+    row!(v4 Base UI "User Interaction"),
+    row!(v4 Base VA "Availability Impact to the Vulnerable System"),
+    row!(v4 Base VC "Confidentiality Impact to the Vulnerable System"),
+    row!(v4 Base VI "Integrity Impact to the Vulnerable System"),
+    row!(v4 Threat E "Exploit Maturity"),
+    row!(v4 Environmental AR "Availability Requirements"),
+    row!(v4 Environmental CR "Confidentiality Requirements"),
+    row!(v4 Environmental IR "Integrity Requirements"),
+    row!(v4 Environmental MAC "Modified Attack Complexity"),
+    row!(v4 Environmental MAT "Modified Attack Requirements"),
+    row!(v4 Environmental MAV "Modified Attack Vector"),
+    row!(v4 Environmental MPR "Modified Privileges Required"),
+    row!(v4 Environmental MSA "Modified Availability Impact to the Subsequent System"),
+    row!(v4 Environmental MSC "Modified Confidentiality Impact to the Subsequent System"),
+    row!(v4 Environmental MSI "Modified Integrity Impact to the Subsequent System"),
+    row!(v4 Environmental MUI "Modified User Interaction"),
+    row!(v4 Environmental MVA "Modified Availability Impact to the Vulnerable System"),
+    row!(v4 Environmental MVC "Modified Confidentiality Impact to the Vulnerable System"),
+    row!(v4 Environmental MVI "Modified Integrity Impact to the Vulnerable System"),
+    row!(v4 Supplemental AU "Automatable"),
+    row!(v4 Supplemental R "Recovery"),
+    row!(v4 Supplemental RE "Vulnerability Response Effort"),
+    row!(v4 Supplemental S "Safety"),
+    row!(v4 Supplemental U "Provider Urgency"),
+    row!(v4 Supplemental V "Value Density"),
 ];
 
 impl MetricType {
@@ -169,6 +137,8 @@ impl MetricType {
 
 impl Named for MetricType {
     ghost row_of = { row_of };
+
+    ghost words_of = { words_of };
 
     ghost declared = { declared };
 

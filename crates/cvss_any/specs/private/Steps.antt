@@ -1,18 +1,19 @@
 -- What the private code of the front door does.
-use Rattle.std.specs.Prelude.{◌≡◌, ◌⊎◌, ℕ, Bool, List, Some, Result, Ok, Err, OnOk, IfOk, IfErr, IsErrAnd}
+use Rattle.std.specs.Prelude.{◌≡◌, ◌⊎◌, ℕ, Bool, List, Result, Ok, Err, OnOk, IfOk, IfErr, IsErrAnd}
 use Rattle.std.specs.Str.{IsUtf8}
 use Rattle.cvss_text.specs.declared.walk.Fault.{Fault}
 use Rattle.cvss_text.specs.private.Walk as walk
-use Rattle.cvss_base.specs.Refusal.{Refusal, Missing}
+use Rattle.cvss_base.specs.Refusal.{Refusal}
 use Rattle.cvss_any.specs.Dispatch as spec
 use Rattle.cvss_any.specs.declared.metric_type.MetricType.{MetricType}
 use Rattle.cvss_v2.specs.Vector.{v2}
 use Rattle.cvss_v3.specs.Vector.{v3}
 use Rattle.cvss_v4.specs.Vector.{v4}
 use Rattle.cvss_any.specs.Answers.{HasScore}
-use Rattle.cvss_any.specs.Complete.{missing_by}
+use Rattle.cvss_any.specs.Complete.{IsMissingError}
 use Rattle.cvss_any.specs.declared.metric_type.MetricType.TheVariants.{V2, V3, V4}
-use Rattle.cvss_any.specs.Refusals.{refusal_of}
+use Rattle.cvss_any.specs.Refusals.{IsReadErrorFor, refusal_of}
+use Rattle.cvss_any.specs.declared.refusal.ReadError.{ReadError}
 use Rattle.cvss_any.specs.declared.refusal.Refusal as declared
 use Rattle.cvss_any.specs.declared.reading.ReadFault.{ReadFault}
 use Rattle.cvss_any.specs.declared.reading.ReadFault.TheVariants as reported
@@ -45,16 +46,9 @@ abbrev pub read_as : {V K : Type 0} → (V → Cvss) → (Fault K → ReadFault)
 read_as wrap reported (Ok _) v = Ok (wrap v)
 read_as wrap reported (Err fault) v = Err (reported fault)
 
--- the text denotes a vector that lacks base metrics and may not, and the reason says the first of them
-pub record IsMissingReason (allow_incomplete : Bool) (text : List ℕ) (reason : Refusal MetricType) : Type 0 where
-  pub cvss : Cvss
-  pub denoted : spec.DenotesCvss text cvss
-  pub utf8 : IsUtf8 text
-  pub metric : MetricType
-  pub missing : missing_by allow_incomplete cvss ≡ Some metric
-  pub is : reason ≡ Missing metric
-
--- why nothing is published of a text
+-- why nothing is published of a text: it is refused, or each error of this reason says a base metric that its vector lacks
+-- and may not
 abbrev pub IsUnpublished : Bool → List ℕ → declared.Refusal → Type 0
 IsUnpublished allow_incomplete text refusal =
-    spec.IsFirstRefusalCvss text (refusal_of refusal) ⊎ IsMissingReason allow_incomplete text (refusal_of refusal)
+    spec.IsFirstRefusalCvss text (refusal_of refusal)
+    ⊎ ((error : ReadError) → IsReadErrorFor text (refusal_of refusal) error → IsMissingError allow_incomplete text error)

@@ -1,5 +1,5 @@
 -- The versions as the private code has them: CVSS v3.0 and v3.1 are one, with two minor versions.
-use Rattle.std.specs.Prelude.{◌≡◌, ℕ, zero, suc, List, [], ◌∷◌, ◌++◌, codes}
+use Rattle.std.specs.Prelude.{◌≡◌, ◌≤◌, ℕ, zero, suc, List, [], ◌∷◌, ◌++◌, codes}
 use Rattle.cvss_base.specs.Text.{pieces}
 use Rattle.cvss_base.specs.Version.{numeral, version_piece}
 use Rattle.cvss_text.specs.Route.{Route, ToV30, ToV31, route_of}
@@ -16,13 +16,18 @@ abbrev pub wrapped_v3 : ℕ → vector_v3.Vector → Cvss
 wrapped_v3 zero = CvssV30
 wrapped_v3 (suc _) = CvssV31
 
--- the text is read by the rules of a version, and these pieces follow the one that says it
-pub record IsRouted (to : Route) (reported text : List ℕ) (left : List (List ℕ)) : Type 0 where
-  pub route : route_of text ≡ to
-  pub after : pieces text ≡ version_piece reported ∷ left
+-- where a text of a minor version of CVSS v3 is read
+abbrev pub route_v3 : ℕ → Route
+route_v3 zero = ToV30
+route_v3 (suc _) = ToV31
 
--- the same of a minor version of CVSS v3
-abbrev pub IsRoutedV3 : List ℕ → List (List ℕ) → ℕ → Type 0
-IsRoutedV3 text left zero = IsRouted ToV30 (codes "3.0") text left
-IsRoutedV3 text left (suc zero) = IsRouted ToV31 (codes "3.1") text left
-IsRoutedV3 text left (suc (suc _)) = ⊥
+-- the text is read by the rules of a version, of a minor version that it has, and its pieces are the front that says it
+-- and the components
+pub record IsRouted (has_minor : ℕ → Type 0) (route : ℕ → Route) (front : ℕ → List (List ℕ)) (text components : List ℕ) (minor : ℕ) : Type 0 where
+  pub known : has_minor minor
+  pub routed : route_of text ≡ route minor
+  pub cut : pieces text ≡ front minor ++ pieces components
+
+-- the same of CVSS v3
+abbrev pub IsRoutedV3 : List ℕ → List ℕ → ℕ → Type 0
+IsRoutedV3 = IsRouted (λ minor. minor ≤ 1) route_v3 (front_of (codes "3."))

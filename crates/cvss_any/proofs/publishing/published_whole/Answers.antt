@@ -19,7 +19,7 @@ returns g c = λ allow_incomplete.
     let minor = c.args.minor_version in
     let whole = c.in_ok-vector.ensures.whole in
     let read = rules.read (Ok tt) vector (IsReadLeft-whole version version_laws vector components _ whole empty.result refl) in
-    let cut = rules.cut ∙ ap (λ front. front ++ pieces components) (sym empty.ensures.front) in
+    let cut = c.requires.cut ∙ ap (λ front. front ++ pieces components) (sym empty.ensures.front) in
     record {
       of = record {
         cvss = g.V.OneVersion.joined minor vector;
