@@ -1,2 +1,1 @@
-mod InOrderLemmas
 mod PrintingLemmas

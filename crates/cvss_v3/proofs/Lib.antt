@@ -1,3 +1,2 @@
-mod InOrderLemmas
 mod PrintingLemmas
 pub mod TableLemmas

@@ -1,5 +1,4 @@
 mod CompleteLemmas
-mod InOrderLemmas
 mod PrintingLemmas
 pub mod OverridingLemmas
 mod PartsLemmas

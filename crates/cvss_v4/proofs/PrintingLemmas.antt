@@ -40,3 +40,6 @@ at_most_width kind rank =
 
 pub at_most_eight : (kind : MetricType) (rank : ℕ) → length (slash ∷ metric_component kind rank) ≤ 8
 at_most_eight kind rank = omega (arith, at_most_width kind rank, leb-true (width kind) 8 (and_parts _ _ (most kind)).1)
+
+-- what a component's length is between
+pub ruleset lengths = (at_least_three, at_most_eight, at_most_width)

@@ -1,7 +1,7 @@
 -- What the walk over a text needs to know of CVSS v2.
-use Rattle.std.specs.Prelude.{◌≡◌, Option, refl}
-use Rattle.std.proofs.Common.{lit<}
-use Rattle.cvss_text.specs.private.Walk.{VersionLaws}
+use Rattle.std.specs.Prelude.{◌≡◌, Option, None, refl}
+use Rattle.std.proofs.Common.{lit<, sym, ◌∙◌}
+use Rattle.cvss_text.specs.private.Walk.{HasNoValue, VersionLaws}
 use Rattle.cvss_base.specs.declared.v2.MetricType.{MetricType}
 use Rattle.cvss_base.specs.declared.v2.MetricType.TheVariants.{A, AC, AV, Au, C, I, E, RL, RC, CDP, TD, CR, IR, AR}
 use Rattle.cvss_v2.specs.declared.vector.Vector.{Vector}
@@ -35,6 +35,10 @@ vector_has value = elim [ A ↦ refl | _ ↦ refl ]
 -- a vector is its values
 one_vector : (v w : Vector) → ((kind : MetricType) → value_at v kind ≡ value_at w kind) → v ≡ w
 one_vector v w same = λ i. vector_of (λ kind. same kind i)
+
+-- there is one vector without values
+pub without_values : (v : Vector) → HasNoValue v2 v → v ≡ vector_of (λ _. None)
+without_values v empty = one_vector v (vector_of (λ _. None)) (λ kind. empty.none kind ∙ sym (vector_has (λ _. None) kind))
 
 pub v2_laws : VersionLaws v2
 v2_laws = record {

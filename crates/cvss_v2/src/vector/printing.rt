@@ -62,6 +62,7 @@ impl Vector {
 
 /// Appends a slash and the component of a value, if there is one.
 #[inline(always)]
+#[tactic(auto, using(crate::proofs::PrintingLemmas::lengths))]
 fn write_value<M: MetricValue>(value: Option<M>, buffer: &mut TextBuffer)
     requires { length buffer.old ≤ 200 }
     ensures text { buffer.new ≡ buffer.old ++ value_with_slash M.KIND M.value value }

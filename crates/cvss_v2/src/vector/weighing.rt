@@ -1,6 +1,6 @@
 //! What the metrics of a vector weigh, in thousandths.
 
-ghost use Rattle.std.specs.Prelude.{◌≡◌, ◌≤◌, option_map, unwrap_or};
+ghost use Rattle.std.specs.Prelude.{◌≡◌, ◌≤◌, option_map};
 ghost use Rattle.cvss_score.specs.v2.private.Bounds.{AreBounded};
 ghost use Rattle.cvss_v2_metric.specs.Table.{weight_of, absent_weight};
 ghost use Rattle.cvss_v2.specs.Vector.{value_at};
@@ -19,20 +19,20 @@ impl Vector {
         ensures bounded { AreBounded result }
     {
         Weights {
-            av: weight(self.av, 0),
-            ac: weight(self.ac, 0),
-            au: weight(self.au, 0),
-            c: weight(self.c, 0),
-            i: weight(self.i, 0),
-            a: weight(self.a, 0),
-            e: weight(self.e, 1000),
-            rl: weight(self.rl, 1000),
-            rc: weight(self.rc, 1000),
-            cdp: weight(self.cdp, 0),
-            td: weight(self.td, 1000),
-            cr: weight(self.cr, 1000),
-            ir: weight(self.ir, 1000),
-            ar: weight(self.ar, 1000),
+            av: self.weight_at(MetricType::AV, self.av, 0),
+            ac: self.weight_at(MetricType::AC, self.ac, 0),
+            au: self.weight_at(MetricType::Au, self.au, 0),
+            c: self.weight_at(MetricType::C, self.c, 0),
+            i: self.weight_at(MetricType::I, self.i, 0),
+            a: self.weight_at(MetricType::A, self.a, 0),
+            e: self.weight_at(MetricType::E, self.e, 1000),
+            rl: self.weight_at(MetricType::RL, self.rl, 1000),
+            rc: self.weight_at(MetricType::RC, self.rc, 1000),
+            cdp: self.weight_at(MetricType::CDP, self.cdp, 0),
+            td: self.weight_at(MetricType::TD, self.td, 1000),
+            cr: self.weight_at(MetricType::CR, self.cr, 1000),
+            ir: self.weight_at(MetricType::IR, self.ir, 1000),
+            ar: self.weight_at(MetricType::AR, self.ar, 1000),
         }
     }
 
@@ -80,20 +80,9 @@ impl Vector {
         ensures weight { result ≡ weight_in self.now metric }
         ensures bound { result ≤ greatest_weight M.KIND }
     {
-        weight(value, absent)
-    }
-}
-
-/// The weight of a value in thousandths, or that of an absent metric.
-#[inline(always)]
-fn weight<M: MetricValue>(value: Option<M>, absent: u64) -> u64
-    requires { absent ≤ greatest_weight M.KIND }
-    ensures weight { result
-        ≡ unwrap_or (option_map (λ metric. weight_of M.KIND (M.value metric)) value) absent }
-    ensures bound { result ≤ greatest_weight M.KIND }
-{
-    match value {
-        Some(metric) => metric.thousandths(),
-        None => absent,
+        match value {
+            Some(held) => held.thousandths(),
+            None => absent,
+        }
     }
 }

@@ -1,6 +1,7 @@
 -- What the walk over a text needs to know of CVSS v3.
-use Rattle.std.specs.Prelude.{◌≡◌, ℕ, ◌++◌, codes, Option, refl}
-use Rattle.cvss_text.specs.private.Walk.{VersionLaws, FrontLaws}
+use Rattle.std.specs.Prelude.{◌≡◌, ℕ, ◌++◌, codes, Option, None, refl}
+use Rattle.std.proofs.Common.{sym, ◌∙◌}
+use Rattle.cvss_text.specs.private.Walk.{HasNoValue, VersionLaws, FrontLaws}
 use Rattle.cvss_base.specs.Version.{numeral}
 use Rattle.cvss_base.specs.declared.v3.MetricType.{MetricType}
 use Rattle.cvss_base.specs.declared.v3.MetricType.TheVariants.{A, AC, AV, C, I, PR, S, UI, E, RL, RC, CR, IR, AR, MAV, MAC, MPR, MUI, MS, MC, MI, MA}
@@ -51,6 +52,10 @@ vector_has minor_version value = elim [ A ↦ refl | _ ↦ refl ]
 -- a vector is its minor version and its values
 one_vector : (v w : Vector) → v3.front v ≡ v3.front w → ((kind : MetricType) → value_at v kind ≡ value_at w kind) → v ≡ w
 one_vector v w front same = λ i. vector_of (one_minor_version v w front i) (λ kind. same kind i)
+
+-- of each minor version there is one vector without values
+pub without_values : (v : Vector) → HasNoValue v3 v → v ≡ vector_of v.minor_version (λ _. None)
+without_values v empty = one_vector v _ refl (λ kind. empty.none kind ∙ sym (vector_has v.minor_version (λ _. None) kind))
 
 pub v3_laws : VersionLaws v3
 v3_laws = record {

@@ -1,5 +1,5 @@
 -- What holds of a modified metric, by the laws of its base metric alone.
-use Rattle.std.specs.Prelude.{◌≡◌, ℕ, ◌+◌, Bool, true, false, [], ◌∷◌, bytes_eq, get_or, is_some, IsSome, IsTrue, Option, Some}
+use Rattle.std.specs.Prelude.{◌≡◌, ℕ, ◌+◌, Bool, true, false, [], ◌∷◌, bytes_eq, is_some, IsSome, Option, Some}
 use Rattle.std.specs.List.{list_any}
 use Rattle.std.specs.Option.{option_map_or}
 use Rattle.std.specs.Ordering.{nat_cmp}
@@ -44,14 +44,6 @@ value_covered _ is y = search rules
 abbrev pub is_modified_letter : MetricType → ℕ → Bool
 is_modified_letter kind letter = option_map_or (λ modified. list_any (λ row. bytes_eq row.0 (letter ∷ [])) (rows_of modified)) (modified_of kind) false
 
-undefined_letter : (kind : MetricType) → IsSome (modified_of kind) → IsTrue (is_modified_letter kind 88)
-undefined_letter availability = search rules
-undefined_letter _ = search rules
-
-set_letter : (kind : MetricType) → IsSome (modified_of kind) → (x : Value kind) → IsTrue (is_modified_letter kind (get_or (spelling_of kind x) 0 0))
-set_letter availability = search rules
-set_letter _ = search rules
-
 module _ {A : Type 0} {kind modified_kind : MetricType} {value : A → Value kind} {own : Modified A → Option AnyValue} (base : IsBaseMetric kind modified_kind value own) where
   some : IsSome (modified_of kind)
   some = ap is_some base.replaced
@@ -77,13 +69,6 @@ module _ {A : Type 0} {kind modified_kind : MetricType} {value : A → Value kin
     by_value : (x : Modified (Value kind)) → replacing_value kind x ≡ y → (metric : Modified A) × modified_value kind value own metric ≡ y
     by_value NotDefined is = (NotDefined, rw (base.own_is NotDefined) is)
     by_value (Set x) is = let set = covers x in (Set set.0, rw (base.own_is (Set set.0), set.1) is)
-
-  -- its text is found by its letter
-  pub letter_undefined : IsTrue (is_modified_letter kind 88)
-  letter_undefined = undefined_letter kind some
-
-  pub letter_set : (x : A) (letter : ℕ) → spelling_of kind (value x) ≡ letter ∷ [] → IsTrue (is_modified_letter kind letter)
-  letter_set x letter is = rw is at (set_letter kind some (value x))
 
 both_first : (m n : ℕ) → m ≡ 0 → n ≡ 0 → Equal ≡ nat_cmp m n
 both_first m n first second = grind (arith, common_steps)

@@ -1,6 +1,7 @@
 -- What the walk over a text needs to know of CVSS v4.0.
-use Rattle.std.specs.Prelude.{◌≡◌, ℕ, ◌++◌, codes, Option, refl}
-use Rattle.cvss_text.specs.private.Walk.{VersionLaws, FrontLaws}
+use Rattle.std.specs.Prelude.{◌≡◌, ℕ, ◌++◌, codes, Option, None, refl}
+use Rattle.std.proofs.Common.{sym, ◌∙◌}
+use Rattle.cvss_text.specs.private.Walk.{HasNoValue, VersionLaws, FrontLaws}
 use Rattle.cvss_base.specs.Version.{numeral}
 use Rattle.cvss_base.specs.declared.v4.MetricType.{MetricType}
 use Rattle.cvss_base.specs.declared.v4.MetricType.TheVariants as metric
@@ -61,6 +62,10 @@ vector_has minor_version value = elim [ metric.AC ↦ refl | _ ↦ refl ]
 -- a vector is its minor version and its values
 one_vector : (v w : Vector) → v4.front v ≡ v4.front w → ((kind : MetricType) → value_at v kind ≡ value_at w kind) → v ≡ w
 one_vector v w front same = λ i. vector_of (one_minor_version v w front i) (λ kind. same kind i)
+
+-- of each minor version there is one vector without values
+pub without_values : (v : Vector) → HasNoValue v4 v → v ≡ vector_of v.minor_version (λ _. None)
+without_values v empty = one_vector v _ refl (λ kind. empty.none kind ∙ sym (vector_has v.minor_version (λ _. None) kind))
 
 pub v4_laws : VersionLaws v4
 v4_laws = record {

@@ -21,20 +21,17 @@ loop-index-preserved c =
     let here = c.as_bytes.ensures.value ∙ sym (get_or-map (λ (text : Bor (List ℕ)). text.now) overrides c.loop-index.index _ [] below) in
     HasReadOverrides-more (texts_of overrides) c.loop-index.index (within overrides c.loop-index.index below) c.as_bytes.result.now here c.loop-index.vector c.read_override.new.overrides c.in_default.ensures.component c.in_default.ensures.read c.loop-index.invariant
 
-pub returns-in-Err-clause-accepts : goal.returns-in-Err-clause-accepts
-returns-in-Err-clause-accepts c = λ vector are.
-    let overrides = c.args.overrides.now in
-    let below = c.loop-index-test.true in
-    let here = c.as_bytes.ensures.value ∙ sym (get_or-map (λ (text : Bor (List ℕ)). text.now) overrides c.loop-index.index _ [] below) in
-    let is = IsFirstObjection-at (texts_of overrides) c.loop-index.index (within overrides c.loop-index.index below) c.as_bytes.result.now here c.loop-index.vector (objection_of c.in-Err.fault) c.in-Err.ensures.refused c.loop-index.invariant in
-    absurd (no_objection_held (texts_of overrides) vector c.loop-index.index are is.within _ is.is)
-
 pub returns-in-Err-clause-refused : goal.returns-in-Err-clause-refused
 returns-in-Err-clause-refused c =
     let overrides = c.args.overrides.now in
     let below = c.loop-index-test.true in
     let here = c.as_bytes.ensures.value ∙ sym (get_or-map (λ (text : Bor (List ℕ)). text.now) overrides c.loop-index.index _ [] below) in
     IsFirstObjection-at (texts_of overrides) c.loop-index.index (within overrides c.loop-index.index below) c.as_bytes.result.now here c.loop-index.vector (objection_of c.in-Err.fault) c.in-Err.ensures.refused c.loop-index.invariant
+
+pub returns-in-Err-clause-accepts : goal.returns-in-Err-clause-accepts
+returns-in-Err-clause-accepts c = λ vector are.
+    let is = returns-in-Err-clause-refused c in
+    absurd (no_objection_held (texts_of c.args.overrides.now) vector c.loop-index.index are is.within _ is.is)
 
 all_read : (c : goal.After-loop-index) → HasReadOverrides (texts_of c.args.overrides.now) (length (texts_of c.args.overrides.now)) c.loop-index.vector
 all_read c =

@@ -1,7 +1,7 @@
 use Rattle.std.proofs.Common.{refl}
 use Rattle.cvss_v3.specs.Vector.{v3}
 use Rattle.cvss_text.proofs.InOrderLemmas.{IsInOrderTo-turns}
-use Rattle.cvss_v3.proofs.InOrderLemmas.{without_values}
+use Rattle.cvss_v3.specs.private.VectorLaws.{without_values}
 use Rattle.cvss_v3.proofs.vector.in_order.whole_in_order.Goals as goal
 
 pub whole-requires-clause-bare : goal.whole-requires-clause-bare

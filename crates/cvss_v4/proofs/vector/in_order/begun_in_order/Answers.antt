@@ -1,7 +1,7 @@
 use Rattle.std.proofs.Common.{refl}
 use Rattle.cvss_v4.specs.Vector.{v4}
 use Rattle.cvss_text.proofs.InOrderLemmas.{IsInOrderTo-turns}
-use Rattle.cvss_v4.proofs.InOrderLemmas.{without_values}
+use Rattle.cvss_v4.specs.private.VectorLaws.{without_values}
 use Rattle.cvss_v4.proofs.vector.in_order.begun_in_order.Goals as goal
 
 pub returns-in_default : goal.returns-in_default
