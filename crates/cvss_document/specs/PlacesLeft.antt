@@ -2,13 +2,13 @@
 use Rattle.std.specs.Prelude.{◌≡◌, ℕ, List, [], ◌∷◌, ◌++◌, codes, drop, map, Option, None, Some, option_map}
 use Rattle.std.specs.Fmt.{decimal}
 use Rattle.std.specs.List.{filter_map}
-use Rattle.serde_json.specs.View.{items_view, members_view, view}
-use Rattle.cvss_document.specs.Places.{Place, context_view, escaped, place_as, place_view, places_in_items, places_in_members, places_within}
+use Rattle.serde_json.specs.View.{items_view, members_view}
+use Rattle.cvss_document.specs.Places.{Place, context_view, escaped, place_as, place_view, places_in_items, places_in_members}
 use Rattle.cvss_document.specs.declared.place.Place as code
 use Rattle.cvss_document.specs.declared.places.Level.{Level}
 use Rattle.cvss_document.specs.declared.places.Places.{Places}
 use Rattle.cvss_document.specs.declared.places.Rest.{Rest}
-use Rattle.cvss_document.specs.declared.places.Rest.TheVariants.{Whole, Own, Items, Members}
+use Rattle.cvss_document.specs.declared.places.Rest.TheVariants.{Items, Object}
 use Rattle.cvss_document.specs.declared.pointer.Step.{Step}
 use Rattle.cvss_document.specs.declared.pointer.Step.TheVariants.{Document, Member, Item}
 
@@ -20,13 +20,10 @@ step_text (Item index) = codes "/" ++ decimal index
 
 -- the places in what is still to be visited in a value, seen from the value
 abbrev pub places_in_rest : Rest → List Place
-places_in_rest (Whole value context) = places_within (context_view context) (view value.now)
-places_in_rest (Own holder context forms) =
-    filter_map (place_as (context_view context) (members_view holder.now.entries)) forms.now
-    ++ places_in_members (context_view context).1 (members_view holder.now.entries) (members_view holder.now.entries)
 places_in_rest (Items items index id) = places_in_items (option_map (λ id. id.now) id) index (items_view (drop index items.now))
-places_in_rest (Members holder members id) =
-    places_in_members (option_map (λ id. id.now) id) (members_view holder.now.entries) (members_view members)
+places_in_rest (Object holder context forms members) =
+    filter_map (place_as (context_view context) (members_view holder.now.entries)) forms.now
+    ++ places_in_members (context_view context).1 (members_view holder.now.entries) (members_view members)
 
 -- a place that a pointer leads to, seen from where another pointer begins that leads to its start
 abbrev pub under : List ℕ → Place → Place

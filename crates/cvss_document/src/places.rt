@@ -1,12 +1,12 @@
 //! Where vectors are in a document, one place after another.
 
-ghost use Rattle.std.specs.Prelude.{◌≡◌, ◌++◌, ◌∷◌, [], false, IfOk, OnOk, map, option_map, string_bytes};
+ghost use Rattle.std.specs.Prelude.{◌≡◌, ◌++◌, ◌∷◌, [], IfOk, OnOk, map, option_map, string_bytes};
 ghost use Rattle.std.specs.Option.{option_to_list};
-ghost use Rattle.cvss_document.specs.Places.{Context as Surroundings, context_view, place_as, place_view, places_in, places_within};
+ghost use Rattle.cvss_document.specs.Places.{context_view, place_as, place_view, places_in};
 ghost use Rattle.cvss_document.specs.PlacesLeft.{IsNextPlace, places_left, under};
-ghost use Rattle.cvss_document.specs.private.Walking.{Visits, level_of, pointer_to};
+ghost use Rattle.cvss_document.specs.private.Walking.{Enters, Visits, level_of, pointer_to};
 ghost use Rattle.serde_json.specs.View.{members_view, view};
-ghost use Rattle.cvss_document.specs.declared.places.Rest.TheVariants.{Items, Members, Own, Whole};
+ghost use Rattle.cvss_document.specs.declared.places.Rest.TheVariants.{Items, Object};
 
 use crate::ids::own_context;
 use crate::place::{Around, Context, FORMS, Form, Place, vector_as};
@@ -33,14 +33,10 @@ pub(crate) struct Level<'a> {
 /// What is still to be visited in a value.
 #[derive(Drop)]
 pub(crate) enum Rest<'a> {
-    /// All of it.
-    Whole(&'a Value, Context<'a>),
-    /// An object's own vectors in these forms, and all of its members.
-    Own(&'a Map<String, Value>, Context<'a>, &'static [Form]),
     /// The items of an array from this one, with the id that is the nearest around them.
     Items(&'a [Value], usize, Option<&'a str>),
-    /// Members of an object, with the id that is the nearest around them.
-    Members(&'a Map<String, Value>, Iter<'a, String, Value>, Option<&'a str>),
+    /// An object's own vectors in these forms, and then these of its members.
+    Object(&'a Map<String, Value>, Context<'a>, &'static [Form], Iter<'a, String, Value>),
 }
 
 /// All places in a document where a vector is: an object's own before those in it, those of its
@@ -59,7 +55,7 @@ pub fn vectors_in(alloc: Global, document: &Value) -> Result<Places<'_>, AllocEr
         around: None,
         id: None,
     };
-    places.push(Step::Document, Rest::Whole(document, context))?;
+    places.enter(Step::Document, document, context)?;
     Ok(places)
 }
 
@@ -87,120 +83,107 @@ impl<'a> Places<'a> {
     {
         let step = level.step;
         match level.rest {
-            Rest::Whole(value, context) => self.visit_whole(alloc, step, value, context),
-            Rest::Own(object, context, forms) => {
-                self.visit_forms(alloc, step, object, context, forms)
-            }
             Rest::Items(items, index, id) => {
-                self.visit_items(step, items, index, id)?;
+                self.visit_item(step, items, index, id)?;
                 Ok(None)
             }
-            Rest::Members(object, members, id) => {
-                self.visit_members(step, object, members, id)?;
-                Ok(None)
+            Rest::Object(object, context, forms, members) => {
+                self.visit_object(alloc, step, object, context, forms, members)
             }
         }
     }
 
-    /// Visits a value of which nothing is visited yet: what is in it is visited next.
-    fn visit_whole(
-        &mut self,
-        alloc: Global,
-        step: Step<'a>,
-        value: &'a Value,
-        context: Context<'a>,
-    ) -> Result<Option<Place<'a>>, AllocError>
-        ensures { IfOk result (λ found. Visits
-            (self.old.levels.items ++ level_of step.entry (Whole value.entry context.entry) ∷ [])
-            (option_to_list (option_map place_view found)) self.new.levels.items) }
-    {
-        match value {
-            Value::Array(items) => {
-                self.push(step, Rest::Items(items, 0, context.id))?;
-                Ok(None)
-            }
-            Value::Object(object) => {
-                let own = own_context(context, object);
-                self.visit_forms(alloc, step, object, own, FORMS)
-            }
-            _ => Ok(None),
-        }
-    }
-
-    /// Visits an object in the first of these forms: the later ones and its members are visited next.
-    fn visit_forms(
+    /// Visits an object in the first of these forms, or in the next of these members if there is none.
+    fn visit_object(
         &mut self,
         alloc: Global,
         step: Step<'a>,
         object: &'a Map<String, Value>,
         context: Context<'a>,
         forms: &'static [Form],
+        members: Iter<'a, String, Value>,
     ) -> Result<Option<Place<'a>>, AllocError>
         ensures { IfOk result (λ found. Visits
-            (self.old.levels.items ++ level_of step.entry (Own object.entry context.entry forms.entry) ∷ [])
+            (self.old.levels.items
+            ++ level_of step.entry (Object object.entry context.entry forms.entry members.entry) ∷ [])
             (option_to_list (option_map place_view found)) self.new.levels.items) }
     {
         match forms.split_first() {
             Some((form, later)) => {
-                self.push(step, Rest::Own(object, context, later))?;
+                self.push(step, Rest::Object(object, context, later, members))?;
                 self.own_place(alloc, object, context, *form)
             }
             None => {
-                self.visit_members(step, object, object.iter(), context.id)?;
+                self.visit_member(step, object, context, forms, members)?;
                 Ok(None)
             }
         }
     }
 
-    /// Visits the next item of an array that is one itself or an object: what is in it is visited
-    /// before those after it.
-    fn visit_items(
+    /// Visits an item of an array, if there is one: what is in it is visited before those after it.
+    fn visit_item(
         &mut self,
         step: Step<'a>,
         items: &'a [Value],
-        from: usize,
+        index: usize,
         id: Option<&'a str>,
     ) -> Result<(), AllocError>
         ensures { OnOk result (Visits
-            (self.old.levels.items ++ level_of step.entry (Items items.entry from id.entry) ∷ [])
+            (self.old.levels.items ++ level_of step.entry (Items items.entry index id.entry) ∷ [])
             [] self.new.levels.items) }
     {
-        let mut index = from;
-        while let Some(item) = items.get(index) {
-            if has_values(item) {
-                self.push(step, Rest::Items(items, index + 1, id))?;
-                let context = Context { around: None, id };
-                return self.push(Step::Item(index), Rest::Whole(item, context));
-            }
-            index += 1;
+        if let Some(item) = items.get(index) {
+            self.push(step, Rest::Items(items, index + 1, id))?;
+            let context = Context { around: None, id };
+            self.enter(Step::Item(index), item, context)?;
         }
         Ok(())
     }
 
-    /// Visits the next member of an object that is one itself or an array: what is in it is visited
-    /// before those after it.
-    fn visit_members(
+    /// Visits the next member of an object of which all forms are visited, if there is one: what is in
+    /// it is visited before those after it.
+    fn visit_member(
         &mut self,
         step: Step<'a>,
         object: &'a Map<String, Value>,
+        context: Context<'a>,
+        forms: &'static [Form],
         members: Iter<'a, String, Value>,
-        id: Option<&'a str>,
     ) -> Result<(), AllocError>
-        ensures { OnOk result (Visits
-            (self.old.levels.items ++ level_of step.entry (Members object.entry members.entry id.entry) ∷ [])
+        ensures { forms.now ≡ [] → OnOk result (Visits
+            (self.old.levels.items
+            ++ level_of step.entry (Object object.entry context.entry forms.entry members.entry) ∷ [])
             [] self.new.levels.items) }
     {
-        let mut rest = members;
-        while let Some((name, value)) = rest.next() {
-            if has_values(value) {
-                let name = name.as_str();
-                let around = Some(Around { name, object });
-                self.push(step, Rest::Members(object, rest, id))?;
-                let context = Context { around, id };
-                return self.push(Step::Member(name), Rest::Whole(value, context));
-            }
+        let mut later = members;
+        if let Some((name, value)) = later.next() {
+            let name = name.as_str();
+            self.push(step, Rest::Object(object, context, forms, later))?;
+            let around = Some(Around { name, object });
+            let id = context.id;
+            self.enter(Step::Member(name), value, Context { around, id })?;
         }
         Ok(())
+    }
+
+    /// What is in a value is visited next.
+    fn enter(
+        &mut self,
+        step: Step<'a>,
+        value: &'a Value,
+        context: Context<'a>,
+    ) -> Result<(), AllocError>
+        ensures { OnOk result (Enters step.entry (context_view context.entry) (view value.now)
+            self.old.levels.items self.new.levels.items) }
+    {
+        match value {
+            Value::Array(items) => self.push(step, Rest::Items(items, 0, context.id)),
+            Value::Object(object) => {
+                let own = own_context(context, object);
+                self.push(step, Rest::Object(object, own, FORMS, object.iter()))
+            }
+            _ => Ok(()),
+        }
     }
 
     /// The place of an object itself, to which all levels lead, if it holds a vector in this form.
@@ -234,13 +217,6 @@ impl<'a> Places<'a> {
         self.levels.push(Level { step, rest })?;
         Ok(())
     }
-}
-
-/// Whether a value is an array or an object: in another one there is no place.
-fn has_values(value: &Value) -> bool
-    ensures { (context : Surroundings) → result ≡ false → places_within context (view value.now) ≡ [] }
-{
-    value.is_array() || value.is_object()
 }
 
 /// The JSON Pointer to the value of the last level.

@@ -1,5 +1,3 @@
 pub mod Objects
 pub mod Texts
-pub mod Trees
 pub mod laws
-pub mod private

@@ -1,9 +1,9 @@
 -- What a step of the walk over a document does.
-use Rattle.std.specs.Prelude.{◌≡◌, ℕ, ◌+◌, ◌<◌, List, [], ◌∷◌, ◌++◌, drop, flat_map, length}
+use Rattle.std.specs.Prelude.{◌≡◌, ℕ, ◌+◌, ◌<◌, List, [], ◌∷◌, ◌++◌, drop, flat_map, length, map}
 use Rattle.serde_json.specs.Data.{Data, null, boolean, number, string, array, object, Items, no_items, item, Members, no_members, member}
-use Rattle.serde_json.specs.View.{items_view, members_view, view}
-use Rattle.cvss_document.specs.Places.{Place}
-use Rattle.cvss_document.specs.PlacesLeft.{places_in_levels, step_text}
+use Rattle.serde_json.specs.View.{items_view, members_view}
+use Rattle.cvss_document.specs.Places.{Context, Place, places_within}
+use Rattle.cvss_document.specs.PlacesLeft.{places_in_levels, step_text, under}
 use Rattle.cvss_document.specs.declared.places.Level.{Level}
 use Rattle.cvss_document.specs.declared.places.Rest.{Rest}
 use Rattle.cvss_document.specs.declared.places.Rest.TheVariants as rest
@@ -20,11 +20,11 @@ pointer_to levels = flat_map (λ level. step_text level.step) levels
 -- how many steps visit all that is in a value
 abbrev mutual
   pub steps_in : Data → ℕ
-  steps_in null = 1
-  steps_in (boolean _) = 1
-  steps_in (number _) = 1
-  steps_in (string _) = 1
-  steps_in (array items) = 1 + steps_in_items items
+  steps_in null = 0
+  steps_in (boolean _) = 0
+  steps_in (number _) = 0
+  steps_in (string _) = 0
+  steps_in (array items) = steps_in_items items
   steps_in (object members) = 9 + steps_in_members members
 
   pub steps_in_items : Items → ℕ
@@ -37,10 +37,8 @@ abbrev mutual
 
 -- how many steps visit what is left in a value
 abbrev pub steps_in_rest : Rest → ℕ
-steps_in_rest (rest.Whole value context) = steps_in (view value.now)
-steps_in_rest (rest.Own holder context forms) = length forms.now + steps_in_members (members_view holder.now.entries)
 steps_in_rest (rest.Items items index id) = steps_in_items (items_view (drop index items.now))
-steps_in_rest (rest.Members holder members id) = steps_in_members (members_view members)
+steps_in_rest (rest.Object holder context forms members) = length forms.now + steps_in_members (members_view members)
 
 -- how many steps visit all that is left
 abbrev pub steps_left : List Level → ℕ
@@ -51,3 +49,10 @@ steps_left (level ∷ inner) = steps_in_rest level.rest + steps_left inner
 pub record Visits (old : List Level) (given : List Place) (new : List Level) : Type 0 where
   pub places : places_in_levels old ≡ given ++ places_in_levels new
   pub fewer : steps_left new < steps_left old
+
+-- what is in a value, to which a step leads, is visited next
+pub record Enters (step : Step) (context : Context) (value : Data) (old new : List Level) : Type 0 where
+  pub added : List Level
+  pub are : new ≡ old ++ added
+  pub places : places_in_levels added ≡ map (under (step_text step)) (places_within context value)
+  pub steps : steps_left added ≡ steps_in value
