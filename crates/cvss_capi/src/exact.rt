@@ -4,8 +4,8 @@
 ghost use Rattle.cvss_ffi.specs.Buffer.{Puts};
 ghost use Rattle.cvss_ffi.specs.Exact.{AreNumbersOf, IsRoundedTo, IsTemporalWith};
 
-use cvss_ffi::exact::{put_numbers, put_rounded, put_temporal};
-use cvss_ffi::{CvssNumber, CvssNumbers};
+use cvss_ffi::exact::{numbers_of, rounded, temporal};
+use cvss_ffi::{CvssNumber, CvssNumbers, put};
 
 /// Whether the version is 20, 30 or 31 and metrics make a vector of it, which may lack any:
 /// components joined by slashes, in any order and each once; then the vector's scores, in tenths,
@@ -14,7 +14,7 @@ use cvss_ffi::{CvssNumber, CvssNumbers};
 pub extern "C" fn cvss_numbers(version: i32, metrics: &[u8], numbers: &mut CvssNumbers) -> bool
     ensures { Puts (AreNumbersOf version metrics.now) numbers.old numbers.new result }
 {
-    put_numbers(version, metrics, numbers)
+    put(numbers_of(version, metrics), numbers)
 }
 
 /// Whether the version is 20, 30 or 31 and the number's parts are within their bounds; then the
@@ -23,7 +23,7 @@ pub extern "C" fn cvss_numbers(version: i32, metrics: &[u8], numbers: &mut CvssN
 pub extern "C" fn cvss_rounded(version: i32, number: &CvssNumber, tenths: &mut i32) -> bool
     ensures { Puts (IsRoundedTo version number.now) tenths.old tenths.new result }
 {
-    put_rounded(version, number, tenths)
+    put(rounded(version, number), tenths)
 }
 
 /// Whether metrics make a vector of CVSS v2, as for `cvss_numbers`, and the impact's parts are
@@ -37,5 +37,5 @@ pub extern "C" fn cvss_temporal_with_impact(
 ) -> bool
     ensures { Puts (IsTemporalWith metrics.now impact.now) tenths.old tenths.new result }
 {
-    put_temporal(metrics, impact, tenths)
+    put(temporal(metrics, impact), tenths)
 }

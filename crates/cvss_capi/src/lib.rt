@@ -17,12 +17,12 @@ mod vectors;
 pub use cvss_ffi::{CvssMetric, CvssNumber, CvssNumbers, CvssScores, CvssScoresBy, CvssValues};
 pub use exact::{cvss_numbers, cvss_rounded, cvss_temporal_with_impact};
 pub use lines::{cvss_answer, cvss_answers, cvss_find};
-pub use refusals::{
-    cvss_override_reason, cvss_reason, cvss_refusal_kind, cvss_refusal_metric, cvss_refusal_value,
+pub use refusals::{cvss_reason, cvss_refusal_kind, cvss_refusal_metric, cvss_refusal_value};
+pub use setting::{
+    cvss_build, cvss_build_reason, cvss_overridden, cvss_override_reason, cvss_with,
+    cvss_with_reason,
 };
-pub use setting::{cvss_build, cvss_build_reason, cvss_with, cvss_with_reason};
 pub use vectors::{
-    cvss_account, cvss_canonical, cvss_metrics, cvss_nomenclature_scores, cvss_overridden,
-    cvss_rating, cvss_read, cvss_record, cvss_score, cvss_scores, cvss_values, cvss_version,
-    cvss_without_undefined,
+    cvss_account, cvss_canonical, cvss_metrics, cvss_nomenclature_scores, cvss_rating, cvss_read,
+    cvss_record, cvss_score, cvss_scores, cvss_values, cvss_version, cvss_without_undefined,
 };

@@ -1,13 +1,10 @@
-//! What C is reported of a text, or of overrides, that are refused.
+//! What C is reported of a text that is refused.
 
 ghost use Rattle.std.specs.Prelude.{◌≡◌, pos};
 ghost use Rattle.cvss_any.specs.Reasons.{IsReason};
-ghost use Rattle.cvss_ffi.specs.Answers.{Answers, WritesOrWhy, WritesRefusal};
-ghost use Rattle.cvss_ffi.specs.Overriding.{IsOverrideReason, IsWithOverrides};
+ghost use Rattle.cvss_ffi.specs.Answers.{Answers, WritesRefusal};
 ghost use Rattle.cvss_ffi.specs.Refusals.{IsReportedKind, IsKind, IsQuoted};
-ghost use Rattle.cvss_ffi.specs.Setting.{WritesWhyNot};
 
-use cvss_ffi::overriding::put_override_reason;
 use cvss_ffi::refusal::{kind_of, put_quoted, put_reason, put_reported_kind};
 
 /// Why a text denotes no vector.
@@ -44,14 +41,4 @@ pub extern "C" fn cvss_refusal_value(text: &[u8], buffer: &mut [u8]) -> usize
     ensures { WritesRefusal text.now (IsQuoted text.now) buffer.old buffer.new result }
 {
     put_quoted(text, buffer)
-}
-
-/// Why `cvss_overridden` returns 0: why the text denotes no vector, that it is none of CVSS v4.0,
-/// or what is wrong with the first override that is refused.
-#[unsafe(no_mangle)]
-pub extern "C" fn cvss_override_reason(text: &[u8], overrides: &[u8], buffer: &mut [u8]) -> usize
-    ensures { WritesOrWhy text.now (λ cvss. WritesWhyNot (IsWithOverrides cvss overrides.now)
-        (IsOverrideReason cvss overrides.now)) buffer.old buffer.new result }
-{
-    put_override_reason(text, overrides, buffer)
 }

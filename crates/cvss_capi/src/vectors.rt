@@ -6,12 +6,11 @@ ghost use Rattle.cvss_any.specs.Answers.{IsScoreOf, text_of};
 ghost use Rattle.cvss_any.specs.Dispatch.{DenotesCvss};
 ghost use Rattle.cvss_any.specs.declared.vector.Cvss.{Cvss};
 ghost use Rattle.cvss_ffi.specs.Answers.{Answers, WritesOf};
-ghost use Rattle.cvss_ffi.specs.Buffer.{IsWritten, Writes};
+ghost use Rattle.cvss_ffi.specs.Buffer.{IsWritten, Puts, Writes};
 ghost use Rattle.cvss_ffi.specs.Defined.{IsWithoutUndefined};
 ghost use Rattle.cvss_ffi.specs.Metrics.{metrics_in_order};
-ghost use Rattle.cvss_ffi.specs.Overriding.{IsWithOverrides};
-ghost use Rattle.cvss_ffi.specs.Scores.{AnswersScoresBy, AreScoresOf, IsRatingNumber, IsScoreInTenths, nothing, version_number as number_of_version};
-ghost use Rattle.cvss_ffi.specs.Setting.{WritesNew, WritesVector};
+ghost use Rattle.cvss_ffi.specs.Scores.{AreScoresByOf, AreScoresOf, IsRatingNumber, IsScoreInTenths, nothing, version_number as number_of_version};
+ghost use Rattle.cvss_ffi.specs.Setting.{WritesVector};
 ghost use Rattle.cvss_ffi.specs.Values.{AreValuesOf};
 ghost use Rattle.cvss_json_record.specs.Record.{IsRecordText};
 
@@ -21,9 +20,8 @@ use cvss_ffi::defined::put_without_undefined;
 use cvss_ffi::metrics::put_metrics;
 use cvss_ffi::numbers::{NOTHING, rating_number, version_number};
 use cvss_ffi::objects::{put_explanation, put_record};
-use cvss_ffi::overriding::put_overridden;
-use cvss_ffi::scores::put_scores_by;
-use cvss_ffi::{CvssMetric, CvssScores, CvssScoresBy, CvssValues};
+use cvss_ffi::scores::scores_by;
+use cvss_ffi::{CvssMetric, CvssScores, CvssScoresBy, CvssValues, put};
 
 /// The version of the vector that a text denotes, as 20, 30, 31 or 40; -1 where it denotes none.
 #[unsafe(no_mangle)]
@@ -80,11 +78,11 @@ pub extern "C" fn cvss_values(text: &[u8], values: &mut CvssValues) -> bool
 /// CVSS-B, CVSS-BE, CVSS-BT and CVSS-BTE.
 #[unsafe(no_mangle)]
 pub extern "C" fn cvss_nomenclature_scores(text: &[u8], scores: &mut CvssScoresBy) -> bool
-    ensures { Answers text.now (λ cvss. AnswersScoresBy cvss scores.old scores.new result)
+    ensures { Answers text.now (λ cvss. Puts (AreScoresByOf cvss) scores.old scores.new result)
         ((result ≡ false) × (scores.new ≡ scores.old)) }
 {
     match Cvss::read_bytes(text) {
-        Some(cvss) => put_scores_by(&cvss, scores),
+        Some(cvss) => put(scores_by(&cvss), scores),
         None => false,
     }
 }
@@ -151,20 +149,6 @@ pub extern "C" fn cvss_without_undefined(text: &[u8], buffer: &mut [u8]) -> usiz
 {
     match Cvss::read_bytes(text) {
         Some(cvss) => put_without_undefined(&cvss, buffer),
-        None => 0,
-    }
-}
-
-/// The canonical text of the vector of CVSS v4.0 that a text denotes, with overrides in place:
-/// components of environmental metrics, in any order and any ASCII case, each once, joined by
-/// slashes.
-#[unsafe(no_mangle)]
-pub extern "C" fn cvss_overridden(text: &[u8], overrides: &[u8], buffer: &mut [u8]) -> usize
-    ensures { WritesOf text.now (λ cvss. WritesNew (IsWithOverrides cvss overrides.now))
-        buffer.old buffer.new result }
-{
-    match Cvss::read_bytes(text) {
-        Some(cvss) => put_overridden(&cvss, overrides, buffer),
         None => 0,
     }
 }

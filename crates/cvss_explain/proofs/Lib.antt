@@ -1,4 +1,3 @@
 mod CloseLemmas
-mod DecimalLemmas
 mod NearLemmas
 pub mod ShortLemmas

@@ -11,7 +11,6 @@ use crate::v3::numbers as v3;
 
 /// A decimal is less than a millionth from the exact number, and is that number where it has no more
 /// than seven places.
-#[tactic(auto, using(crate::proofs::DecimalLemmas::near_504000ths, crate::proofs::DecimalLemmas::near_8400ths))]
 pub fn decimals_are_near()
     ensures of_504000ths { (n : ℕ) → IsNear (n over 504_000) (pos (nearest_to n 504_000)) }
     ensures of_8400ths { (n : ℕ) → IsNear (n over 8400) (pos (nearest_to n 8400)) }

@@ -24,10 +24,6 @@ Answers text IsOf Otherwise = IsAccepted text IsOf ⊎ (IsRefused text × Otherw
 abbrev pub WritesOf : {X : Type 0} → List ℕ → (Cvss → List X → List X → ℕ → Type 0) → List X → List X → ℕ → Type 0
 WritesOf text IsOf old now reported = Answers text (λ cvss. IsOf cvss old now reported) (IsLeft old now reported)
 
--- the same; and why it denotes none, where it does
-abbrev pub WritesOrWhy : List ℕ → (Cvss → List ℕ → List ℕ → ℕ → Type 0) → List ℕ → List ℕ → ℕ → Type 0
-WritesOrWhy text IsOf old now reported = Answers text (λ cvss. IsOf cvss old now reported) (Writes (IsReason text) old now reported)
-
 -- what is written where the text denotes no vector; nothing, where it denotes one
 abbrev pub WritesRefusal : List ℕ → (List ℕ → Type 0) → List ℕ → List ℕ → ℕ → Type 0
 WritesRefusal text IsText old now reported = Answers text (λ _. IsLeft old now reported) (Writes IsText old now reported)

@@ -1,6 +1,6 @@
 -- An organisation's own environmental metrics in place of a vector's, as one text: CVSS v4.0 specification,
 -- sections 4 and 7.
-use Rattle.std.specs.Prelude.{◌≡◌, ◌⊎◌, ℕ, List, ◌++◌, codes}
+use Rattle.std.specs.Prelude.{◌≡◌, ◌⊎◌, ℕ, List, ◌++◌, codes, Result}
 use Rattle.std.specs.Fmt.{decimal}
 use Rattle.std.specs.Str.{IsUtf8}
 use Rattle.cvss_v4.specs.Overriding.{AreOverrides, IsFirstObjection, IsOverridden, Objection, OfOtherGroup, OfText}
@@ -11,6 +11,7 @@ use Rattle.cvss_any.specs.declared.vector.Cvss.TheVariants.{CvssV40}
 use Rattle.cvss_any.specs.Dispatch.{wrapped}
 use Rattle.cvss_any.specs.Reasons.{not_utf8_text, reason_text}
 use Rattle.cvss_any.specs.declared.metric_type.MetricType.TheVariants.{V4}
+use Rattle.cvss_ffi.specs.Setting.{IsNewOf}
 
 -- the vector of CVSS v4.0 with the text's overrides in place
 pub record IsWithOverrides (cvss : Cvss) (text : List ℕ) (new : Cvss) : Type 0 where
@@ -52,3 +53,8 @@ abbrev pub IsOverrideReason : Cvss → List ℕ → List ℕ → Type 0
 IsOverrideReason (CvssV40 vector) text reason =
     (¬ (IsUtf8 text) × (reason ≡ not_utf8_text)) ⊎ IsObjectionText text reason
 IsOverrideReason cvss text reason = reason ≡ no_v4_text
+
+-- the vector of a text with overrides in place, or why there is none
+abbrev pub SetsOverrides : List ℕ → List ℕ → Result Cvss (List ℕ) → Type 0
+SetsOverrides text overrides =
+    IsNewOf text (λ cvss. IsWithOverrides cvss overrides) (λ cvss. IsOverrideReason cvss overrides)

@@ -1,5 +1,5 @@
 -- The scores of a vector as C sees them: whole tenths, and numbers for versions, ratings and nomenclatures.
-use Rattle.std.specs.Prelude.{◌≡◌, ◌≢◌, ◌⊎◌, ◌*ℤ◌, ◌^◌, ℤ, pos, negsuc, Bool, true, false, [], ◌∷◌, None}
+use Rattle.std.specs.Prelude.{◌≡◌, ◌≢◌, ◌⊎◌, ◌*ℤ◌, ◌^◌, ℤ, pos, negsuc, [], ◌∷◌, Option, Some, None}
 use Rattle.cvss_any.specs.Complete.{first_missing}
 use Rattle.cvss_any.specs.declared.vector.Cvss.{Cvss}
 use Rattle.cvss_any.specs.declared.vector.Cvss.TheVariants.{CvssV20, CvssV30, CvssV31, CvssV40}
@@ -103,7 +103,8 @@ pub record AreScoresBy (vector : vector_v4.Vector) (scores : CvssScoresBy) : Typ
   pub all : IsScoreInTenths (IsScoreBy CvssBTE vector) scores.bte
   pub own : IsScoreInTenths (IsInTenths (IsScore (effective_of vector))) scores.bte
 
--- of CVSS v4.0 they are written; other versions have none, and the numbers are left as they were
-abbrev pub AnswersScoresBy : Cvss → CvssScoresBy → CvssScoresBy → Bool → Type 0
-AnswersScoresBy (CvssV40 vector) old now written = (written ≡ true) × AreScoresBy vector now
-AnswersScoresBy cvss old now written = (written ≡ false) × (now ≡ old)
+-- those of a vector of CVSS v4.0; other versions have none
+abbrev pub AreScoresByOf : Cvss → Option CvssScoresBy → Type 0
+AreScoresByOf (CvssV40 vector) (Some scores) = AreScoresBy vector scores
+AreScoresByOf (CvssV40 vector) None = ⊥
+AreScoresByOf cvss scores = scores ≡ None

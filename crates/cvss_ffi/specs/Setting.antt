@@ -1,12 +1,13 @@
 -- Metrics that are set in a vector, and vectors that are built from metrics, as texts: CVSS v2 guide, section 2.4; v3.1
 -- specification, section 6; v4.0 specification, section 7.
-use Rattle.std.specs.Prelude.{◌≡◌, ◌≢◌, ◌⊎◌, ℕ, ℤ, pos, List, ◌++◌, codes, Option, Some, None}
+use Rattle.std.specs.Prelude.{◌≡◌, ◌≢◌, ◌⊎◌, ℕ, ℤ, pos, List, ◌++◌, codes, Option, Some, None, Result, Ok, Err}
 use Rattle.std.specs.Fmt.{decimal}
 use Rattle.std.specs.Str.{IsUtf8}
 use Rattle.cvss_base.specs.Refusal.{Refusal}
 use Rattle.cvss_any.specs.Answers.{text_of}
-use Rattle.cvss_any.specs.Reasons.{not_utf8_text, reason_text}
-use Rattle.cvss_ffi.specs.Buffer.{IsLeft, IsWritten, Writes}
+use Rattle.cvss_any.specs.Reasons.{IsReason, not_utf8_text, reason_text}
+use Rattle.cvss_ffi.specs.Answers.{Answers, IsAccepted}
+use Rattle.cvss_ffi.specs.Buffer.{IsLeft, IsWritten}
 use Rattle.cvss_any.specs.Setting.{IsBuiltAs, IsBuiltReason, IsWith, IsWithReason}
 use Rattle.cvss_any.specs.declared.metric_type.MetricType.{MetricType}
 use Rattle.cvss_any.specs.declared.setting.Version.{Version}
@@ -39,22 +40,36 @@ pub record IsBuiltFrom (number : ℤ) (metrics : List ℕ) (new : Cvss) : Type 0
 pub record IsNoVector (IsIt : Cvss → Type 0) : Type 0 where
   pub none : (new : Cvss) → ¬ (IsIt new)
 
--- the one holds of the vector, or there is none and the other holds
-abbrev pub AnswersNew : (Cvss → Type 0) → (Cvss → Type 0) → Type 0 → Type 0
-AnswersNew IsIt IsOf Otherwise = ((new : Cvss) × IsIt new × IsOf new) ⊎ (IsNoVector IsIt × Otherwise)
-
 -- the text of such a vector is written
 abbrev pub WritesVector : (Cvss → Type 0) → List ℕ → List ℕ → ℕ → Type 0
 WritesVector IsIt old now reported = (new : Cvss) × IsIt new × IsWritten (text_of new) old now reported
 
--- the same; nothing, where there is none
-abbrev pub WritesNew : (Cvss → Type 0) → List ℕ → List ℕ → ℕ → Type 0
-WritesNew IsIt old now reported =
-    AnswersNew IsIt (λ new. IsWritten (text_of new) old now reported) (IsLeft old now reported)
+-- the new vector, or that there is none and why
+abbrev pub IsNew : (Cvss → Type 0) → (List ℕ → Type 0) → Result Cvss (List ℕ) → Type 0
+IsNew IsIt IsWhy (Ok new) = IsIt new
+IsNew IsIt IsWhy (Err said) = IsNoVector IsIt × IsWhy said
 
--- why there is no such vector is written; nothing, where there is one
-abbrev pub WritesWhyNot : (Cvss → Type 0) → (List ℕ → Type 0) → List ℕ → List ℕ → ℕ → Type 0
-WritesWhyNot IsIt IsWhy old now reported = AnswersNew IsIt (λ _. IsLeft old now reported) (Writes IsWhy old now reported)
+-- the same of the vector that a text denotes; or why it denotes none
+abbrev pub IsNewOf : List ℕ → (Cvss → Cvss → Type 0) → (Cvss → List ℕ → Type 0) → Result Cvss (List ℕ) → Type 0
+IsNewOf text IsIt IsWhy (Ok new) = IsAccepted text (λ cvss. IsIt cvss new)
+IsNewOf text IsIt IsWhy (Err said) = Answers text (λ cvss. IsNoVector (IsIt cvss) × IsWhy cvss said) (IsReason text said)
+
+-- the text of the new vector is written; nothing, where there is none
+abbrev pub IsNewWritten : Result Cvss (List ℕ) → List ℕ → List ℕ → ℕ → Type 0
+IsNewWritten (Ok new) old now reported = IsWritten (text_of new) old now reported
+IsNewWritten (Err said) old now reported = IsLeft old now reported
+
+-- why there is no new vector is written; nothing, where there is one
+abbrev pub IsWhyNotWritten : Result Cvss (List ℕ) → List ℕ → List ℕ → ℕ → Type 0
+IsWhyNotWritten (Ok new) old now reported = IsLeft old now reported
+IsWhyNotWritten (Err said) old now reported = IsWritten said old now reported
+
+-- the one or the other is written of such an answer
+abbrev pub WritesNew : (Result Cvss (List ℕ) → Type 0) → List ℕ → List ℕ → ℕ → Type 0
+WritesNew IsIt old now reported = (answer : Result Cvss (List ℕ)) × IsIt answer × IsNewWritten answer old now reported
+
+abbrev pub WritesWhyNot : (Result Cvss (List ℕ) → Type 0) → List ℕ → List ℕ → ℕ → Type 0
+WritesWhyNot IsIt old now reported = (answer : Result Cvss (List ℕ)) × IsIt answer × IsWhyNotWritten answer old now reported
 
 -- the words that name a metric, counted from 0
 abbrev pub metric_words : ℕ → List ℕ
@@ -81,6 +96,11 @@ IsWhyNot IsWhy metrics said = (¬ (IsUtf8 metrics) × (said ≡ not_utf8_text)) 
 abbrev pub IsWithReasonText : Cvss → List ℕ → List ℕ → Type 0
 IsWithReasonText cvss metrics = IsWhyNot (IsWithReason cvss metrics) metrics
 
+-- the vector of a text with metrics set, or why there is none
+abbrev pub SetsMetrics : List ℕ → List ℕ → Result Cvss (List ℕ) → Type 0
+SetsMetrics text metrics =
+    IsNewOf text (λ cvss. IsWithMetrics cvss metrics) (λ cvss. IsWithReasonText cvss metrics)
+
 -- the words for a number that is none of a version
 abbrev pub no_version_text : List ℕ
 no_version_text = codes "unsupported CVSS version"
@@ -99,3 +119,7 @@ pub record IsOfVersion (number : ℤ) (metrics said : List ℕ) : Type 0 where
 -- why no vector is built
 abbrev pub IsBuildReasonText : ℤ → List ℕ → List ℕ → Type 0
 IsBuildReasonText number metrics said = IsNoVersion number said ⊎ IsOfVersion number metrics said
+
+-- the vector of a version that metrics make, or why they make none
+abbrev pub Builds : ℤ → List ℕ → Result Cvss (List ℕ) → Type 0
+Builds number metrics = IsNew (IsBuiltFrom number metrics) (IsBuildReasonText number metrics)

@@ -30,7 +30,7 @@ pub(crate) fn write_answer<'a>(text: &'a [u8], end: &'a [u8], buffer: &mut [u8])
 {
     match read(text) {
         Ok(cvss) => write_answer_of(&cvss, end, buffer),
-        Err(error) => write_message(b"error: ", Message::of(error).segments, end, buffer),
+        Err(error) => write_message(b"error: ", Message::of(error), end, buffer),
     }
 }
 

@@ -22,7 +22,7 @@ pub(crate) fn write<T: Copy>(items: &[T], buffer: &mut [T]) -> usize
 }
 
 /// Writes a value over another, if there is one, and says whether there is.
-pub(crate) fn put<T: Drop>(value: Option<T>, place: &mut T) -> bool
+pub fn put<T: Drop>(value: Option<T>, place: &mut T) -> bool
     ensures { IsPut value place.old place.new result }
 {
     let Some(value) = value else {

@@ -7,10 +7,8 @@ ghost use Rattle.cvss_base.specs.Tenths.{IsInTenths};
 ghost use Rattle.cvss_text.specs.private.Walk.{HasNoValue};
 ghost use Rattle.cvss_v2.specs.Vector.{v2};
 ghost use Rattle.cvss_v3.specs.Vector.{v3};
-ghost use Rattle.cvss_ffi.specs.Buffer.{Puts};
 ghost use Rattle.cvss_ffi.specs.Exact.{AreNumbersOf, AreNumbersV2, AreNumbersV3, IsBeforeV4, IsNoPartial, IsNumber, IsOfPartial, IsPartial, IsRoundedFor, IsRoundedTo, IsTemporalWith, count_in, front_v3};
 
-use crate::buffer::put;
 use crate::empty::{empty_v2, empty_v3};
 use crate::scores::tenths_of as scores_of;
 use crate::{v2, v3};
@@ -54,15 +52,8 @@ const TRILLION: i128 = 1_000_000_000_000;
 /// A million, in trillionths.
 const MILLION: i64 = 1_000_000_000_000_000_000;
 
-/// Whether the version is CVSS v2 or v3 and the components make a vector of it, which may lack any
-/// metric; then its numbers are written.
-pub fn put_numbers(version: i32, metrics: &[u8], numbers: &mut CvssNumbers) -> bool
-    ensures { Puts (AreNumbersOf version metrics.now) numbers.old numbers.new result }
-{
-    put(numbers_of(version, metrics), numbers)
-}
-
-fn numbers_of(version: i32, metrics: &[u8]) -> Option<CvssNumbers>
+/// The numbers of the vector of CVSS v2 or v3 that the components make, which may lack any metric.
+pub fn numbers_of(version: i32, metrics: &[u8]) -> Option<CvssNumbers>
     ensures { AreNumbersOf version metrics.now result }
 {
     match version {
@@ -87,16 +78,8 @@ fn partial_v3(minor_version: usize, metrics: &[u8]) -> Option<CvssNumbers>
     Some(numbers_of_v3(&vector))
 }
 
-/// Whether the version is CVSS v2 or v3 and the number less than a million from 0; then the tenths of the
-/// number are written, rounded as the version rounds scores.
-pub fn put_rounded(version: i32, number: &CvssNumber, tenths: &mut i32) -> bool
-    ensures { Puts (IsRoundedTo version number.now) tenths.old tenths.new result }
-{
-    put(rounded(version, number), tenths)
-}
-
-/// The tenths of a number, rounded as a version rounds scores.
-fn rounded(version: i32, number: &CvssNumber) -> Option<i32>
+/// The tenths of a number less than a million from 0, rounded as CVSS v2 or v3 rounds scores.
+pub fn rounded(version: i32, number: &CvssNumber) -> Option<i32>
     ensures { IsRoundedTo version number.now result }
 {
     let count = count_of(number)?;
@@ -120,15 +103,9 @@ fn rounded_count(version: i32, count: i128) -> Option<i128>
     }
 }
 
-/// Whether the components make a vector of CVSS v2, which may lack any metric, and the impact is less
-/// than a million from 0; then the tenths of the temporal score with this impact are written.
-pub fn put_temporal(metrics: &[u8], impact: &CvssNumber, tenths: &mut i32) -> bool
-    ensures { Puts (IsTemporalWith metrics.now impact.now) tenths.old tenths.new result }
-{
-    put(temporal(metrics, impact), tenths)
-}
-
-fn temporal(metrics: &[u8], impact: &CvssNumber) -> Option<i32>
+/// The tenths of the temporal score with this impact, less than a million from 0, of the vector of CVSS
+/// v2 that the components make, which may lack any metric.
+pub fn temporal(metrics: &[u8], impact: &CvssNumber) -> Option<i32>
     ensures { IsTemporalWith metrics.now impact.now result }
 {
     let count = count_of(impact)?;

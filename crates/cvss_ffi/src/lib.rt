@@ -21,11 +21,12 @@ pub mod numbers;
 pub mod objects;
 pub mod overriding;
 pub mod refusal;
-mod rejection;
+pub mod rejection;
 pub mod scores;
 pub mod setting;
 pub mod values;
 
+pub use buffer::put;
 use cvss_v2 as v2;
 use cvss_v3 as v3;
 use cvss_v4 as v4;

@@ -3,7 +3,7 @@
 ghost use Rattle.std.specs.Prelude.{◌≡◌, ◌<◌, ◌≤◌, ◌+◌, ◌^◌, ◌++◌, length};
 ghost use Rattle.cvss_any.specs.Reasons.{error_message, reason_text};
 ghost use Rattle.cvss_any.specs.Refusals.{refusal_of};
-ghost use Rattle.cvss_any.specs.Segments.{text_of};
+ghost use Rattle.cvss_any.specs.Segments.{segment_text, text_of};
 ghost use Rattle.cvss_ffi.specs.Buffer.{IsWritten};
 
 use crate::buffer::write_segments;
@@ -13,7 +13,7 @@ use cvss_any::{Message, ReadError, Refusal, Segment};
 pub(crate) fn write_error(error: ReadError<'_>, buffer: &mut [u8]) -> usize
     ensures { IsWritten (error_message error.entry) buffer.old buffer.new result }
 {
-    write_message(&[], Message::of(error).segments, &[], buffer)
+    write_message(&[], Message::of(error), &[], buffer)
 }
 
 /// Writes words and, after them, what a reason says.
@@ -22,37 +22,46 @@ pub(crate) fn write_refusal(words: &[u8], refusal: Refusal<'_>, buffer: &mut [u8
     ensures { IsWritten (words.now ++ reason_text (refusal_of refusal.entry)) buffer.old
         buffer.new result }
 {
-    write_message(words, Message::of_refusal(refusal).segments, &[], buffer)
+    write_message(words, Message::of_refusal(refusal), &[], buffer)
 }
 
-/// Writes words, the segments of a message and an end.
+/// Writes words, a message and an end.
 pub(crate) fn write_message<'a>(
-    words: &[u8],
-    segments: [Segment<'a>; 5],
+    words: &'a [u8],
+    message: Message<'a>,
     end: &'a [u8],
     buffer: &mut [u8],
 ) -> usize
     requires around { length words.now + length end.now ≤ 33 }
-    requires message { length (text_of segments) < 2 ^ 63 + 300 }
-    ensures { IsWritten (words.now ++ (text_of segments.entry ++ end.now)) buffer.old
+    requires message { length (text_of message.segments) < 2 ^ 63 + 300 }
+    ensures { IsWritten (words.now ++ (text_of message.entry.segments ++ end.now)) buffer.old
         buffer.new result }
 {
-    let last = write_segments(&ended(segments, end), words.len(), buffer);
-    if last > buffer.len() {
-        return last;
-    }
-    buffer[..words.len()].copy_from_slice(words);
-    last
+    write_segments(&around(words, message.segments, end), 0, buffer)
 }
 
-/// The segments of a message, and an end.
-fn ended<'a>(segments: [Segment<'a>; 5], end: &'a [u8]) -> [Segment<'a>; 6]
-    ensures { text_of result ≡ text_of segments.entry ++ end.now }
+/// Words, the segments of a message and an end.
+fn around<'a>(words: &'a [u8], segments: [Segment<'a>; 5], end: &'a [u8]) -> [Segment<'a>; 7]
+    ensures { text_of result ≡ words.now ++ (text_of segments.entry ++ end.now) }
 {
     let [first, second, third, fourth, fifth] = segments;
-    let end = Segment {
-        bytes: end,
+    [
+        plain(words),
+        first,
+        second,
+        third,
+        fourth,
+        fifth,
+        plain(end),
+    ]
+}
+
+/// Bytes as they are.
+fn plain(bytes: &[u8]) -> Segment<'_>
+    ensures { segment_text result ≡ bytes.now }
+{
+    Segment {
+        bytes,
         upper: false,
-    };
-    [first, second, third, fourth, fifth, end]
+    }
 }

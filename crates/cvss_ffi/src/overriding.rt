@@ -5,58 +5,30 @@ ghost use Rattle.cvss_text.specs.Setting.{components_in};
 ghost use Rattle.cvss_v4.specs.Overriding.{AreOverrides, IsFirstObjection};
 ghost use Rattle.cvss_v4.specs.private.OverridingSteps.{objection_of};
 ghost use Rattle.cvss_v4.specs.declared.vector.Vector.{Vector};
-ghost use Rattle.cvss_any.specs.declared.vector.Cvss.{Cvss};
-ghost use Rattle.cvss_ffi.specs.Answers.{WritesOrWhy};
-ghost use Rattle.cvss_ffi.specs.Overriding.{IsOverrideReason, IsWithOverrides, objection_text, override_words};
-ghost use Rattle.cvss_ffi.specs.Setting.{WritesNew, WritesWhyNot};
-ghost use Rattle.cvss_ffi.specs.private.Rejection.{rejection_text};
+ghost use Rattle.cvss_ffi.specs.Overriding.{IsOverrideReason, IsWithOverrides, SetsOverrides, objection_text, override_words};
+ghost use Rattle.cvss_ffi.specs.Setting.{IsNew};
+ghost use Rattle.cvss_ffi.specs.private.Rejection.{answered, rejection_text};
 
-use crate::canonical::write_canonical;
 use crate::empty::empty_v4;
-use crate::message::write_error;
 use crate::refusal::read;
-use crate::rejection::{Rejection, write_rejection};
+use crate::rejection::Rejection;
 use crate::v4;
 use cvss_any::{Cvss, Refusal};
 use cvss_v4::overrides::{OverrideFault, read_override};
 
-/// Writes the canonical text of a vector with overrides in place.
-pub fn put_overridden(cvss: &Cvss, overrides: &[u8], buffer: &mut [u8]) -> usize
-    ensures { WritesNew (IsWithOverrides cvss.now overrides.now) buffer.old buffer.new result }
-{
-    match overridden(cvss, overrides) {
-        Ok(new) => write_canonical(&new, buffer),
-        Err(_) => 0,
-    }
-}
-
-/// Writes why a text denotes no vector, or why overrides cannot be put into its vector.
-pub fn put_override_reason(text: &[u8], overrides: &[u8], buffer: &mut [u8]) -> usize
-    ensures { WritesOrWhy text.now (λ cvss. WritesWhyNot (IsWithOverrides cvss overrides.now)
-        (IsOverrideReason cvss overrides.now)) buffer.old buffer.new result }
+/// The vector that a text denotes with overrides in place, or why there is none.
+pub fn overridden<'a>(text: &'a [u8], overrides: &'a [u8]) -> Result<Cvss, Rejection<'a>>
+    ensures { SetsOverrides text.now overrides.now (answered result) }
 {
     match read(text) {
-        Ok(cvss) => write_why_not(&cvss, overrides, buffer),
-        Err(error) => write_error(error, buffer),
+        Ok(cvss) => overridden_of(&cvss, overrides),
+        Err(error) => Err(Rejection::Text(error)),
     }
 }
 
-fn write_why_not(cvss: &Cvss, overrides: &[u8], buffer: &mut [u8]) -> usize
-    ensures { WritesWhyNot (IsWithOverrides cvss.now overrides.now)
-        (IsOverrideReason cvss.now overrides.now) buffer.old buffer.new result }
-{
-    match overridden(cvss, overrides) {
-        Ok(_) => 0,
-        Err(rejection) => write_rejection(rejection, buffer),
-    }
-}
-
-/// The vector with overrides in place.
-fn overridden<'a>(cvss: &Cvss, overrides: &'a [u8]) -> Result<Cvss, Rejection<'a>>
-    ensures is { IfOk result (IsWithOverrides cvss.now overrides.now) }
-    ensures accepts { (new : Cvss) → IsWithOverrides cvss.now overrides.now new → IsOk result }
-    ensures why { IfErr result (λ rejection.
-        IsOverrideReason cvss.now overrides.now (rejection_text rejection)) }
+fn overridden_of<'a>(cvss: &Cvss, overrides: &'a [u8]) -> Result<Cvss, Rejection<'a>>
+    ensures { IsNew (IsWithOverrides cvss.now overrides.now)
+        (IsOverrideReason cvss.now overrides.now) (answered result) }
 {
     let Cvss::CvssV40(vector) = cvss else {
         return Err(Rejection::OtherVersion);

@@ -1,17 +1,23 @@
-//! Why there is no new vector, in a buffer of the caller.
+//! A new vector, or why there is none, in a buffer of the caller.
 
 ghost use Rattle.std.specs.Prelude.{◌≡◌, ◌≤◌, ◌++◌, codes, decimal, length};
 ghost use Rattle.cvss_ffi.specs.Buffer.{IsWritten};
-ghost use Rattle.cvss_ffi.specs.private.Rejection.{rejection_text};
+ghost use Rattle.cvss_ffi.specs.Setting.{IsNewWritten, IsWhyNotWritten};
+ghost use Rattle.cvss_ffi.specs.private.Rejection.{answered, rejection_text};
 
 use crate::buffer::write;
-use crate::message::write_refusal;
-use cvss_any::Refusal;
+use crate::canonical::write_canonical;
+use crate::message::{write_error, write_refusal};
+use cvss_any::{Cvss, ReadError, Refusal};
 use cvss_json_write::Page;
 
 /// Why there is no new vector.
-#[derive(Clone, Copy)]
-pub(crate) enum Rejection<'a> {
+#[derive(Drop)]
+pub enum Rejection<'a> {
+    /// The text denotes no vector.
+    Text(ReadError<'a>),
+    /// No version has this number.
+    NoVersion,
     /// The metrics are not UTF-8.
     NotUtf8,
     /// The vector is not of CVSS v4.0.
@@ -26,11 +32,33 @@ pub(crate) enum Rejection<'a> {
     OtherGroup(usize),
 }
 
+/// Writes the canonical text of a new vector, if there is one.
+pub fn put_new(new: Result<Cvss, Rejection<'_>>, buffer: &mut [u8]) -> usize
+    ensures { IsNewWritten (answered new.entry) buffer.old buffer.new result }
+{
+    match new {
+        Ok(cvss) => write_canonical(&cvss, buffer),
+        Err(_) => 0,
+    }
+}
+
+/// Writes why there is no new vector, if there is none.
+pub fn put_why_not(new: Result<Cvss, Rejection<'_>>, buffer: &mut [u8]) -> usize
+    ensures { IsWhyNotWritten (answered new.entry) buffer.old buffer.new result }
+{
+    match new {
+        Ok(_) => 0,
+        Err(rejection) => write_rejection(rejection, buffer),
+    }
+}
+
 /// Writes what a rejection says.
-pub(crate) fn write_rejection(rejection: Rejection<'_>, buffer: &mut [u8]) -> usize
+fn write_rejection(rejection: Rejection<'_>, buffer: &mut [u8]) -> usize
     ensures { IsWritten (rejection_text rejection.entry) buffer.old buffer.new result }
 {
     match rejection {
+        Rejection::Text(error) => write_error(error, buffer),
+        Rejection::NoVersion => write(b"unsupported CVSS version", buffer),
         Rejection::NotUtf8 => write(b"not UTF-8", buffer),
         Rejection::OtherVersion => write(b"no CVSSv4 vector", buffer),
         Rejection::Vector(reason) => write_refusal(&[], reason, buffer),

@@ -2,19 +2,12 @@
 
 ghost use Rattle.std.specs.Prelude.{◌≡◌};
 ghost use Rattle.cvss_any.specs.Answers.{HasScore};
-ghost use Rattle.cvss_base.specs.Tenths.{IsInTenths};
-ghost use Rattle.cvss_base.specs.Version.{IsComplete};
 ghost use Rattle.cvss_any.specs.declared.vector.Cvss.TheVariants.{CvssV31};
 ghost use Rattle.cvss_json_record.specs.declared.group.Group.TheVariants.{Base, Temporal, Environmental};
-ghost use Rattle.cvss_score.specs.declared.v4.nomenclature.Nomenclature.TheVariants.{CvssBTE};
-ghost use Rattle.cvss_score.specs.v4.Scores.{IsScore};
-ghost use Rattle.cvss_v4.specs.Merging.{effective_of};
-ghost use Rattle.cvss_v4.specs.Parts.{IsScoreBy};
-ghost use Rattle.cvss_v4.specs.Vector.{v4};
-ghost use Rattle.cvss_ffi.specs.Scores.{AnswersScoresBy, AreScoresBy, AreScoresOf, IsReportedScore, IsScoreInTenths};
+ghost use Rattle.cvss_ffi.specs.Scores.{AreScoresByOf, AreScoresOf, IsReportedScore};
 
 use crate::numbers::{NOTHING, nomenclature_of, rating_number, version_number};
-use crate::{v3, v4};
+use crate::v3;
 use cvss_any::Cvss;
 use cvss_score::v4::Nomenclature;
 
@@ -116,35 +109,18 @@ fn tenths_of_v3(vector: &v3::Vector) -> (i32, i32, i32)
     )
 }
 
-/// Whether a vector is of CVSS v4.0; then its scores by nomenclature are written.
-pub fn put_scores_by(cvss: &Cvss, scores: &mut CvssScoresBy) -> bool
+/// The scores by nomenclature of a vector of CVSS v4.0.
+pub fn scores_by(cvss: &Cvss) -> Option<CvssScoresBy>
     requires { HasScore cvss.now }
-    ensures { AnswersScoresBy cvss.now scores.old scores.new result }
+    ensures { AreScoresByOf cvss.now result }
 {
     let Cvss::CvssV40(vector) = cvss else {
-        return false;
+        return None;
     };
-    *scores = scores_by(vector);
-    true
-}
-
-fn scores_by(vector: &v4::Vector) -> CvssScoresBy
-    requires { IsComplete v4 vector.now }
-    ensures { AreScoresBy vector.now result }
-{
-    CvssScoresBy {
-        b: score_by(vector, Nomenclature::CvssB),
-        be: score_by(vector, Nomenclature::CvssBE),
-        bt: score_by(vector, Nomenclature::CvssBT),
-        bte: score_by(vector, Nomenclature::CvssBTE),
-    }
-}
-
-fn score_by(vector: &v4::Vector, nomenclature: Nomenclature) -> i32
-    requires { IsComplete v4 vector.now }
-    ensures value { IsScoreInTenths (IsScoreBy nomenclature vector.now) result }
-    ensures own { nomenclature ≡ CvssBTE
-        → IsScoreInTenths (IsInTenths (IsScore (effective_of vector.now))) result }
-{
-    i32::from(vector.tenths_by(nomenclature))
+    Some(CvssScoresBy {
+        b: i32::from(vector.tenths_by(Nomenclature::CvssB)),
+        be: i32::from(vector.tenths_by(Nomenclature::CvssBE)),
+        bt: i32::from(vector.tenths_by(Nomenclature::CvssBT)),
+        bte: i32::from(vector.tenths_by(Nomenclature::CvssBTE)),
+    })
 }

@@ -1,85 +1,29 @@
 //! Metrics that are set in a vector, and vectors that are built from metrics. It takes no memory.
 
-ghost use Rattle.std.specs.Prelude.{◌≡◌, IfErr, IfNone, IfOk, IfSome, IsOk};
+ghost use Rattle.std.specs.Prelude.{◌≡◌, IfNone, IfSome};
 ghost use Rattle.cvss_any.specs.Refusals.{refusal_of};
-ghost use Rattle.cvss_any.specs.Setting.{IsBuiltAs, IsBuiltReason, IsWithReason};
+ghost use Rattle.cvss_any.specs.Setting.{IsBuiltAs, IsBuiltReason};
 ghost use Rattle.cvss_any.specs.declared.setting.Version as version;
-ghost use Rattle.cvss_any.specs.declared.vector.Cvss.{Cvss};
-ghost use Rattle.cvss_ffi.specs.Answers.{WritesOrWhy};
-ghost use Rattle.cvss_ffi.specs.Setting.{IsBuildReasonText, IsBuiltFrom, IsFromUtf8, IsWhyNot, IsWithMetrics, IsWithReasonText, WritesNew, WritesWhyNot, number_of, set_reason_text};
-ghost use Rattle.cvss_ffi.specs.private.Rejection.{rejection_text};
+ghost use Rattle.cvss_ffi.specs.Setting.{Builds, IsFromUtf8, IsNew, IsWhyNot, IsWithMetrics, IsWithReasonText, SetsMetrics, number_of, set_reason_text};
+ghost use Rattle.cvss_ffi.specs.private.Rejection.{answered, rejection_text};
 
-use crate::buffer::write;
-use crate::canonical::write_canonical;
-use crate::message::write_error;
 use crate::refusal::read;
-use crate::rejection::{Rejection, write_rejection};
+use crate::rejection::Rejection;
 use cvss_any::{Cvss, SetError, Version};
 
-/// Writes the canonical text of a vector with metrics set.
-pub fn put_with(cvss: &Cvss, metrics: &[u8], buffer: &mut [u8]) -> usize
-    ensures { WritesNew (IsWithMetrics cvss.now metrics.now) buffer.old buffer.new result }
-{
-    match with_metrics(cvss, metrics) {
-        Ok(new) => write_canonical(&new, buffer),
-        Err(_) => 0,
-    }
-}
-
-/// Writes why a text denotes no vector, or why metrics are not set in its vector.
-pub fn put_with_reason(text: &[u8], metrics: &[u8], buffer: &mut [u8]) -> usize
-    ensures { WritesOrWhy text.now (λ cvss. WritesWhyNot (IsWithMetrics cvss metrics.now)
-        (IsWithReasonText cvss metrics.now)) buffer.old buffer.new result }
+/// The vector that a text denotes with metrics set, or why there is none.
+pub fn with_metrics<'a>(text: &'a [u8], metrics: &'a [u8]) -> Result<Cvss, Rejection<'a>>
+    ensures { SetsMetrics text.now metrics.now (answered result) }
 {
     match read(text) {
-        Ok(cvss) => write_why_not(&cvss, metrics, buffer),
-        Err(error) => write_error(error, buffer),
+        Ok(cvss) => with_metrics_of(&cvss, metrics),
+        Err(error) => Err(Rejection::Text(error)),
     }
 }
 
-fn write_why_not(cvss: &Cvss, metrics: &[u8], buffer: &mut [u8]) -> usize
-    ensures { WritesWhyNot (IsWithMetrics cvss.now metrics.now)
-        (IsWithReasonText cvss.now metrics.now) buffer.old buffer.new result }
-{
-    match with_metrics(cvss, metrics) {
-        Ok(_) => 0,
-        Err(rejection) => write_rejection(rejection, buffer),
-    }
-}
-
-/// Writes the canonical text of the vector of a version that metrics make.
-pub fn put_build(version: i32, metrics: &[u8], buffer: &mut [u8]) -> usize
-    ensures { WritesNew (IsBuiltFrom version metrics.now) buffer.old buffer.new result }
-{
-    let Some(version) = version_of(version) else {
-        return 0;
-    };
-    match built(version, metrics) {
-        Ok(new) => write_canonical(&new, buffer),
-        Err(_) => 0,
-    }
-}
-
-/// Writes why metrics make no vector of a version.
-pub fn put_build_reason(version: i32, metrics: &[u8], buffer: &mut [u8]) -> usize
-    ensures { WritesWhyNot (IsBuiltFrom version metrics.now)
-        (IsBuildReasonText version metrics.now) buffer.old buffer.new result }
-{
-    let Some(version) = version_of(version) else {
-        return write(b"unsupported CVSS version", buffer);
-    };
-    match built(version, metrics) {
-        Ok(_) => 0,
-        Err(rejection) => write_rejection(rejection, buffer),
-    }
-}
-
-/// The vector with metrics set.
-fn with_metrics<'a>(cvss: &Cvss, metrics: &'a [u8]) -> Result<Cvss, Rejection<'a>>
-    ensures is { IfOk result (IsWithMetrics cvss.now metrics.now) }
-    ensures accepts { (new : Cvss) → IsWithMetrics cvss.now metrics.now new → IsOk result }
-    ensures why { IfErr result (λ rejection.
-        IsWhyNot (IsWithReason cvss.now metrics.now) metrics.now (rejection_text rejection)) }
+fn with_metrics_of<'a>(cvss: &Cvss, metrics: &'a [u8]) -> Result<Cvss, Rejection<'a>>
+    ensures { IsNew (IsWithMetrics cvss.now metrics.now) (IsWithReasonText cvss.now metrics.now)
+        (answered result) }
 {
     let Ok(metrics) = str::from_utf8(metrics) else {
         return Err(Rejection::NotUtf8);
@@ -90,13 +34,19 @@ fn with_metrics<'a>(cvss: &Cvss, metrics: &'a [u8]) -> Result<Cvss, Rejection<'a
     }
 }
 
-/// The vector of a version that metrics make.
-fn built(version: Version, metrics: &[u8]) -> Result<Cvss, Rejection<'_>>
-    ensures is { IfOk result (IsFromUtf8 metrics.now (IsBuiltAs version metrics.now)) }
-    ensures accepts { (new : Cvss) → IsFromUtf8 metrics.now (IsBuiltAs version metrics.now) new
-        → IsOk result }
-    ensures why { IfErr result (λ rejection.
-        IsWhyNot (IsBuiltReason version metrics.now) metrics.now (rejection_text rejection)) }
+/// The vector of a version that metrics make, or why they make none.
+pub fn built(version: i32, metrics: &[u8]) -> Result<Cvss, Rejection<'_>>
+    ensures { Builds version metrics.now (answered result) }
+{
+    match version_of(version) {
+        Some(version) => built_as(version, metrics),
+        None => Err(Rejection::NoVersion),
+    }
+}
+
+fn built_as(version: Version, metrics: &[u8]) -> Result<Cvss, Rejection<'_>>
+    ensures { IsNew (IsFromUtf8 metrics.now (IsBuiltAs version metrics.now))
+        (IsWhyNot (IsBuiltReason version metrics.now) metrics.now) (answered result) }
 {
     let Ok(metrics) = str::from_utf8(metrics) else {
         return Err(Rejection::NotUtf8);

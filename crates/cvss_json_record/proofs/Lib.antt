@@ -1,3 +1,2 @@
-mod RowTables
 mod ShortLemmas
 pub mod WordLemmas

@@ -14,7 +14,7 @@ use cvss_text::walk::Components;
 
 /// A group of metrics with a score of its own. The one score of CVSS v4.0 counts as that of the base
 /// group.
-#[derive(Clone, Copy, Debug, PartialEq, Eq)]
+#[derive(Clone, Copy)]
 pub enum Group {
     Base,
     Temporal,

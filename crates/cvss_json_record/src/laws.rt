@@ -5,7 +5,7 @@ ghost use Rattle.std.specs.Prelude.{map};
 ghost use Rattle.cvss_base.specs.declared.v2.MetricType as kind_v2;
 ghost use Rattle.cvss_base.specs.declared.v3.MetricType as kind_v3;
 ghost use Rattle.cvss_base.specs.declared.v4.MetricType as kind_v4;
-ghost use Rattle.cvss_base.specs.Equality.{ClonesAlways, ClonesByValue, EqualsByValue};
+ghost use Rattle.cvss_base.specs.Equality.{ClonesAlways, ClonesByValue};
 ghost use Rattle.cvss_base.specs.V4Types.{declared};
 ghost use Rattle.cvss_json_record.specs.Fields.{fields_v2, fields_v3, fields_v4};
 ghost use Rattle.cvss_json_record.specs.declared.field.Field.TheVariants.{V2, V3, V4};
@@ -43,12 +43,6 @@ pub fn members_are_in_order()
     ensures v2 { AreMembers fields_v2 V2 table_v2.printed }
     ensures v3 { AreMembers fields_v3 V3 table_v3.printed }
     ensures v4 { AreMembers fields_v4 V4 declared }
-{}
-
-/// Two groups or scores are equal exactly if they are one value.
-pub fn equality_is_that_of_values()
-    ensures group { EqualsByValue ⟦<Group as PartialEq>⟧.eq }
-    ensures scores { EqualsByValue ⟦<Scores as PartialEq>⟧.eq }
 {}
 
 /// A clone of a member, of what it says, of a group or of scores is that value.

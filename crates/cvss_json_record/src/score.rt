@@ -7,11 +7,10 @@ ghost use Rattle.cvss_json_record.specs.Record.{rating_word};
 
 use crate::group::Group;
 use cvss_any::Cvss;
-use cvss_base::tenths::tenths_of;
 use cvss_base::{Severity, TENTH};
 
 /// The scores of a vector in tenths, from 0 to 100 each.
-#[derive(Clone, Copy, Debug, PartialEq, Eq)]
+#[derive(Clone, Copy)]
 pub struct Scores {
     /// The base score; of CVSS v4.0 the score of the vector as it is.
     pub base: u8,
@@ -31,13 +30,13 @@ impl Scores {
         match cvss {
             Cvss::CvssV20(vector) => Scores {
                 base,
-                temporal: Some(tenths_of(vector.temporal_score().value())),
-                environmental: Some(tenths_of(vector.environmental_score().value())),
+                temporal: Some(vector.temporal_tenths()),
+                environmental: Some(vector.environmental_tenths()),
             },
             Cvss::CvssV30(vector) | Cvss::CvssV31(vector) => Scores {
                 base,
-                temporal: Some(tenths_of(vector.temporal_score().value())),
-                environmental: Some(tenths_of(vector.environmental_score().value())),
+                temporal: Some(vector.temporal_tenths()),
+                environmental: Some(vector.environmental_tenths()),
             },
             Cvss::CvssV40(_) => Scores {
                 base,

@@ -8,8 +8,8 @@ use cvss_any::Cvss;
 use cvss_ffi::metrics::put_metrics;
 use cvss_ffi::numbers::{NOTHING, rating_number, version_number};
 use cvss_ffi::refusal::{kind_of, put_reported_kind};
-use cvss_ffi::scores::put_scores_by;
-use cvss_ffi::{CvssMetric, CvssScores, CvssScoresBy};
+use cvss_ffi::scores::scores_by;
+use cvss_ffi::{CvssMetric, CvssScores, CvssScoresBy, put};
 use std::io;
 
 /// No vector has more metrics.
@@ -65,7 +65,7 @@ fn print_score(rt: &HostRuntime, tenths: i32, severity: i32) -> io::Result<()> {
 }
 
 /// Prints the scores by nomenclature of a vector of v4.0, or `-`.
-pub(crate) fn scores_by(rt: &HostRuntime, text: &[u8]) -> io::Result<()> {
+pub(crate) fn print_scores_by(rt: &HostRuntime, text: &[u8]) -> io::Result<()> {
     let mut scores = CvssScoresBy {
         b: NOTHING,
         be: NOTHING,
@@ -73,7 +73,7 @@ pub(crate) fn scores_by(rt: &HostRuntime, text: &[u8]) -> io::Result<()> {
         bte: NOTHING,
     };
     let written = match Cvss::read_bytes(text) {
-        Some(cvss) => put_scores_by(&cvss, &mut scores),
+        Some(cvss) => put(scores_by(&cvss), &mut scores),
         None => false,
     };
     if written {
