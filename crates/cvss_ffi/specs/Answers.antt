@@ -3,7 +3,7 @@ use Rattle.std.specs.Prelude.{◌≡◌, ℕ, ◌⊎◌, List}
 use Rattle.cvss_any.specs.Answers.{IsScoreOf, score_of_tenths, vector_answer}
 use Rattle.cvss_any.specs.declared.vector.Cvss.{Cvss}
 use Rattle.cvss_any.specs.Dispatch.{DenotesCvss}
-use Rattle.cvss_any.specs.Reasons.{IsErrorAnswer, IsReason}
+use Rattle.cvss_any.specs.Reasons.{IsErrorAnswer}
 use Rattle.cvss_ffi.specs.Buffer.{IsLeft, Writes}
 
 -- the text denotes a vector, of which this holds

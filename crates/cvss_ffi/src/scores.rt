@@ -1,6 +1,5 @@
 //! The scores of a vector, as C sees them.
 
-ghost use Rattle.std.specs.Prelude.{◌≡◌};
 ghost use Rattle.cvss_any.specs.Answers.{HasScore};
 ghost use Rattle.cvss_any.specs.declared.vector.Cvss.TheVariants.{CvssV31};
 ghost use Rattle.cvss_json_record.specs.declared.group.Group.TheVariants.{Base, Temporal, Environmental};

@@ -1,5 +1,5 @@
 -- How long components are.
-use Rattle.std.proofs.Common.{◌≡◌, ◌≤◌, ℕ, ◌∷◌, length, rules}
+use Rattle.std.proofs.Common.{◌≤◌, ◌∷◌, length, rules}
 use Rattle.cvss_base.specs.Text.{slash}
 use Rattle.cvss_base.specs.declared.v3.MetricType.{MetricType}
 use Rattle.cvss_base.specs.declared.v3.MetricType.TheVariants.{A}
