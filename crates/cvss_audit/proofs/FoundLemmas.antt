@@ -14,144 +14,170 @@ use Rattle.cvss_lines.specs.declared.fault.RunFault.TheVariants.{Memory, Write}
 use Rattle.cvss_document.specs.Places.{Place, places_in}
 use Rattle.cvss_audit.specs.Answers.{AreFound, Begins, BeginsFound, Found, IsAnswer, IsFound, all_agree, answer_of, texts_of, written_found}
 use Rattle.cvss_audit.specs.Inputs.{Input}
-use Rattle.cvss_audit.specs.private.Writing.{Answers, StopsAnswering, StopsFound, StreamsFound, WritesPlace}
+use Rattle.cvss_audit.specs.private.Writing.{Answers, PassFound, StopsAnswering, StopsFound, StreamsFound, WritesPlace}
 use Rattle.serde_json.specs.Data.{Data}
 use Rattle.serde_json.specs.Read.{read}
 
-AreFound-push : (input : Input) (places : List Place) (found : List Found) (place : Place) (others : List Place) (last : Found)
-    → AreFound input places (place ∷ others) found → IsFound input place last → AreFound input places others (found ++ last ∷ [])
-AreFound-push input places [] place others last all is = subst (λ each. AreFound input each others (last ∷ [])) (sym all) (is, refl)
-AreFound-push input [] (each ∷ more) place others last are is = absurd are
-AreFound-push input (first ∷ places) (each ∷ more) place others last are is = (are.0, AreFound-push input places more place others last are.1 is)
+AreFound-push : (input : Input) (places : List Place) (found : List Found) (place : Place) (last : Found)
+    → AreFound input places found → IsFound input place last → AreFound input (places ++ place ∷ []) (found ++ last ∷ [])
+AreFound-push input [] [] place last are is = (is, tt)
+AreFound-push input [] (each ∷ more) place last are is = absurd are
+AreFound-push input (each ∷ more) [] place last are is = absurd are
+AreFound-push input (first ∷ places) (each ∷ more) place last are is = (are.0, AreFound-push input places more place last are.1 is)
 
--- whether the answer accepts, and what is written for it
-reported_answer : (found : List Found) → (all_agree found ≡ is_accepted (answer_of found)) × (written_found found ≡ written_answer (answer_of found))
-reported_answer found = reported (all_agree found) where
-  answer : Bool → Answer
-  answer b = if b then Accepted (texts_of found) else Refused (texts_of found)
+all_agree-push : (found : List Found) (last : Found) → all_agree (found ++ last ∷ []) ≡ (all_agree found && last.agrees)
+all_agree-push found last =
+    list_all-append (λ (each : Found). each.agrees) found (last ∷ []) ∙ ap (λ b. all_agree found && b) (and-true last.agrees)
 
-  reported : (b : Bool) → (b ≡ is_accepted (answer b)) × (written_found found ≡ written_answer (answer b))
-  reported true = (refl, refl)
-  reported false = (refl, refl)
+written-push : (found : List Found) (last : Found) (old middle new : List ℕ)
+    → middle ≡ old ++ flat_map written_text (texts_of found) → new ≡ middle ++ written_text last.text
+    → new ≡ old ++ flat_map written_text (texts_of (found ++ last ∷ []))
+written-push found last old middle new before next =
+    next ∙ ap (λ bytes. bytes ++ written_text last.text) before ∙ flat_map_more written_text old (texts_of found) last.text
+    ∙ ap (λ texts. old ++ flat_map written_text texts) (sym (map-append (λ (each : Found). each.text) found (last ∷ [])))
 
 module _ (input : Input) (places : List Place) where
   -- before the first place
   pub StreamsFound-start : (left : List Place) (old : List ℕ) (w : Option (List ℕ)) → left ≡ places
       → StreamsFound input places left old old w w true
   StreamsFound-start left old w all = record {
-    answer = Accepted [];
-    answers = ([], sym all, refl);
+    seen = [];
+    split = sym all;
+    found = [];
+    are_found = tt;
     reported = refl;
     passed = [];
-    is_passed = inl refl;
+    pass = inl refl;
     appended = Appends-nil w;
     together = sym (append-nil old);
   }
 
-  module _ (place : Place) (left others : List Place) (old waits middle : List ℕ) (w w' : Option (List ℕ)) (agree agrees : Bool) (next : left ≡ place ∷ others)
-      (before : StreamsFound input places left old waits w w' agree) (wrote : WritesPlace input place waits middle agrees) where
-    -- what is found with one more place
-    abbrev found : List Found
-    found = before.answers.0 ++ wrote.found ∷ []
+  -- the places that are seen with one more, and those that are left
+  split_more : (seen : List Place) (place : Place) (left left' : List Place) → places ≡ seen ++ left → left ≡ place ∷ left'
+      → places ≡ (seen ++ place ∷ []) ++ left'
+  split_more seen place left left' split next =
+      split ∙ ap (λ each. seen ++ each) next ∙ sym (append_assoc seen (place ∷ []) left')
 
-    are_found : AreFound input places others found
-    are_found = AreFound-push input places before.answers.0 place others wrote.found (subst (λ each. AreFound input places each before.answers.0) next before.answers.1) wrote.is_found
+  -- what is found at one more place is in what was and what may be written
+  found_more : (seen : List Place) (place : Place) (left left' : List Place) (found : List Found) (last : Found)
+      → places ≡ seen ++ left → left ≡ place ∷ left' → AreFound input seen found → IsFound input place last
+      → BeginsFound input places (written_found (found ++ last ∷ []))
+  found_more seen place left left' found last split next are is = record {
+    first = seen ++ place ∷ [];
+    others = left';
+    split = split_more seen place left left' split next;
+    found = found ++ last ∷ [];
+    are_found = AreFound-push input seen found place last are is;
+    written = refl;
+  }
 
-    together : before.passed ++ middle ≡ old ++ written_found found
-    together =
-        ap (λ bytes. before.passed ++ bytes) wrote.written ∙ sym (append_assoc before.passed waits (written_text wrote.found.text))
-        ∙ ap (λ bytes. bytes ++ written_text wrote.found.text)
-        (before.together ∙ ap (λ bytes. old ++ bytes) (ap written_answer before.answers.2 ∙ sym (reported_answer before.answers.0).1))
-        ∙ flat_map_more written_text old (texts_of before.answers.0) wrote.found.text
-        ∙ ap (λ texts. old ++ flat_map written_text texts) (sym (map-append (λ (each : Found). each.text) before.answers.0 (wrote.found ∷ [])))
+  together_push : (passed waits old middle : List ℕ) (found : List Found) (last : Found) → passed ++ waits ≡ old ++ written_found found
+      → middle ≡ waits ++ written_text last.text → passed ++ middle ≡ old ++ written_found (found ++ last ∷ [])
+  together_push passed waits old middle found last together written =
+      ap (λ bytes. passed ++ bytes) written ∙ sym (append_assoc passed waits (written_text last.text))
+      ∙ written-push found last old (passed ++ waits) ((passed ++ waits) ++ written_text last.text) together refl
 
-    reported : (agree && agrees) ≡ all_agree found
-    reported =
-        ap₂ (λ (a b : Bool). a && b) (before.reported ∙ ap is_accepted before.answers.2 ∙ sym (reported_answer before.answers.0).0) wrote.reported
-        ∙ sym (list_all-append (λ (each : Found). each.agrees) before.answers.0 (wrote.found ∷ []) ∙ ap (λ b. all_agree before.answers.0 && b) (and-true wrote.found.agrees))
+  -- after one more place, of which what waited may be written
+  pub StreamsFound-next : (place : Place) (left left' : List Place) (old waits middle new : List ℕ) (w w' w'' : Option (List ℕ)) (agree agrees : Bool)
+      → left ≡ place ∷ left' → StreamsFound input places left old waits w w' agree → WritesPlace input place waits middle agrees
+      → WritesWaiting middle new w' w'' → StreamsFound input places left' old new w w'' (agree && agrees)
+  StreamsFound-next place left left' old waits middle new w w' w'' agree agrees next before wrote = by_case where
+    all : before.passed ++ middle ≡ old ++ written_found (before.found ++ wrote.found ∷ [])
+    all = together_push before.passed waits old middle before.found wrote.found before.together wrote.written
 
-    begins : BeginsFound input places (written_found found)
-    begins = record { others = others; found = found; are_found = are_found; written = refl }
-
-    -- after one more place, of which what waited may be written
-    pub StreamsFound-next : (new : List ℕ) (w'' : Option (List ℕ)) → WritesWaiting middle new w' w'' → StreamsFound input places others old new w w'' (agree && agrees)
-    StreamsFound-next new w'' = by_case where
-      more : (passed : List ℕ) → IsPassed (λ _ _. BeginsFound input places) 1 [] old passed → Appends w w'' passed → passed ++ new ≡ old ++ written_found found
-          → StreamsFound input places others old new w w'' (agree && agrees)
-      more passed is_passed appended all = record {
-        answer = answer_of found;
-        answers = (found, are_found, refl);
-        reported = reported ∙ (reported_answer found).0;
-        passed = passed;
-        is_passed = is_passed;
-        appended = appended;
-        together = all ∙ ap (λ bytes. old ++ bytes) (reported_answer found).1;
-      }
-
-      by_case : WritesWaiting middle new w' w'' → StreamsFound input places others old new w w'' (agree && agrees)
-      by_case (inl kept) =
-          more before.passed before.is_passed (Appends-kept w w' w'' before.passed before.appended kept.1) (ap (λ bytes. before.passed ++ bytes) kept.0 ∙ together)
-      by_case (inr flushed) =
-          more (before.passed ++ middle) (inr (written_found found, begins, together)) (Appends-trans w w' w'' before.passed middle before.appended flushed.1)
-          (ap (λ bytes. (before.passed ++ middle) ++ bytes) flushed.0 ∙ append-nil (before.passed ++ middle) ∙ together)
-
-    -- a write failed after one more place
-    pub StopsFound-write : (w'' : Option (List ℕ)) (fault : RunFault) → (fault ≡ Write) × ((count : ℕ) × Appends w' w'' (take count middle))
-        → StopsFound input places old w w'' fault
-    StopsFound-write w'' fault stopped = record {
-      no_read = λ read. absurd (cc stopped.0);
-      memory = λ memory. absurd (cc stopped.0);
-      write = λ _. record {
-        begun = written_found found;
-        begins = begins;
-        count = length before.passed + stopped.1.0;
-        appended = subst (Appends w w'')
-            (sym (take-append-add before.passed middle stopped.1.0) ∙ ap (take (length before.passed + stopped.1.0)) together)
-            (Appends-trans w w' w'' before.passed (take stopped.1.0 middle) before.appended stopped.1.1);
-      };
+    more : (passed : List ℕ) → PassFound input places old passed → Appends w w'' passed
+        → passed ++ new ≡ old ++ written_found (before.found ++ wrote.found ∷ []) → StreamsFound input places left' old new w w'' (agree && agrees)
+    more passed pass appended together = record {
+      seen = before.seen ++ place ∷ [];
+      split = split_more before.seen place left left' before.split next;
+      found = before.found ++ wrote.found ∷ [];
+      are_found = AreFound-push input before.seen before.found place wrote.found before.are_found wrote.is_found;
+      reported = ap₂ (λ (a b : Bool). a && b) before.reported wrote.reported ∙ sym (all_agree-push before.found wrote.found);
+      passed = passed;
+      pass = pass;
+      appended = appended;
+      together = together;
     }
 
-module _ (input : Input) (text old : List ℕ) (document : Data) (reads : read text ≡ Some document) where
-  begins_text : (bytes : List ℕ) → BeginsFound input (places_in document) bytes → Begins input text bytes
-  begins_text bytes begins = record { document = document; reads = reads; begins = begins }
+    by_case : WritesWaiting middle new w' w'' → StreamsFound input places left' old new w w'' (agree && agrees)
+    by_case (inl kept) =
+        more before.passed before.pass (Appends-kept w w' w'' before.passed before.appended kept.1) (ap (λ bytes. before.passed ++ bytes) kept.0 ∙ all)
+    by_case (inr flushed) =
+        more (before.passed ++ middle)
+        (inr (written_found (before.found ++ wrote.found ∷ []), found_more before.seen place left left' before.found wrote.found before.split next before.are_found wrote.is_found, all))
+        (Appends-trans w w' w'' before.passed middle before.appended flushed.1)
+        (ap (λ bytes. (before.passed ++ middle) ++ bytes) flushed.0 ∙ append-nil (before.passed ++ middle) ∙ all)
 
-  -- what may be written of a document
-  pass_document : (passed : List ℕ) → IsPassed (λ _ _. BeginsFound input (places_in document)) 1 [] old passed → IsPassed (λ _. Begins input) 1 text old passed
-  pass_document passed (inl none) = inl none
-  pass_document passed (inr some) = inr (some.0, begins_text some.0 some.1, some.2)
-
-  -- the answer to a document whose places are all seen
-  pub Streams-document : (new : List ℕ) (w w' : Option (List ℕ)) (agree : Bool) → IsUtf8 text → StreamsFound input (places_in document) [] old new w w' agree
-      → Answers input text old new w w' agree
-  unfolding IsAnswer
-  Streams-document new w w' agree utf8 streams = record {
-    answer = streams.answer;
-    answers = inr (inr (inr (record {
-      utf8 = utf8;
-      document = document;
-      reads = reads;
-      found = streams.answers.0;
-      are_found = streams.answers.1;
-      is = streams.answers.2;
-    })));
-    reported = streams.reported;
-    passed = streams.passed;
-    is_passed = pass_document streams.passed streams.is_passed;
-    appended = streams.appended;
-    together = streams.together;
+  -- a write failed after one more place
+  pub StopsFound-write : (place : Place) (left left' : List Place) (old waits middle : List ℕ) (w w' w'' : Option (List ℕ)) (agree agrees : Bool) (fault : RunFault)
+      → left ≡ place ∷ left' → StreamsFound input places left old waits w w' agree → WritesPlace input place waits middle agrees
+      → (fault ≡ Write) × ((count : ℕ) × Appends w' w'' (take count middle)) → StopsFound input places old w w'' fault
+  StopsFound-write place left left' old waits middle w w' w'' agree agrees fault next before wrote stopped = record {
+    no_read = λ read. absurd (cc stopped.0);
+    memory = λ memory. absurd (cc stopped.0);
+    write = λ _. record {
+      begun = written_found (before.found ++ wrote.found ∷ []);
+      begins = found_more before.seen place left left' before.found wrote.found before.split next before.are_found wrote.is_found;
+      count = length before.passed + stopped.1.0;
+      appended = subst (Appends w w'')
+          (sym (take-append-add before.passed middle stopped.1.0)
+          ∙ ap (take (length before.passed + stopped.1.0)) (together_push before.passed waits old middle before.found wrote.found before.together wrote.written))
+          (Appends-trans w w' w'' before.passed (take stopped.1.0 middle) before.appended stopped.1.1);
+    };
   }
 
-  -- a fault in the midst of a document
-  pub Stops-document : (w w' : Option (List ℕ)) (fault : RunFault) → StopsFound input (places_in document) old w w' fault → StopsAnswering input text old w w' fault
-  Stops-document w w' fault stops = record {
-    no_read = stops.no_read;
-    memory = λ is.
-        let lacks = stops.memory is in
-        record { passed = lacks.passed; is_passed = pass_document lacks.passed lacks.is_passed; appended = lacks.appended };
-    write = λ is.
-        let fails = stops.write is in
-        record { begun = fails.begun; begins = begins_text fails.begun fails.begins; count = fails.count; appended = fails.appended };
-  }
+-- whether the answer to a document accepts it, and what is written for it
+reported_answer : (found : List Found)
+    → (all_agree found ≡ is_accepted (answer_of found)) × (flat_map written_text (texts_of found) ≡ written_answer (answer_of found))
+reported_answer found = reported (all_agree found) where
+  answer : Bool → Answer
+  answer b = if b then Accepted (texts_of found) else Refused (texts_of found)
+
+  reported : (b : Bool) → (b ≡ is_accepted (answer b)) × (flat_map written_text (texts_of found) ≡ written_answer (answer b))
+  reported true = (refl, refl)
+  reported false = (refl, refl)
+
+-- what may be written of a document
+pass_document : (input : Input) (text old passed : List ℕ) (document : Data) → read text ≡ Some document
+    → PassFound input (places_in document) old passed → IsPassed (λ _. Begins input) 1 text old passed
+pass_document input text old passed document reads (inl none) = inl none
+pass_document input text old passed document reads (inr some) =
+    inr (some.0, record { document = document; reads = reads; begins = some.1 }, some.2)
+
+-- the answer to a document whose places are all seen
+pub Streams-document : (input : Input) (text old new : List ℕ) (w w' : Option (List ℕ)) (agree : Bool) (document : Data) → IsUtf8 text
+    → read text ≡ Some document → StreamsFound input (places_in document) [] old new w w' agree
+    → Answers input text old new w w' agree
+unfolding IsAnswer
+Streams-document input text old new w w' agree document utf8 reads streams = record {
+  answer = answer_of streams.found;
+  answers = inr (inr (inr (record {
+    utf8 = utf8;
+    document = document;
+    reads = reads;
+    found = streams.found;
+    are_found = subst (λ seen. AreFound input seen streams.found) (sym (streams.split ∙ append-nil streams.seen)) streams.are_found;
+    is = refl;
+  })));
+  reported = streams.reported ∙ (reported_answer streams.found).0;
+  passed = streams.passed;
+  is_passed = pass_document input text old streams.passed document reads streams.pass;
+  appended = streams.appended;
+  together = streams.together ∙ ap (λ bytes. old ++ bytes) (reported_answer streams.found).1;
+}
+
+-- a fault in the midst of a document
+pub Stops-document : (input : Input) (text old : List ℕ) (w w' : Option (List ℕ)) (fault : RunFault) (document : Data) → read text ≡ Some document
+    → StopsFound input (places_in document) old w w' fault → StopsAnswering input text old w w' fault
+Stops-document input text old w w' fault document reads stops = record {
+  no_read = stops.no_read;
+  memory = λ is.
+      let lacks = stops.memory is in
+      record { passed = lacks.passed; is_passed = pass_document input text old lacks.passed document reads lacks.pass; appended = lacks.appended };
+  write = λ is.
+      let fails = stops.write is in
+      record { begun = fails.begun; begins = record { document = document; reads = reads; begins = fails.begins }; count = fails.count; appended = fails.appended };
+}
 
 -- an answer of which nothing is written yet
 pub Streams-waiting : (input : Input) (text old new : List ℕ) (w : Option (List ℕ)) (accepted : Bool) (answer : Answer) → IsAnswer input text answer

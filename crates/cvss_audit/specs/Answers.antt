@@ -1,5 +1,5 @@
 -- The answers to JSON documents.
-use Rattle.std.specs.Prelude.{◌≡◌, ◌≢◌, ℕ, ◌==◌, ◌||◌, ◌&&◌, not, ◌⊎◌, Bool, true, false, List, [], ◌∷◌, ◌++◌, codes, flat_map, map, if◌then◌else◌, is_some, Option, Some, None}
+use Rattle.std.specs.Prelude.{◌≡◌, ◌≢◌, ℕ, ◌==◌, ◌||◌, ◌&&◌, not, ◌⊎◌, Bool, true, false, List, [], ◌∷◌, ◌++◌, codes, flat_map, map, if◌then◌else◌, is_some, Option, Some, None, ⊤}
 use Rattle.std.specs.List.{list_all}
 use Rattle.std.specs.Str.{IsUtf8}
 use Rattle.cvss_any.specs.Complete.{first_missing}
@@ -72,11 +72,12 @@ pub record IsFound (input : Input) (place : Place) (found : Found) : Type 0 wher
   pub is_object : IsObjectOf input place place.2 value found.agrees
   pub is_text : IsTextOf value found.text
 
--- these are found at the first of the places, in their order; the others are left
-abbrev pub AreFound : Input → List Place → List Place → List Found → Type 0
-AreFound input places others [] = places ≡ others
-AreFound input [] others (found ∷ more) = ⊥
-AreFound input (place ∷ places) others (found ∷ more) = IsFound input place found × AreFound input places others more
+-- these are found at the places, in their order
+abbrev pub AreFound : Input → List Place → List Found → Type 0
+AreFound input [] [] = ⊤
+AreFound input [] (found ∷ more) = ⊥
+AreFound input (place ∷ places) [] = ⊥
+AreFound input (place ∷ places) (found ∷ more) = IsFound input place found × AreFound input places more
 
 -- all vectors are accepted and allowed, and nothing differs
 abbrev pub all_agree : List Found → Bool
@@ -92,9 +93,11 @@ written_found found = flat_map written_text (texts_of found)
 
 -- the bytes are what is written for the first of the places
 pub record BeginsFound (input : Input) (places : List Place) (bytes : List ℕ) : Type 0 where
+  pub first : List Place
   pub others : List Place
+  pub split : places ≡ first ++ others
   pub found : List Found
-  pub are_found : AreFound input places others found
+  pub are_found : AreFound input first found
   pub written : bytes ≡ written_found found
 
 -- the answer to a document: a line for each place. The document is accepted if all agree.
@@ -138,7 +141,7 @@ pub record IsDocument (input : Input) (text : List ℕ) (answer : Answer) : Type
   pub document : Data
   pub reads : read text ≡ Some document
   pub found : List Found
-  pub are_found : AreFound input (places_in document) [] found
+  pub are_found : AreFound input (places_in document) found
   pub is : answer ≡ answer_of found
 
 -- whole lines of the answer to a document, which may be written before the rest of it is known

@@ -11,10 +11,10 @@ ghost use Rattle.serde_json.specs.View.{view};
 
 use crate::files::is_blank;
 use crate::input::Input;
-use crate::members::{put_input, put_text};
+use crate::members::{put_input, put_refusal};
 use crate::place::answer_place;
 use cvss_document::vectors_in;
-use cvss_json_tree::write_object;
+use cvss_json_tree::write_tree_object;
 use cvss_lines::{OutputBuffer, RunFault};
 use serde_json::{Map, Value};
 use std::alloc::{AllocError, Global};
@@ -76,8 +76,8 @@ fn refuse_text(
 {
     let mut members = Map::new(alloc);
     put_input(&mut members, alloc, input)?;
-    put_text(&mut members, alloc, "refused", Some(reason))?;
-    write_object(alloc, members, answers)
+    put_refusal(&mut members, alloc, String::from_str(alloc, reason)?)?;
+    write_tree_object(alloc, &members, answers)
 }
 
 /// Writes an object for each location of a vector in a document, one after another. Says whether none

@@ -2,20 +2,21 @@
 
 ghost use Rattle.std.specs.Prelude.{◌≡◌, IfOk, OnOk, map};
 ghost use Rattle.cvss_audit.specs.Objects.{difference_value, differs_members};
-ghost use Rattle.serde_json.specs.View.{members_view, view};
+ghost use Rattle.cvss_json_tree.specs.Trees.{members_view, tree_view};
 ghost use Rattle.cvss_document.specs.Differences.{difference_view, said_view};
 ghost use Rattle.cvss_json_tree.specs.Objects.{with_members};
 
 use crate::members::put_list;
 use cvss_document::{Difference, Said};
-use serde_json::{Map, Value, json};
+use cvss_json_tree::{Tree, put_tree};
+use serde_json::Map;
 use std::alloc::{AllocError, Global};
 
 /// Puts where the document says otherwise, if it does anywhere.
-pub(crate) fn put_differences(
-    members: &mut Map<String, Value>,
+pub(crate) fn put_differences<'a>(
+    members: &mut Map<String, Tree<'a>>,
     alloc: Global,
-    differences: Vec<Difference<'_>>,
+    differences: Vec<Difference<'a>>,
 ) -> Result<(), AllocError>
     ensures { OnOk result (members_view members.new.entries
         ≡ with_members (differs_members (map difference_view differences.entry.items))
@@ -23,29 +24,28 @@ pub(crate) fn put_differences(
 {
     let mut reported = Vec::new(alloc);
     for difference in differences {
-        reported.push(difference_value(alloc, difference)?)?;
+        reported.push(difference_tree(alloc, difference)?)?;
     }
     put_list(members, alloc, "differs", reported)
 }
 
-/// The object that says a difference.
-fn difference_value(alloc: Global, difference: Difference<'_>) -> Result<Value, AllocError>
-    ensures { IfOk result (λ value. view value
+/// The object that says a difference. What is said is written from where it is.
+fn difference_tree<'a>(alloc: Global, difference: Difference<'a>) -> Result<Tree<'a>, AllocError>
+    ensures { IfOk result (λ tree. tree_view tree
         ≡ difference_value (difference_view difference.entry)) }
 {
-    json!(in alloc; {
-        "is": difference.is,
-        "member": difference.member,
-        "says": said_value(alloc, difference.says)?,
-    })
+    let mut members = Map::new(alloc);
+    put_tree(&mut members, alloc, "is", Tree::Own(difference.is))?;
+    put_tree(&mut members, alloc, "member", Tree::Text(difference.member))?;
+    put_tree(&mut members, alloc, "says", said_tree(difference.says))?;
+    Ok(Tree::Object(members))
 }
 
-/// What a document says, as a value of its own.
-fn said_value(alloc: Global, said: Said<'_>) -> Result<Value, AllocError>
-    ensures { IfOk result (λ value. view value ≡ said_view said.entry) }
+fn said_tree<'a>(said: Said<'a>) -> Tree<'a>
+    ensures { tree_view result ≡ said_view said.entry }
 {
     match said {
-        Said::Value(value) => value.clone(),
-        Said::Name(name) => Value::try_from_str(alloc, name),
+        Said::Value(value) => Tree::Borrowed(value),
+        Said::Name(name) => Tree::Text(name),
     }
 }

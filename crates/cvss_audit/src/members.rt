@@ -1,8 +1,10 @@
 //! The members of the objects that are written.
 
-ghost use Rattle.std.specs.Prelude.{◌≡◌, IfOk, OnOk, map, option_map};
-ghost use Rattle.cvss_audit.specs.Objects.{accepted_members, input_members, list_member, member_if, place_members, reported_members, score_members, scores_value, v4_members};
+ghost use Rattle.std.specs.Prelude.{◌≡◌, ◌∷◌, [], IfOk, OnOk, map, option_map, string_bytes};
+ghost use Rattle.cvss_audit.specs.Objects.{accepted_members, input_members, list_member, member_if, place_members, refusal_member, reported_members, score_members, scores_value, v4_members};
 ghost use Rattle.cvss_audit.specs.Inputs.{input_view};
+ghost use Rattle.cvss_json_tree.specs.Trees as trees;
+ghost use Rattle.cvss_json_tree.specs.Trees.{tree_view};
 ghost use Rattle.cvss_document.specs.Differences.{difference_view};
 ghost use Rattle.cvss_json_tree.specs.Objects.{object_of, with_members};
 ghost use Rattle.cvss_document.specs.Places.{place_view};
@@ -17,72 +19,86 @@ use cvss_any::Cvss;
 use cvss_base::TENTH;
 use cvss_document::{Difference, Place, score_value};
 use cvss_json_record::Scores;
+use cvss_json_tree::{Tree, put_tree};
 use cvss_v4::Vector;
 use serde_json::{Map, Value, json, put};
 use std::alloc::{AllocError, Global};
 
 /// Puts where a document is from.
-pub(crate) fn put_input(
-    members: &mut Map<String, Value>,
+pub(crate) fn put_input<'a>(
+    members: &mut Map<String, Tree<'a>>,
     alloc: Global,
-    input: Input<'_>,
+    input: Input<'a>,
 ) -> Result<(), AllocError>
-    ensures { OnOk result (members_view members.new.entries
+    ensures { OnOk result (trees.members_view members.new.entries
         ≡ with_members (input_members (input_view input.entry))
-        (members_view members.old.entries)) }
+        (trees.members_view members.old.entries)) }
 {
     put_text(members, alloc, "file", input.file)?;
     match input.line {
-        Some(line) => put(members, alloc, "line", Value::from(line)),
+        Some(line) => put_tree(members, alloc, "line", Tree::Own(Value::from(line))),
         None => Ok(()),
     }
 }
 
-/// Puts where a vector is, in which document, and its text as it is there.
-pub(crate) fn put_place(
-    members: &mut Map<String, Value>,
+/// Puts why a vector or a document is refused.
+pub(crate) fn put_refusal(
+    members: &mut Map<String, Tree<'_>>,
     alloc: Global,
-    input: Input<'_>,
-    place: &Place<'_>,
+    reason: String,
 ) -> Result<(), AllocError>
-    ensures { OnOk result (members_view members.new.entries
-        ≡ with_members (place_members (input_view input.entry) (place_view place.now))
-        (members_view members.old.entries)) }
+    ensures { OnOk result (trees.members_view members.new.entries
+        ≡ with_members (refusal_member (string_bytes reason) ∷ [])
+        (trees.members_view members.old.entries)) }
 {
-    put_text(members, alloc, "at", Some(place.at.as_str()))?;
+    put_tree(members, alloc, "refused", Tree::Own(Value::String(reason)))
+}
+
+/// Puts where a vector is, in which document, and its text as it is there.
+pub(crate) fn put_place<'a>(
+    members: &mut Map<String, Tree<'a>>,
+    alloc: Global,
+    input: Input<'a>,
+    place: &'a Place<'a>,
+) -> Result<(), AllocError>
+    ensures { OnOk result (trees.members_view members.new.entries
+        ≡ with_members (place_members (input_view input.entry) (place_view place.now))
+        (trees.members_view members.old.entries)) }
+{
+    put_tree(members, alloc, "at", Tree::Text(place.at.as_str()))?;
     put_input(members, alloc, input)?;
     put_text(members, alloc, "id", place.context.id)?;
     put_text(members, alloc, "given", place.text)
 }
 
 /// Puts a text under a name, if there is one.
-pub(crate) fn put_text(
-    members: &mut Map<String, Value>,
+fn put_text<'a>(
+    members: &mut Map<String, Tree<'a>>,
     alloc: Global,
     name: &str,
-    text: Option<&str>,
+    text: Option<&'a str>,
 ) -> Result<(), AllocError>
-    ensures { OnOk result (members_view members.new.entries
+    ensures { OnOk result (trees.members_view members.new.entries
         ≡ with_members (member_if name.now (option_map string
-        (option_map (λ text. text.now) text.entry))) (members_view members.old.entries)) }
+        (option_map (λ text. text.now) text.entry))) (trees.members_view members.old.entries)) }
 {
     match text {
-        Some(text) => put(members, alloc, name, Value::try_from_str(alloc, text)?),
+        Some(text) => put_tree(members, alloc, name, Tree::Text(text)),
         None => Ok(()),
     }
 }
 
 /// Puts what an accepted vector is, and where the document says otherwise.
-pub(crate) fn put_accepted(
-    members: &mut Map<String, Value>,
+pub(crate) fn put_accepted<'a>(
+    members: &mut Map<String, Tree<'a>>,
     alloc: Global,
     cvss: &Cvss,
     scores: &Scores,
-    differences: Vec<Difference<'_>>,
+    differences: Vec<Difference<'a>>,
 ) -> Result<(), AllocError>
-    ensures { OnOk result (members_view members.new.entries
+    ensures { OnOk result (trees.members_view members.new.entries
         ≡ with_members (accepted_members cvss.now scores.now
-        (map difference_view differences.entry.items)) (members_view members.old.entries)) }
+        (map difference_view differences.entry.items)) (trees.members_view members.old.entries)) }
 {
     put_reported(members, alloc, cvss, scores)?;
     put_missing(members, alloc, cvss)?;
@@ -91,21 +107,21 @@ pub(crate) fn put_accepted(
 
 /// Puts a vector's text, its scores and the rating of its score.
 fn put_reported(
-    members: &mut Map<String, Value>,
+    members: &mut Map<String, Tree<'_>>,
     alloc: Global,
     cvss: &Cvss,
     scores: &Scores,
 ) -> Result<(), AllocError>
-    ensures { OnOk result (members_view members.new.entries
+    ensures { OnOk result (trees.members_view members.new.entries
         ≡ with_members (reported_members cvss.now scores.now)
-        (members_view members.old.entries)) }
+        (trees.members_view members.old.entries)) }
 {
     let text = Value::String(cvss.to_string(alloc)?);
-    put(members, alloc, "vector", text)?;
+    put_tree(members, alloc, "vector", Tree::Own(text))?;
     let reported = scores_value(alloc, cvss, scores)?;
-    put(members, alloc, "scores", reported)?;
+    put_tree(members, alloc, "scores", Tree::Own(reported))?;
     let severity = cvss.severity_of(i128::from(scores.base) * TENTH);
-    put_text(members, alloc, "severity", Some(severity.as_str()))
+    put_tree(members, alloc, "severity", Tree::Text(severity.as_str()))
 }
 
 fn scores_value(alloc: Global, cvss: &Cvss, scores: &Scores) -> Result<Value, AllocError>
@@ -156,18 +172,18 @@ fn v4_score(alloc: Global, vector: &Vector, tenths: u8) -> Result<Value, AllocEr
 }
 
 /// Puts a list of values under a name, if there are some.
-pub(crate) fn put_list(
-    members: &mut Map<String, Value>,
+pub(crate) fn put_list<'a>(
+    members: &mut Map<String, Tree<'a>>,
     alloc: Global,
     name: &str,
-    values: Vec<Value>,
+    values: Vec<Tree<'a>>,
 ) -> Result<(), AllocError>
-    ensures { OnOk result (members_view members.new.entries
-        ≡ with_members (list_member name.now (map view values.items))
-        (members_view members.old.entries)) }
+    ensures { OnOk result (trees.members_view members.new.entries
+        ≡ with_members (list_member name.now (map tree_view values.entry.items))
+        (trees.members_view members.old.entries)) }
 {
     if values.is_empty() {
         return Ok(());
     }
-    put(members, alloc, name, Value::Array(values))
+    put_tree(members, alloc, name, Tree::Array(values))
 }

@@ -4,20 +4,20 @@ ghost use Rattle.std.specs.Prelude.{◌≡◌, ◌&&◌, IfOk, Some, map};
 ghost use Rattle.cvss_audit.specs.Answers.{IsNoString, IsObjectOf, is_allowed, nothing_differs};
 ghost use Rattle.cvss_audit.specs.Inputs.{input_view};
 ghost use Rattle.cvss_audit.specs.private.Writing.{WritesPlace};
-ghost use Rattle.serde_json.specs.View.{members_view};
+ghost use Rattle.cvss_json_tree.specs.Trees.{members_view};
 ghost use Rattle.cvss_document.specs.Differences.{difference_view};
 ghost use Rattle.cvss_document.specs.Places.{place_view};
 ghost use Rattle.serde_json.specs.Data.{object};
 
 use crate::input::Input;
-use crate::members::{put_accepted, put_place, put_text};
+use crate::members::{put_accepted, put_place, put_refusal};
 use cvss_any::Cvss;
 use cvss_base::Error;
 use cvss_document::{Difference, Place, differences_at};
 use cvss_json_record::Scores;
-use cvss_json_tree::write_object;
+use cvss_json_tree::{Tree, write_tree_object};
 use cvss_lines::OutputBuffer;
-use serde_json::{Map, Value};
+use serde_json::Map;
 use std::alloc::{AllocError, Global};
 
 /// Writes the object of a place. Says whether its vector is accepted and nothing differs.
@@ -31,16 +31,16 @@ pub(crate) fn answer_place(
         answers.old.bytes.items answers.new.bytes.items) }
 {
     let (members, agrees) = place_object(alloc, input, place)?;
-    write_object(alloc, members, answers)?;
+    write_tree_object(alloc, &members, answers)?;
     Ok(agrees)
 }
 
 /// The object of a place, and whether its vector is accepted and nothing differs.
-fn place_object(
+fn place_object<'a>(
     alloc: Global,
-    input: Input<'_>,
-    place: &Place<'_>,
-) -> Result<(Map<String, Value>, bool), AllocError>
+    input: Input<'a>,
+    place: &'a Place<'a>,
+) -> Result<(Map<String, Tree<'a>>, bool), AllocError>
     ensures { IfOk result (λ reported. IsObjectOf (input_view input.entry) (place_view place.now)
         (place_view place.now).2 (object (members_view reported.0.entries)) reported.1) }
 {
@@ -51,12 +51,12 @@ fn place_object(
 }
 
 /// The object of a place where a text is.
-fn text_object(
+fn text_object<'a>(
     alloc: Global,
-    input: Input<'_>,
-    place: &Place<'_>,
+    input: Input<'a>,
+    place: &'a Place<'a>,
     text: &str,
-) -> Result<(Map<String, Value>, bool), AllocError>
+) -> Result<(Map<String, Tree<'a>>, bool), AllocError>
     ensures { IfOk result (λ reported. IsObjectOf (input_view input.entry) (place_view place.now)
         (Some text.now) (object (members_view reported.0.entries)) reported.1) }
 {
@@ -71,8 +71,7 @@ fn text_object(
         }
         Err(Error::OutOfMemory) => Err(AllocError),
         Err(error) => {
-            let reason = error.to_string(alloc)?;
-            put_text(&mut members, alloc, "refused", Some(reason.as_str()))?;
+            put_refusal(&mut members, alloc, error.to_string(alloc)?)?;
             Ok((members, false))
         }
     }
@@ -97,16 +96,17 @@ fn is_allowed(input: Input<'_>, cvss: &Cvss) -> bool
 }
 
 /// The object of a place where no string is.
-fn no_string_object(
+fn no_string_object<'a>(
     alloc: Global,
-    input: Input<'_>,
-    place: &Place<'_>,
-) -> Result<(Map<String, Value>, bool), AllocError>
+    input: Input<'a>,
+    place: &'a Place<'a>,
+) -> Result<(Map<String, Tree<'a>>, bool), AllocError>
     ensures { IfOk result (λ reported. IsNoString (input_view input.entry) (place_view place.now)
         (object (members_view reported.0.entries)) reported.1) }
 {
     let mut members = Map::new(alloc);
     put_place(&mut members, alloc, input, place)?;
-    put_text(&mut members, alloc, "refused", Some("not a string"))?;
+    let reason = String::from_str(alloc, "not a string")?;
+    put_refusal(&mut members, alloc, reason)?;
     Ok((members, false))
 }

@@ -1,4 +1,6 @@
 pub mod ObjectLemmas
 mod OneLineLemmas
 mod PrintsLemmas
+mod PartsLemmas
+mod TreesLemmas
 mod WrittenLemmas

@@ -1,24 +1,23 @@
 -- The texts that `cvss_json_write` defines, beside the values that they are read as.
-use Rattle.std.proofs.Common.{◌≡◌, ℕ, ◌≤◌, Bool, true, false, List, [], ◌∷◌, ◌++◌, Less, Greater, map, nat_cmp, refl, sym, ap, ap₂, ◌∙◌, subst, append_assoc, append-nil, arith, Float, Some, option_and_then, option_map, unwrap_or, if◌then◌else◌}
+use Rattle.std.proofs.Common.{◌≡◌, ℕ, Bool, true, false, List, [], ◌∷◌, ◌++◌, Less, Greater, map, nat_cmp, refl, sym, ap, ap₂, ◌∙◌, subst, append_assoc, append-nil, Float, Some, option_map, unwrap_or, if◌then◌else◌}
 use Rattle.std.proofs.lemmas.Cmp.{nat_list_cmp_total}
 use Rattle.std.specs.Cmp.Lexicographic.{slice_cmp}
 use Rattle.std.specs.List.{AllByRecursion}
 use Rattle.std.specs.List.Sorted.{IsStrictlySortedBy}
 use Rattle.std.specs.Ordering.{ordering_reverse}
 use Rattle.json.specs.Json as json
-use Rattle.json.specs.Print.{IsNumber, print, print_from, quoted}
-use Rattle.json.specs.Token.{Token, key}
-use Rattle.json.specs.Tree.{MembersHaveNumbers, json_tokens, members_tokens}
-use Rattle.serde_json.specs.Data.{Members, float, member, members_depth, no_members, number, put, string, object as object_value}
+use Rattle.json.specs.Print.{IsNumber, print_from, quoted}
+use Rattle.serde_json.specs.Data.{Members, float, member, no_members, number, put, string}
 use Rattle.serde_json.specs.Find.{is_float}
-use Rattle.serde_json.specs.Read.{max_depth, number_of, of_members}
-use Rattle.serde_json.specs.Written.{blank_members, members_outline}
+use Rattle.serde_json.specs.Read.{number_of}
+use Rattle.serde_json.specs.Written as written
 use Rattle.cvss_json_write.specs.Json as object
 use Rattle.cvss_json_write.specs.Json.{comma_if, member_text, object_text, rest_of_object, string_text}
 use Rattle.cvss_json_tree.specs.Objects.{Member, object_of, with_members}
 use Rattle.cvss_json_tree.specs.Texts.{IsTextOf}
-use Rattle.cvss_json_tree.specs.laws.ObjectTexts.{AreInOrder, AreMemberTexts, IsUnescaped}
-use Rattle.cvss_json_tree.proofs.PrintsLemmas.{print_before, print_of, text_of}
+use Rattle.cvss_json_tree.specs.laws.ObjectTexts.{AreInOrder, AreMemberTexts, IsMemberText, IsUnescaped}
+use Rattle.cvss_json_tree.proofs.PartsLemmas.{IsMembersText, IsMembersText-end, IsMembersText-more, IsTextOf-object}
+use Rattle.cvss_json_tree.proofs.PrintsLemmas.{text_of}
 
 -- ---- strings
 
@@ -50,55 +49,27 @@ abbrev in_turn : List Member → Members
 in_turn [] = no_members
 in_turn (each ∷ rest) = member each.0 each.1 (in_turn rest)
 
--- what is printed for a member and the members after it
-print_member : (later : Bool) (name : List ℕ) (j : json.Json) (text rest : List ℕ) (after : List Token) → IsUnescaped name → text ≡ print (json_tokens j)
-    → rest ≡ print_from true after → comma_if later ++ (member_text (name, text) ++ rest) ≡ print_from later (key name ∷ (json_tokens j ++ after))
-unfolding print_from
-print_member later name j text rest after unescaped printed last = go later where
-  both : member_text (name, text) ++ rest ≡ (quoted name ++ 58 ∷ []) ++ print (json_tokens j ++ after)
-  both =
-      ap₂ (λ (named value : List ℕ). (named ++ 58 ∷ value) ++ rest) unescaped printed ∙ append_assoc (quoted name) (58 ∷ print (json_tokens j)) rest
-      ∙ ap (λ back. quoted name ++ 58 ∷ back) (ap (λ back. print (json_tokens j) ++ back) last ∙ sym (print_before j after))
-      ∙ sym (append_assoc (quoted name) (58 ∷ []) (print (json_tokens j ++ after)))
+comma : (later : Bool) → written.comma_if later ≡ comma_if later
+comma true = refl
+comma false = refl
 
-  go : (later : Bool) → comma_if later ++ (member_text (name, text) ++ rest) ≡ print_from later (key name ∷ (json_tokens j ++ after))
-  go true = ap (λ back. 44 ∷ back) both
-  go false = both
-
--- the text is that of these members of an object, after those that were found, with the closing brace
-record IsMembersText (later : Bool) (found : Members) (members : List Member) (text : List ℕ) : Type 0 where
-  pub json : json.Members
-  pub printed : text ≡ print_from later (members_tokens json)
-  pub numbers : MembersHaveNumbers json
-  pub reads : members_depth (in_turn members) ≤ max_depth → of_members json found ≡ Some (with_members members found)
-  pub outlined : blank_members json ≡ members_outline (in_turn members)
+front : (later : Bool) (name : List ℕ) (one : Member) (other : object.Member) → IsMemberText one other → (rest : List ℕ)
+    → (written.comma_if later ++ (quoted one.0 ++ 58 ∷ [])) ++ (other.1 ++ rest) ≡ comma_if later ++ (member_text other ++ rest)
+front later name one other is rest =
+    let named : quoted one.0 ≡ string_text other.0 = sym is.unescaped ∙ ap string_text (sym is.name) in
+    ap₂ (λ comma name. (comma ++ (name ++ 58 ∷ [])) ++ (other.1 ++ rest)) (comma later) named
+    ∙ append_assoc (comma_if later) (string_text other.0 ++ 58 ∷ []) (other.1 ++ rest)
+    ∙ ap (λ back. comma_if later ++ back) (append_assoc (string_text other.0) (58 ∷ []) (other.1 ++ rest) ∙ sym (append_assoc (string_text other.0) (58 ∷ other.1) rest))
 
 members_read : (later : Bool) (found : Members) (members : List Member) (texts : List object.Member) → AreMemberTexts members texts
-    → IsMembersText later found members (rest_of_object later texts)
-unfolding print_from
-members_read later found [] [] are = record {
-  json = json.no_members;
-  printed = elim later as (λ b. 125 ∷ [] ≡ print_from b (members_tokens json.no_members)) [ true ↦ refl | false ↦ refl ];
-  numbers = tt;
-  reads = λ shallow. refl;
-  outlined = refl;
-}
+    → IsMembersText later (with_members members found) found (in_turn members) (rest_of_object later texts)
+members_read later found [] [] are = IsMembersText-end later found
 members_read later found [] (text ∷ texts) are = absurd are
 members_read later found (one ∷ members) [] are = absurd are
 members_read later found (one ∷ members) (text ∷ texts) are =
-    let is = are.0 in
-    let first = print_of one.1 text.1 is.value in
-    let more = members_read true (put one.0 one.1 found) members texts are.1 in
-    record {
-      json = json.member one.0 first.json more.json;
-      printed = ap (λ name. comma_if later ++ (member_text (name, text.1) ++ rest_of_object true texts)) is.name
-          ∙ print_member later one.0 first.json text.1 (rest_of_object true texts) (members_tokens more.json) is.unescaped first.printed more.printed;
-      numbers = (first.numbers, more.numbers);
-      reads = λ shallow.
-          ap (option_and_then (λ d. of_members more.json (put one.0 d found))) (first.reads (omega (arith, shallow)))
-          ∙ more.reads (omega (arith, shallow));
-      outlined = ap₂ (json.member one.0) first.outlined more.outlined;
-    }
+    subst (IsMembersText later (with_members (one ∷ members) found) found (in_turn (one ∷ members))) (front later one.0 one text are.0 (rest_of_object true texts))
+    (IsMembersText-more later (with_members (one ∷ members) found) found one.0 one.1 (in_turn members) text.1 (rest_of_object true texts) are.0.value
+    (members_read true (put one.0 one.1 found) members texts are.1))
 
 -- ---- in the order of their names, they are the object's
 
@@ -125,14 +96,7 @@ are_put done (next ∷ rest) sorted =
 
 pub object_reads : (members : List Member) (texts : List object.Member) → AreInOrder members → AreMemberTexts members texts
     → IsTextOf (object_of members) (object_text texts)
-unfolding print_from
 object_reads members texts sorted are =
-    let all : with_members members no_members ≡ in_turn members = are_put [] members sorted in
-    let is = members_read false no_members members texts are in
-    text_of (object_of members) (object_text texts) (record {
-      json = json.object is.json;
-      printed = ap (λ rest. 123 ∷ rest) is.printed;
-      numbers = is.numbers;
-      reads = λ shallow. ap (option_map object_value) (is.reads (omega (arith, ap members_depth all, shallow)));
-      outlined = ap json.object (is.outlined ∙ ap members_outline (sym all));
-    })
+    let all = with_members members no_members in
+    IsTextOf-object all (rest_of_object false texts)
+    (subst (λ left. IsMembersText false all no_members left (rest_of_object false texts)) (sym (are_put [] members sorted)) (members_read false no_members members texts are))

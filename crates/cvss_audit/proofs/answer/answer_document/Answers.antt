@@ -16,11 +16,11 @@ pub returns-in_err-write_if_full-clause-stopped : goal.returns-in_err-write_if_f
 returns-in_err-write_if_full-clause-stopped g c =
     let next = subst (λ found. IsNextPlace (places_left c.loop-places.places) found (places_left c.next_place.new.self)) c.in-Some.is c.in_ok-place.ensures in
     reported_fault c.from_residual-in_err-write_if_full.result c.in_err-write_if_full.field-0.0 _ c.from_residual-in_err-write_if_full.ensures.1
-    (StopsFound-write (input_view c.args.input) (places_in (view c.args.document.now)) _ _ _ _ _ _ _ _ _ _ next
-    c.loop-places.invariant c.in_ok-agree.ensures _ _ c.in_err-write_if_full.ensures.cut)
+    (StopsFound-write (input_view c.args.input) (places_in (view c.args.document.now)) _ _ _ _ _ _ _ _ _ _ _ _ next
+    c.loop-places.invariant c.in_ok-agree.ensures c.in_err-write_if_full.ensures.cut)
 
 pub loop-places-preserved : goal.loop-places-preserved
 loop-places-preserved g c =
     let next = subst (λ found. IsNextPlace (places_left c.loop-places.places) found (places_left c.next_place.new.self)) c.in-Some.is c.in_ok-place.ensures in
-    StreamsFound-next (input_view c.args.input) (places_in (view c.args.document.now)) _ _ _ _ _ _ _ _ _ _ next
-    c.loop-places.invariant c.in_ok-agree.ensures _ _ c.in_ok-write_if_full.ensures.written
+    StreamsFound-next (input_view c.args.input) (places_in (view c.args.document.now)) _ _ _ _ _ _ _ _ _ _ _ _ next
+    c.loop-places.invariant c.in_ok-agree.ensures c.in_ok-write_if_full.ensures.written

@@ -44,7 +44,7 @@ returns-in-Ok-from_str-clause-streamed g c =
     let text = c.in-Ok.ensures.cases in
     let reads = subst (λ text. read text ≡ Some (view c.in-Ok-from_str.document)) text.0 c.in-Ok-from_str.ensures.ok in
     IfOk-weaker c.answer_document.result _ _
-    (λ agree. Streams-document (input_view c.args.input) c.args.text.now _ (view c.in-Ok-from_str.document) reads _ _ _ agree text.1)
+    (λ agree. Streams-document (input_view c.args.input) c.args.text.now _ _ _ _ agree (view c.in-Ok-from_str.document) text.1 reads)
     c.answer_document.ensures.streamed
 
 pub returns-in-Ok-from_str-clause-stopped : goal.returns-in-Ok-from_str-clause-stopped
@@ -52,7 +52,7 @@ returns-in-Ok-from_str-clause-stopped g c =
     let text = c.in-Ok.ensures.cases in
     let reads = subst (λ text. read text ≡ Some (view c.in-Ok-from_str.document)) text.0 c.in-Ok-from_str.ensures.ok in
     MatchResult-weaker c.answer_document.result c.answer_document.ensures.stopped (λ _ u. u)
-    (λ fault. Stops-document (input_view c.args.input) c.args.text.now _ (view c.in-Ok-from_str.document) reads _ _ fault)
+    (λ fault. Stops-document (input_view c.args.input) c.args.text.now _ _ _ fault (view c.in-Ok-from_str.document) reads)
 
 pub returns-in_ok-refuse_text-in-Err-2-clause-streamed : goal.returns-in_ok-refuse_text-in-Err-2-clause-streamed
 unfolding IsAnswer

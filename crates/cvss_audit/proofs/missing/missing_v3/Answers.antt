@@ -4,7 +4,7 @@ use Rattle.std.specs.List.{filter_map}
 use Rattle.cvss_audit.specs.Objects.{missing_at}
 use Rattle.cvss_base.specs.declared.v3.MetricType.TheVariants.{A}
 use Rattle.cvss_document.proofs.AddedLemmas.{added}
-use Rattle.serde_json.specs.View.{view}
+use Rattle.cvss_json_tree.specs.Trees.{tree_view}
 use Rattle.cvss_audit.proofs.missing.missing_v3.Goals as goal
 
 pub loop-kind-preserved : goal.loop-kind-preserved
@@ -12,7 +12,7 @@ loop-kind-preserved c =
     let kinds = c.printed-kind-items.result.now in
     let i = c.loop-kind.kind-index in
     let missing = filter_map (missing_at c.args.vector.now) in
-    let before = map view c.loop-kind.missing.items in
+    let before = map tree_view c.loop-kind.missing.items in
     ap (λ all. all ++ missing (drop (i + 1) kinds)) c.in_ok-push_missing.ensures
     ∙ added _ before (missing (drop (i + 1) kinds))
     ∙ ap (λ left. before ++ missing left) (sym (drop_more kinds i A c.loop-kind-test.true)) ∙ c.loop-kind.invariant

@@ -1,11 +1,11 @@
 use Rattle.std.proofs.Common.{refl}
 use Rattle.serde_json.specs.Data.{object}
-use Rattle.serde_json.specs.View.{members_view}
+use Rattle.cvss_json_tree.specs.Trees.{members_view}
 use Rattle.cvss_audit.proofs.place.answer_place.Goals as goal
 
 pub returns : goal.returns
 returns c =
-    let written = c.in_ok-write_object.ensures in
+    let written = c.in_ok-write_tree_object.ensures in
     record {
       found = record { text = written.text; agrees = c.in_ok-members.agrees };
       is_found = record {

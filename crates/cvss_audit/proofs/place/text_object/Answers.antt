@@ -5,7 +5,7 @@ use Rattle.cvss_document.specs.Differences.{difference_view}
 use Rattle.cvss_json_tree.specs.Objects.{Member, object_of, with_members}
 use Rattle.cvss_document.specs.Places.{place_view}
 use Rattle.serde_json.specs.Data.{Members, no_members, object}
-use Rattle.serde_json.specs.View.{members_view}
+use Rattle.cvss_json_tree.specs.Trees.{members_view}
 use Rattle.cvss_audit.specs.Objects.{accepted_members, place_members, refusal_member}
 use Rattle.cvss_audit.specs.Answers.{is_allowed, nothing_differs}
 use Rattle.cvss_audit.specs.Inputs.{input_view}
@@ -17,8 +17,8 @@ put_both : (place rest : List Member) (old middle new : Members) → old ≡ no_
 put_both place rest old middle new none is next =
     ap object (next ∙ ap (with_members rest) (is ∙ ap (with_members place) none) ∙ sym (with_members-append place rest no_members))
 
-pub returns-in_ok-put_accepted-in-Ok : goal.returns-in_ok-put_accepted-in-Ok
-returns-in_ok-put_accepted-in-Ok c =
+pub returns-in-Ok : goal.returns-in-Ok
+returns-in-Ok c =
     let found = c.in_ok-differences-in-Ok.differences in
     let differences = map difference_view found.items in
     inl (record {
@@ -34,10 +34,10 @@ returns-in_ok-put_accepted-in-Ok c =
           ∙ ap (λ items. nothing_differs (map difference_view items) && is_allowed (input_view c.args.input) c.in-Ok.cvss) c.deref.ensures.value;
     })
 
-pub returns-in_ok-put_text-in-Err : goal.returns-in_ok-put_text-in-Err
-returns-in_ok-put_text-in-Err c =
+pub returns : goal.returns
+returns c =
     let refusal = refusal_member (error_text c.in-Err.error) ∷ [] in
-    let refused : members_view c.put_text.new.members.entries ≡ with_members refusal (members_view c.put_place.new.members.entries) = search rules in
+    let refused : members_view c.put_refusal.new.members.entries ≡ with_members refusal (members_view c.put_place.new.members.entries) = search rules in
     inr (record {
       error = c.in-Err.error;
       first = c.in-Err.ensures.refused;
