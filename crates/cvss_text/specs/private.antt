@@ -3,3 +3,4 @@ pub mod Printing
 pub mod Routing
 pub mod SettingSteps
 pub mod Walk
+pub mod Values

@@ -14,4 +14,5 @@ pub mod print;
 pub mod refusing;
 pub mod route;
 pub mod setting;
+pub mod values;
 pub mod walk;

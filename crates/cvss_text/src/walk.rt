@@ -6,7 +6,7 @@ ghost use Rattle.cvss_text.specs.private.Pieces.{pieces_left};
 ghost use Rattle.cvss_base.specs.Text.{IsComponent, pieces};
 ghost use Rattle.cvss_base.specs.Version.{AreComponentsOf, Version, read};
 ghost use Rattle.cvss_base.specs.Refusal.{piece_at};
-ghost use Rattle.cvss_text.specs.private.Walk.{HasNoValue, IsAnswerBare, IsEmpty, IsFilled, IsInOrderTo, IsPut, IsCut, IsReadLeft, IsWhole, VersionLaws, Puts, Adds, IsFaultOf, IsFirstOfPieces, first_missing, IsPrintable, reason_of};
+ghost use Rattle.cvss_text.specs.private.Walk.{HasNoValue, IsAnswerBare, IsEmpty, IsInOrderTo, IsPut, IsCut, IsReadLeft, IsWhole, VersionLaws, Puts, Adds, IsFaultOf, IsFirstOfPieces, first_missing, IsPrintable, reason_of};
 
 use crate::beginning::begin;
 use crate::cutting::{cut_component, cut_first};
@@ -94,25 +94,6 @@ pub trait Components: Copy {
         ensures { result ≡ first_missing version self.now };
 
     ghost version_laws: { VersionLaws version };
-}
-
-/// Puts the value that was read of a text into its place, which has to be empty. None was read where
-/// the text spells no value.
-#[inline(always)]
-pub fn fill_place<M: Copy>(place: &mut Option<M>, read: Option<M>) -> Result<(), ComponentError>
-    ensures { (spelling : M → List ℕ) (text : List ℕ)
-        → IfSome read (λ value. spelling value ≡ text)
-        → ((value : M) → spelling value ≡ text → read ≡ Some value)
-        → IsFilled spelling place.old text result place.new }
-{
-    let Some(value) = read else {
-        return Err(ComponentError::Invalid);
-    };
-    if place.is_some() {
-        return Err(ComponentError::Repeated);
-    }
-    *place = Some(value);
-    Ok(())
 }
 
 /// Reads one component into the vector.

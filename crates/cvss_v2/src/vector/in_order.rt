@@ -6,13 +6,15 @@ ghost use Rattle.std.specs.Prelude.{◌≡◌, ℕ, List, IfSome, None, [], ◌�
 ghost use Rattle.cvss_text.specs.private.Printing.{texts_with_slash};
 ghost use Rattle.cvss_text.specs.private.Walk.{HasNoValue, IsInOrderTo, IsWhole, first_missing};
 ghost use Rattle.cvss_base.specs.Text.{slash};
+ghost use Rattle.cvss_base.specs.V2Types.{name_of};
+ghost use Rattle.cvss_text.specs.private.Values.{shown};
 ghost use Rattle.cvss_base.specs.declared.v2.MetricType.TheVariants.{AC, AV, Au};
 ghost use Rattle.cvss_v2_metric.specs.Table.{spelling_of, metric_component, printed};
 ghost use Rattle.cvss_v2.specs.Vector.{v2};
-ghost use Rattle.cvss_v2.specs.private.WithSlash.{value_with_slash};
 
 use crate::vector::Vector;
 use cvss_text::fast_path::{after_three, put_read, rest_after_name};
+use cvss_text::values::{letter_in_order, three_in_order, two_in_order};
 use cvss_v2_metric::MetricValue;
 use cvss_v2_metric::base::{AccessComplexity, AccessVector, Authentication};
 
@@ -27,7 +29,7 @@ pub(super) fn whole_in_order(empty: Vector, text: &[u8]) -> Option<Vector>
         return None;
     }
     let (av, ac, au, text) = first_three_in_order(text)?;
-    let (c, i, a, text) = three_in_order(text)?;
+    let (c, i, a, text) = three_in_order::<Vector, _, _, _>(text)?;
     let base = Vector {
         av: Some(av),
         ac: Some(ac),
@@ -56,7 +58,7 @@ pub(super) fn begun_in_order<'a>(empty: Vector, text: &'a [u8]) -> Option<(Vecto
         au: Some(au),
         ..empty
     };
-    let Some((c, i, a, text)) = three_in_order(text) else {
+    let Some((c, i, a, text)) = three_in_order::<Vector, _, _, _>(text) else {
         return Some((begun, text));
     };
     let base = Vector {
@@ -124,7 +126,8 @@ fn put_others<'a>(vector: &mut Vector, text: &'a [u8]) -> &'a [u8]
 /// gives what follows that; else no value, and the text.
 #[inline(always)]
 fn put_value<'a, M: MetricValue>(place: &mut Option<M>, text: &'a [u8]) -> &'a [u8]
-    ensures { text.now ≡ value_with_slash M.KIND M.value place.new ++ result.now }
+    ensures { text.now ≡ shown (name_of M.KIND) (λ value. spelling_of M.KIND (M.value value)) place.new
+        ++ result.now }
 {
     let read = match rest_after_name(M::KIND.name(), text) {
         Some(value) => value_in_order(value),
@@ -141,7 +144,7 @@ fn value_in_order<M: MetricValue>(text: &[u8]) -> Option<(M, &[u8])>
         (λ read. text.now ≡ spelling_of M.KIND (M.value read.0) ++ read.1.now) }
 {
     let (value, rest) = match text {
-        [] | [_] | [_, b'/', ..] => return letter_in_order(text),
+        [] | [_] | [_, b'/', ..] => return letter_in_order::<Vector, M>(text),
         [_, _] | [_, _, b'/', ..] => text.split_at(2),
         [_, _, _, ..] => text.split_at(3),
     };
@@ -158,48 +161,7 @@ fn first_three_in_order(
         ++ (slash ∷ (metric_component AC read.1
         ++ (slash ∷ (metric_component Au read.2 ++ read.3.now))))) }
 {
-    let (av, text) = letter_in_order(after_three(text, *b"AV:")?)?;
-    let (ac, text) = base_in_order(text)?;
-    let (au, text) = base_in_order(text)?;
+    let (av, text) = letter_in_order::<Vector, _>(after_three(text, *b"AV:")?)?;
+    let (ac, au, text) = two_in_order::<Vector, _, _>(text)?;
     Some((av, ac, au, text))
-}
-
-/// The values of three base metrics, where a text begins with a slash and the component of each, and
-/// what follows them.
-#[inline(always)]
-fn three_in_order<K: MetricValue, L: MetricValue, M: MetricValue>(
-    text: &[u8],
-) -> Option<(K, L, M, &[u8])>
-    ensures { IfSome result (λ read. text.now
-        ≡ slash ∷ (metric_component K.KIND (K.value read.0)
-        ++ (slash ∷ (metric_component L.KIND (L.value read.1)
-        ++ (slash ∷ (metric_component M.KIND (M.value read.2) ++ read.3.now)))))) }
-{
-    let (first, text) = base_in_order(text)?;
-    let (second, text) = base_in_order(text)?;
-    let (third, text) = base_in_order(text)?;
-    Some((first, second, third, text))
-}
-
-/// The value of a base metric, where a text begins with a slash and its component, and what is
-/// after that.
-#[inline(always)]
-fn base_in_order<M: MetricValue>(text: &[u8]) -> Option<(M, &[u8])>
-    ensures { IfSome result
-        (λ read. text.now ≡ slash ∷ (metric_component M.KIND (M.value read.0) ++ read.1.now)) }
-{
-    letter_in_order(rest_after_name(M::KIND.name(), text)?)
-}
-
-/// The value of a metric, where a text begins with the letter that spells it, and what follows
-/// that.
-#[inline(always)]
-fn letter_in_order<M: MetricValue>(text: &[u8]) -> Option<(M, &[u8])>
-    ensures { IfSome result
-        (λ read. text.now ≡ spelling_of M.KIND (M.value read.0) ++ read.1.now) }
-{
-    match text {
-        [letter, rest @ ..] => Some((M::read_bytes(&[*letter])?, rest)),
-        [] => None,
-    }
 }

@@ -1,16 +1,16 @@
 //! How a vector is printed.
 
-ghost use Rattle.std.specs.Prelude.{◌≡◌, ◌≤◌, ◌+◌, ◌++◌, [], Some, length, option_map};
+ghost use Rattle.std.specs.Prelude.{◌≡◌, [], Some, option_map};
+ghost use Rattle.cvss_base.specs.Version.{canonical_text, component_of, held};
 ghost use Rattle.std.specs.Option.{option_copied};
 ghost use Rattle.cvss_text.specs.private.Printing.{with_slash};
-ghost use Rattle.cvss_base.specs.Version.{canonical_text, component_of, held};
 ghost use Rattle.cvss_v2_metric.specs.Table.{spelling_of};
 ghost use Rattle.cvss_v2.specs.Vector.{v2};
-ghost use Rattle.cvss_v2.specs.private.WithSlash.{value_with_slash};
 
 use crate::vector::Vector;
 use cvss_text::buffer::TextBuffer;
 use cvss_text::print::{Printed, write_text};
+use cvss_text::values::{write_three, write_value};
 use cvss_v2_metric::{MetricType, MetricValue};
 use std::fmt;
 
@@ -35,12 +35,12 @@ impl Printed for Vector {
     }
 
     fn write_metrics(&self, buffer: &mut TextBuffer) {
-        write_three(&self.av, &self.ac, &self.au, buffer);
-        write_three(&self.c, &self.i, &self.a, buffer);
-        write_three(&self.e, &self.rl, &self.rc, buffer);
-        write_three(&self.cdp, &self.td, &self.cr, buffer);
-        write_value(self.ir, buffer);
-        write_value(self.ar, buffer);
+        write_three::<Vector, _, _, _>(&self.av, &self.ac, &self.au, buffer);
+        write_three::<Vector, _, _, _>(&self.c, &self.i, &self.a, buffer);
+        write_three::<Vector, _, _, _>(&self.e, &self.rl, &self.rc, buffer);
+        write_three::<Vector, _, _, _>(&self.cdp, &self.td, &self.cr, buffer);
+        write_value::<Vector, _>(&self.ir, buffer);
+        write_value::<Vector, _>(&self.ar, buffer);
     }
 }
 
@@ -58,40 +58,7 @@ impl Vector {
     {
         Some(value?.with_slash())
     }
-}
 
-/// Appends a slash and the component of a value, if there is one.
-#[inline(always)]
-#[tactic(auto, using(crate::proofs::PrintingLemmas::lengths))]
-fn write_value<M: MetricValue>(value: Option<M>, buffer: &mut TextBuffer)
-    requires { length buffer.old ≤ 200 }
-    ensures text { buffer.new ≡ buffer.old ++ value_with_slash M.KIND M.value value }
-    ensures room { length buffer.new ≤ length buffer.old + 8 }
-{
-    if let Some(metric) = value {
-        buffer.push_component(metric.with_slash());
-    }
-}
-
-/// Appends a slash and the component of each of three values that there is.
-#[inline(always)]
-fn write_three<K: MetricValue, L: MetricValue, M: MetricValue>(
-    first: &Option<K>,
-    second: &Option<L>,
-    third: &Option<M>,
-    buffer: &mut TextBuffer,
-)
-    requires { length buffer.old ≤ 184 }
-    ensures text { buffer.new ≡ buffer.old ++ (value_with_slash K.KIND K.value first.now
-        ++ (value_with_slash L.KIND L.value second.now ++ value_with_slash M.KIND M.value third.now)) }
-    ensures room { length buffer.new ≤ length buffer.old + 24 }
-{
-    write_value(*first, buffer);
-    write_value(*second, buffer);
-    write_value(*third, buffer);
-}
-
-impl Vector {
     /// Writes the canonical text into an empty buffer, and gives it.
     pub fn text<'a>(&self, buffer: &'a mut TextBuffer) -> &'a [u8]
         requires { buffer.old ≡ [] }

@@ -1,7 +1,7 @@
 //! How a vector is filled from its components.
 
-ghost use Rattle.std.specs.Prelude.{⊤};
-ghost use Rattle.cvss_text.specs.private.Walk.{IsFilled};
+ghost use Rattle.std.specs.Prelude.{false, ⊤};
+ghost use Rattle.cvss_base.specs.V2Types.{name_of};
 ghost use Rattle.cvss_v2_metric.specs.Table.{spelling_of};
 ghost use Rattle.cvss_v2.specs.Vector.{v2};
 ghost use Rattle.cvss_v2.specs.private.VectorLaws.{v2_laws};
@@ -10,7 +10,8 @@ use super::cutting::cut_named;
 use super::in_order::{begun_in_order, whole_in_order};
 use crate::vector::Vector;
 use MetricType::*;
-use cvss_text::walk::{ComponentError, Components, fill_place};
+use cvss_text::values::{Spells, fill};
+use cvss_text::walk::{ComponentError, Components};
 use cvss_v2_metric::{MetricType, MetricValue};
 
 /// The metrics in printing order (guide, section 2.4).
@@ -61,20 +62,20 @@ impl Components for Vector {
     #[inline(always)]
     fn put(&mut self, kind: MetricType, value: &[u8]) -> Result<(), ComponentError> {
         match kind {
-            MetricType::AV => fill(&mut self.av, value),
-            MetricType::AC => fill(&mut self.ac, value),
-            MetricType::Au => fill(&mut self.au, value),
-            MetricType::C => fill(&mut self.c, value),
-            MetricType::I => fill(&mut self.i, value),
-            MetricType::A => fill(&mut self.a, value),
-            MetricType::E => fill(&mut self.e, value),
-            MetricType::RL => fill(&mut self.rl, value),
-            MetricType::RC => fill(&mut self.rc, value),
-            MetricType::CDP => fill(&mut self.cdp, value),
-            MetricType::TD => fill(&mut self.td, value),
-            MetricType::CR => fill(&mut self.cr, value),
-            MetricType::IR => fill(&mut self.ir, value),
-            MetricType::AR => fill(&mut self.ar, value),
+            MetricType::AV => fill::<Vector, _>(&mut self.av, value),
+            MetricType::AC => fill::<Vector, _>(&mut self.ac, value),
+            MetricType::Au => fill::<Vector, _>(&mut self.au, value),
+            MetricType::C => fill::<Vector, _>(&mut self.c, value),
+            MetricType::I => fill::<Vector, _>(&mut self.i, value),
+            MetricType::A => fill::<Vector, _>(&mut self.a, value),
+            MetricType::E => fill::<Vector, _>(&mut self.e, value),
+            MetricType::RL => fill::<Vector, _>(&mut self.rl, value),
+            MetricType::RC => fill::<Vector, _>(&mut self.rc, value),
+            MetricType::CDP => fill::<Vector, _>(&mut self.cdp, value),
+            MetricType::TD => fill::<Vector, _>(&mut self.td, value),
+            MetricType::CR => fill::<Vector, _>(&mut self.cr, value),
+            MetricType::IR => fill::<Vector, _>(&mut self.ir, value),
+            MetricType::AR => fill::<Vector, _>(&mut self.ar, value),
         }
     }
 
@@ -91,9 +92,32 @@ impl Components for Vector {
     }
 }
 
-/// Reads a value into its place, which has to be empty.
-fn fill<M: MetricValue>(place: &mut Option<M>, text: &[u8]) -> Result<(), ComponentError>
-    ensures { IsFilled (λ x. spelling_of M.KIND (M.value x)) place.old text.now result place.new }
-{
-    fill_place(place, M::read_bytes(text))
+impl<M: MetricValue> Spells<M> for Vector {
+    ghost any_case = { false };
+
+    ghost metric = { name_of M.KIND };
+
+    ghost spelling = { λ value. spelling_of M.KIND (M.value value) };
+
+    ghost width = { 8 };
+
+    fn metric() -> &'static str {
+        M::KIND.name()
+    }
+
+    #[inline(always)]
+    #[tactic(auto, using(crate::proofs::PrintingLemmas::lengths))]
+    fn shown(value: M) -> &'static str {
+        value.with_slash()
+    }
+
+    #[inline(always)]
+    fn spelled(text: &[u8]) -> Option<M> {
+        M::read_bytes(text)
+    }
+
+    #[inline(always)]
+    fn by_letter(letter: u8) -> Option<M> {
+        M::read_bytes(&[letter])
+    }
 }

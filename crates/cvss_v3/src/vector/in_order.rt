@@ -10,11 +10,10 @@ ghost use Rattle.cvss_text.specs.private.Walk.{HasNoValue, IsInOrderTo, IsWhole}
 ghost use Rattle.cvss_v3_metric.specs.Table.{metric_component, printed, spelling_of};
 ghost use Rattle.cvss_v3.specs.Complete.{first_missing_base};
 ghost use Rattle.cvss_v3.specs.Vector.{v3};
-ghost use Rattle.cvss_v3.specs.private.Shown.{shown};
 
 use crate::vector::Vector;
-use cvss_text::fast_path::{after_three, put_read, rest_after_name};
-use cvss_v3_metric::MetricValue;
+use cvss_text::fast_path::after_three;
+use cvss_text::values::{four_in_order, letter_in_order, put_value, three_in_order};
 use cvss_v3_metric::base::{AttackComplexity, AttackVector, PrivilegesRequired, UserInteraction};
 
 /// The vector whose components, in printing order, are the whole text, from one without metrics.
@@ -29,7 +28,7 @@ pub(super) fn whole_in_order(empty: Vector, text: &[u8]) -> Option<Vector>
         return None;
     }
     let (av, ac, pr, ui, text) = first_four_in_order(text)?;
-    let (s, c, i, a, text) = four_in_order(text)?;
+    let (s, c, i, a, text) = four_in_order::<Vector, _, _, _, _>(text)?;
     let base = Vector {
         av: Some(av),
         ac: Some(ac),
@@ -61,7 +60,7 @@ pub(super) fn begun_in_order<'a>(empty: Vector, text: &'a [u8]) -> Option<(Vecto
         ui: Some(ui),
         ..empty
     };
-    let Some((s, c, i, a, text)) = four_in_order(text) else {
+    let Some((s, c, i, a, text)) = four_in_order::<Vector, _, _, _, _>(text) else {
         return Some((begun, text));
     };
     let base = Vector {
@@ -118,29 +117,20 @@ fn put_others<'a>(vector: &mut Vector, text: &'a [u8]) -> &'a [u8]
     ensures version { vector.new.minor_version ≡ vector.old.minor_version }
     ensures missing { first_missing_base vector.new ≡ first_missing_base vector.old }
 {
-    let text = put_value(&mut vector.e, text);
-    let text = put_value(&mut vector.rl, text);
-    let text = put_value(&mut vector.rc, text);
-    let text = put_value(&mut vector.cr, text);
-    let text = put_value(&mut vector.ir, text);
-    let text = put_value(&mut vector.ar, text);
-    let text = put_value(&mut vector.mav, text);
-    let text = put_value(&mut vector.mac, text);
-    let text = put_value(&mut vector.mpr, text);
-    let text = put_value(&mut vector.mui, text);
-    let text = put_value(&mut vector.ms, text);
-    let text = put_value(&mut vector.mc, text);
-    let text = put_value(&mut vector.mi, text);
-    put_value(&mut vector.ma, text)
-}
-
-/// Puts the value of a metric into its place, if a text begins with a slash and its component, and
-/// gives what follows that; else no value, and the text.
-#[inline(always)]
-fn put_value<'a, M: MetricValue>(place: &mut Option<M>, text: &'a [u8]) -> &'a [u8]
-    ensures { text.now ≡ shown M.KIND M.value place.new ++ result.now }
-{
-    put_read(place, component_in_order(text), text)
+    let text = put_value::<Vector, _>(&mut vector.e, text);
+    let text = put_value::<Vector, _>(&mut vector.rl, text);
+    let text = put_value::<Vector, _>(&mut vector.rc, text);
+    let text = put_value::<Vector, _>(&mut vector.cr, text);
+    let text = put_value::<Vector, _>(&mut vector.ir, text);
+    let text = put_value::<Vector, _>(&mut vector.ar, text);
+    let text = put_value::<Vector, _>(&mut vector.mav, text);
+    let text = put_value::<Vector, _>(&mut vector.mac, text);
+    let text = put_value::<Vector, _>(&mut vector.mpr, text);
+    let text = put_value::<Vector, _>(&mut vector.mui, text);
+    let text = put_value::<Vector, _>(&mut vector.ms, text);
+    let text = put_value::<Vector, _>(&mut vector.mc, text);
+    let text = put_value::<Vector, _>(&mut vector.mi, text);
+    put_value::<Vector, _>(&mut vector.ma, text)
 }
 
 /// The values of the first four metrics, where a text begins with their components, and what
@@ -162,51 +152,7 @@ fn first_four_in_order(
         ++ (slash ∷ (metric_component PR read.2
         ++ (slash ∷ (metric_component UI read.3 ++ read.4.now))))))) }
 {
-    let (av, text) = letter_in_order(after_three(text, *b"AV:")?)?;
-    let (ac, text) = component_in_order(text)?;
-    let (pr, text) = component_in_order(text)?;
-    let (ui, text) = component_in_order(text)?;
+    let (av, text) = letter_in_order::<Vector, _>(after_three(text, *b"AV:")?)?;
+    let (ac, pr, ui, text) = three_in_order::<Vector, _, _, _>(text)?;
     Some((av, ac, pr, ui, text))
-}
-
-/// The values of four metrics, where a text begins with a slash and the component of each, and what
-/// follows them.
-#[inline(always)]
-fn four_in_order<K: MetricValue, L: MetricValue, M: MetricValue, N: MetricValue>(
-    text: &[u8],
-) -> Option<(K, L, M, N, &[u8])>
-    ensures { IfSome result (λ read. text.now
-        ≡ slash ∷ (metric_component K.KIND (K.value read.0)
-        ++ (slash ∷ (metric_component L.KIND (L.value read.1)
-        ++ (slash ∷ (metric_component M.KIND (M.value read.2)
-        ++ (slash ∷ (metric_component N.KIND (N.value read.3) ++ read.4.now)))))))) }
-{
-    let (first, text) = component_in_order(text)?;
-    let (second, text) = component_in_order(text)?;
-    let (third, text) = component_in_order(text)?;
-    let (fourth, text) = component_in_order(text)?;
-    Some((first, second, third, fourth, text))
-}
-
-/// The value of a metric, where a text begins with a slash and its component, and what is
-/// after that.
-#[inline(always)]
-fn component_in_order<M: MetricValue>(text: &[u8]) -> Option<(M, &[u8])>
-    ensures { IfSome result
-        (λ read. text.now ≡ slash ∷ (metric_component M.KIND (M.value read.0) ++ read.1.now)) }
-{
-    letter_in_order(rest_after_name(M::KIND.name(), text)?)
-}
-
-/// The value of a metric, where a text begins with the letter that spells it, and what follows
-/// that.
-#[inline(always)]
-fn letter_in_order<M: MetricValue>(text: &[u8]) -> Option<(M, &[u8])>
-    ensures { IfSome result
-        (λ read. text.now ≡ spelling_of M.KIND (M.value read.0) ++ read.1.now) }
-{
-    match text {
-        [letter, rest @ ..] => Some((M::read_letter(*letter)?, rest)),
-        [] => None,
-    }
 }

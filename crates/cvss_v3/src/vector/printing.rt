@@ -1,17 +1,17 @@
 //! How a vector is printed.
 
-ghost use Rattle.std.specs.Prelude.{◌≡◌, ◌≤◌, ◌+◌, ◌++◌, Some, codes, length, option_map};
+ghost use Rattle.std.specs.Prelude.{◌≡◌, ◌++◌, Some, codes, option_map};
 ghost use Rattle.std.specs.Fmt.{WritesOnOk};
 ghost use Rattle.std.specs.Option.{option_copied};
 ghost use Rattle.cvss_base.specs.Version.{numeral, canonical_text, component_of, held, version_piece};
 ghost use Rattle.cvss_text.specs.private.Printing.{with_slash};
 ghost use Rattle.cvss_v3_metric.specs.Table.{spelling_of};
 ghost use Rattle.cvss_v3.specs.Vector.{v3};
-ghost use Rattle.cvss_v3.specs.private.Shown.{shown};
 
 use crate::vector::Vector;
 use cvss_text::buffer::TextBuffer;
 use cvss_text::print::{Printed, write_text};
+use cvss_text::values::{write_three, write_value};
 use cvss_v3_metric::{MetricType, MetricValue};
 use std::fmt;
 
@@ -44,16 +44,16 @@ impl Printed for Vector {
     }
 
     fn write_metrics(&self, buffer: &mut TextBuffer) {
-        write_three(&self.av, &self.ac, &self.pr, buffer);
-        write_three(&self.ui, &self.s, &self.c, buffer);
-        write_value(self.i, buffer);
-        write_value(self.a, buffer);
-        write_three(&self.e, &self.rl, &self.rc, buffer);
-        write_three(&self.cr, &self.ir, &self.ar, buffer);
-        write_three(&self.mav, &self.mac, &self.mpr, buffer);
-        write_three(&self.mui, &self.ms, &self.mc, buffer);
-        write_value(self.mi, buffer);
-        write_value(self.ma, buffer);
+        write_three::<Vector, _, _, _>(&self.av, &self.ac, &self.pr, buffer);
+        write_three::<Vector, _, _, _>(&self.ui, &self.s, &self.c, buffer);
+        write_value::<Vector, _>(&self.i, buffer);
+        write_value::<Vector, _>(&self.a, buffer);
+        write_three::<Vector, _, _, _>(&self.e, &self.rl, &self.rc, buffer);
+        write_three::<Vector, _, _, _>(&self.cr, &self.ir, &self.ar, buffer);
+        write_three::<Vector, _, _, _>(&self.mav, &self.mac, &self.mpr, buffer);
+        write_three::<Vector, _, _, _>(&self.mui, &self.ms, &self.mc, buffer);
+        write_value::<Vector, _>(&self.mi, buffer);
+        write_value::<Vector, _>(&self.ma, buffer);
     }
 }
 
@@ -71,40 +71,7 @@ impl Vector {
     {
         Some(value?.with_slash())
     }
-}
 
-/// Appends a slash and the component of a value, if there is one.
-#[inline(always)]
-#[tactic(auto, using(crate::proofs::PrintingLemmas::lengths))]
-fn write_value<M: MetricValue>(value: Option<M>, buffer: &mut TextBuffer)
-    requires { length buffer.old ≤ 200 }
-    ensures text { buffer.new ≡ buffer.old ++ shown M.KIND M.value value }
-    ensures room { length buffer.new ≤ length buffer.old + 8 }
-{
-    if let Some(metric) = value {
-        buffer.push_component(metric.with_slash());
-    }
-}
-
-/// Appends a slash and the component of each of three values that there is.
-#[inline(always)]
-fn write_three<K: MetricValue, L: MetricValue, M: MetricValue>(
-    first: &Option<K>,
-    second: &Option<L>,
-    third: &Option<M>,
-    buffer: &mut TextBuffer,
-)
-    requires { length buffer.old ≤ 184 }
-    ensures text { buffer.new ≡ buffer.old ++ (shown K.KIND K.value first.now
-        ++ (shown L.KIND L.value second.now ++ shown M.KIND M.value third.now)) }
-    ensures room { length buffer.new ≤ length buffer.old + 24 }
-{
-    write_value(*first, buffer);
-    write_value(*second, buffer);
-    write_value(*third, buffer);
-}
-
-impl Vector {
     /// Writes the piece that says the version.
     #[tactic(auto, using(cvss_text::proofs::NumeralLemmas::decimal_numeral))]
     fn write_version<W: fmt::Write>(&self, f: &mut fmt::Formatter<W>) -> fmt::Result

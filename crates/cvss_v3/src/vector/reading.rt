@@ -1,8 +1,8 @@
 //! How a vector is filled from its components.
 
-ghost use Rattle.std.specs.Prelude.{◌≡◌, None};
-ghost use Rattle.cvss_base.specs.Text.{uppercased};
-ghost use Rattle.cvss_text.specs.private.Walk.{HasNoValue, IsFilled};
+ghost use Rattle.std.specs.Prelude.{◌≡◌, None, true};
+ghost use Rattle.cvss_base.specs.V3Types.{name_of};
+ghost use Rattle.cvss_text.specs.private.Walk.{HasNoValue};
 ghost use Rattle.cvss_v3_metric.specs.Table.{spelling_of};
 ghost use Rattle.cvss_v3.specs.Complete.{first_missing_base};
 ghost use Rattle.cvss_v3.specs.Vector.{v3};
@@ -13,7 +13,8 @@ use super::in_order::{begun_in_order, whole_in_order};
 use crate::vector::Vector;
 use MetricType::*;
 use cvss_text::front::Prefixed;
-use cvss_text::walk::{ComponentError, Components, fill_place};
+use cvss_text::values::{Spells, fill};
+use cvss_text::walk::{ComponentError, Components};
 use cvss_v3_metric::{MetricType, MetricValue, reported_kind};
 
 /// The metrics in printing order (v3.1 specification, section 6).
@@ -64,28 +65,28 @@ impl Components for Vector {
     #[inline(always)]
     fn put(&mut self, kind: MetricType, value: &[u8]) -> Result<(), ComponentError> {
         match kind {
-            MetricType::AV => fill(&mut self.av, value),
-            MetricType::AC => fill(&mut self.ac, value),
-            MetricType::PR => fill(&mut self.pr, value),
-            MetricType::UI => fill(&mut self.ui, value),
-            MetricType::S => fill(&mut self.s, value),
-            MetricType::C => fill(&mut self.c, value),
-            MetricType::I => fill(&mut self.i, value),
-            MetricType::A => fill(&mut self.a, value),
-            MetricType::E => fill(&mut self.e, value),
-            MetricType::RL => fill(&mut self.rl, value),
-            MetricType::RC => fill(&mut self.rc, value),
-            MetricType::CR => fill(&mut self.cr, value),
-            MetricType::IR => fill(&mut self.ir, value),
-            MetricType::AR => fill(&mut self.ar, value),
-            MetricType::MAV => fill(&mut self.mav, value),
-            MetricType::MAC => fill(&mut self.mac, value),
-            MetricType::MPR => fill(&mut self.mpr, value),
-            MetricType::MUI => fill(&mut self.mui, value),
-            MetricType::MS => fill(&mut self.ms, value),
-            MetricType::MC => fill(&mut self.mc, value),
-            MetricType::MI => fill(&mut self.mi, value),
-            MetricType::MA => fill(&mut self.ma, value),
+            MetricType::AV => fill::<Vector, _>(&mut self.av, value),
+            MetricType::AC => fill::<Vector, _>(&mut self.ac, value),
+            MetricType::PR => fill::<Vector, _>(&mut self.pr, value),
+            MetricType::UI => fill::<Vector, _>(&mut self.ui, value),
+            MetricType::S => fill::<Vector, _>(&mut self.s, value),
+            MetricType::C => fill::<Vector, _>(&mut self.c, value),
+            MetricType::I => fill::<Vector, _>(&mut self.i, value),
+            MetricType::A => fill::<Vector, _>(&mut self.a, value),
+            MetricType::E => fill::<Vector, _>(&mut self.e, value),
+            MetricType::RL => fill::<Vector, _>(&mut self.rl, value),
+            MetricType::RC => fill::<Vector, _>(&mut self.rc, value),
+            MetricType::CR => fill::<Vector, _>(&mut self.cr, value),
+            MetricType::IR => fill::<Vector, _>(&mut self.ir, value),
+            MetricType::AR => fill::<Vector, _>(&mut self.ar, value),
+            MetricType::MAV => fill::<Vector, _>(&mut self.mav, value),
+            MetricType::MAC => fill::<Vector, _>(&mut self.mac, value),
+            MetricType::MPR => fill::<Vector, _>(&mut self.mpr, value),
+            MetricType::MUI => fill::<Vector, _>(&mut self.mui, value),
+            MetricType::MS => fill::<Vector, _>(&mut self.ms, value),
+            MetricType::MC => fill::<Vector, _>(&mut self.mc, value),
+            MetricType::MI => fill::<Vector, _>(&mut self.mi, value),
+            MetricType::MA => fill::<Vector, _>(&mut self.ma, value),
         }
     }
 
@@ -122,10 +123,33 @@ impl Vector {
     }
 }
 
-/// Reads a value into its place, which has to be empty.
-fn fill<M: MetricValue>(place: &mut Option<M>, text: &[u8]) -> Result<(), ComponentError>
-    ensures { IsFilled (λ x. uppercased (spelling_of M.KIND (M.value x))) place.old (uppercased text.now)
-        result place.new }
-{
-    fill_place(place, M::read_bytes(text))
+impl<M: MetricValue> Spells<M> for Vector {
+    ghost any_case = { true };
+
+    ghost metric = { name_of M.KIND };
+
+    ghost spelling = { λ value. spelling_of M.KIND (M.value value) };
+
+    ghost width = { 8 };
+
+    fn metric() -> &'static str {
+        M::KIND.name()
+    }
+
+    #[inline(always)]
+    #[tactic(auto, using(crate::proofs::PrintingLemmas::lengths))]
+    fn shown(value: M) -> &'static str {
+        value.with_slash()
+    }
+
+    #[inline(always)]
+    #[tactic(auto, using(cvss_v3_metric::specs::private::TableLaws::uppercased_spelling))]
+    fn spelled(text: &[u8]) -> Option<M> {
+        M::read_bytes(text)
+    }
+
+    #[inline(always)]
+    fn by_letter(letter: u8) -> Option<M> {
+        M::read_letter(letter)
+    }
 }

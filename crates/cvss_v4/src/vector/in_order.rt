@@ -10,10 +10,10 @@ ghost use Rattle.cvss_base.specs.declared.v4.MetricType.TheVariants.{AC, AT, AV,
 ghost use Rattle.cvss_v4_metric.specs.Table.{metric_component, printed, spelling_at};
 ghost use Rattle.cvss_v4_metric.specs.Ranks as rank;
 ghost use Rattle.cvss_v4.specs.Vector.{v4};
-ghost use Rattle.cvss_v4.specs.private.Shown.{shown};
 
 use crate::vector::Vector;
-use cvss_text::fast_path::{after_three, put_read, rest_after_name};
+use cvss_text::fast_path::{after_three, put_read};
+use cvss_text::values::{letter_in_order, put_value, three_in_order, two_in_order};
 use cvss_v4_metric::MetricValue;
 use cvss_v4_metric::base::{
     AttackComplexity, AttackRequirements, AttackVector, PrivilegesRequired, UserInteraction,
@@ -31,9 +31,9 @@ pub(super) fn whole_in_order(empty: Vector, text: &[u8]) -> Option<Vector>
         return None;
     }
     let (av, ac, at, text) = first_three_in_order(text)?;
-    let (pr, ui, text) = two_in_order(text)?;
-    let (vc, vi, va, text) = three_in_order(text)?;
-    let (sc, si, sa, text) = three_in_order(text)?;
+    let (pr, ui, text) = two_in_order::<Vector, _, _>(text)?;
+    let (vc, vi, va, text) = three_in_order::<Vector, _, _, _>(text)?;
+    let (sc, si, sa, text) = three_in_order::<Vector, _, _, _>(text)?;
     let base = Vector {
         av: Some(av),
         ac: Some(ac),
@@ -61,7 +61,7 @@ pub(super) fn begun_in_order<'a>(empty: Vector, text: &'a [u8]) -> Option<(Vecto
         (λ begun. IsInOrderTo v4 (v4.front empty) text.now begun.0 begun.1.now) }
 {
     let (av, ac, at, text) = first_three_in_order(text)?;
-    let (pr, ui, text) = two_in_order(text)?;
+    let (pr, ui, text) = two_in_order::<Vector, _, _>(text)?;
     let begun = Vector {
         av: Some(av),
         ac: Some(ac),
@@ -70,10 +70,10 @@ pub(super) fn begun_in_order<'a>(empty: Vector, text: &'a [u8]) -> Option<(Vecto
         ui: Some(ui),
         ..empty
     };
-    let Some((vc, vi, va, rest)) = three_in_order(text) else {
+    let Some((vc, vi, va, rest)) = three_in_order::<Vector, _, _, _>(text) else {
         return Some((begun, text));
     };
-    let Some((sc, si, sa, rest)) = three_in_order(rest) else {
+    let Some((sc, si, sa, rest)) = three_in_order::<Vector, _, _, _>(rest) else {
         return Some((begun, text));
     };
     let base = Vector {
@@ -131,26 +131,26 @@ fn put_others<'a>(vector: &mut Vector, text: &'a [u8]) -> &'a [u8]
     ensures version { vector.new.minor_version ≡ vector.old.minor_version }
     ensures missing { first_missing v4 vector.new ≡ first_missing v4 vector.old }
 {
-    let text = put_value(&mut vector.e, text);
-    let text = put_value(&mut vector.cr, text);
-    let text = put_value(&mut vector.ir, text);
-    let text = put_value(&mut vector.ar, text);
-    let text = put_value(&mut vector.mav, text);
-    let text = put_value(&mut vector.mac, text);
-    let text = put_value(&mut vector.mat, text);
-    let text = put_value(&mut vector.mpr, text);
-    let text = put_value(&mut vector.mui, text);
-    let text = put_value(&mut vector.mvc, text);
-    let text = put_value(&mut vector.mvi, text);
-    let text = put_value(&mut vector.mva, text);
-    let text = put_value(&mut vector.msc, text);
-    let text = put_value(&mut vector.msi, text);
-    let text = put_value(&mut vector.msa, text);
-    let text = put_value(&mut vector.s, text);
-    let text = put_value(&mut vector.au, text);
-    let text = put_value(&mut vector.r, text);
-    let text = put_value(&mut vector.v, text);
-    let text = put_value(&mut vector.re, text);
+    let text = put_value::<Vector, _>(&mut vector.e, text);
+    let text = put_value::<Vector, _>(&mut vector.cr, text);
+    let text = put_value::<Vector, _>(&mut vector.ir, text);
+    let text = put_value::<Vector, _>(&mut vector.ar, text);
+    let text = put_value::<Vector, _>(&mut vector.mav, text);
+    let text = put_value::<Vector, _>(&mut vector.mac, text);
+    let text = put_value::<Vector, _>(&mut vector.mat, text);
+    let text = put_value::<Vector, _>(&mut vector.mpr, text);
+    let text = put_value::<Vector, _>(&mut vector.mui, text);
+    let text = put_value::<Vector, _>(&mut vector.mvc, text);
+    let text = put_value::<Vector, _>(&mut vector.mvi, text);
+    let text = put_value::<Vector, _>(&mut vector.mva, text);
+    let text = put_value::<Vector, _>(&mut vector.msc, text);
+    let text = put_value::<Vector, _>(&mut vector.msi, text);
+    let text = put_value::<Vector, _>(&mut vector.msa, text);
+    let text = put_value::<Vector, _>(&mut vector.s, text);
+    let text = put_value::<Vector, _>(&mut vector.au, text);
+    let text = put_value::<Vector, _>(&mut vector.r, text);
+    let text = put_value::<Vector, _>(&mut vector.v, text);
+    let text = put_value::<Vector, _>(&mut vector.re, text);
     put_read(&mut vector.u, urgency_in_order(text), text)
 }
 
@@ -171,15 +171,6 @@ fn urgency_in_order(text: &[u8]) -> Option<(ProviderUrgency, &[u8])>
     Some((urgency, &[]))
 }
 
-/// Puts the value of a metric into its place, if a text begins with a slash and its component, and
-/// gives what follows that; else no value, and the text.
-#[inline(always)]
-fn put_value<'a, M: MetricValue>(place: &mut Option<M>, text: &'a [u8]) -> &'a [u8]
-    ensures { text.now ≡ shown M.KIND M.rank place.new ++ result.now }
-{
-    put_read(place, component_in_order(text), text)
-}
-
 /// The values of the first three metrics, where a text begins with their components, and what
 /// follows these.
 #[inline(always)]
@@ -190,58 +181,7 @@ fn first_three_in_order(
         ++ (slash ∷ (metric_component AC (rank.AC read.1)
         ++ (slash ∷ (metric_component AT (rank.AT read.2) ++ read.3.now))))) }
 {
-    let (av, text) = letter_in_order(after_three(text, *b"AV:")?)?;
-    let (ac, at, text) = two_in_order(text)?;
+    let (av, text) = letter_in_order::<Vector, _>(after_three(text, *b"AV:")?)?;
+    let (ac, at, text) = two_in_order::<Vector, _, _>(text)?;
     Some((av, ac, at, text))
-}
-
-/// The values of three metrics, where a text begins with a slash and the component of each, and what
-/// follows them.
-#[inline(always)]
-fn three_in_order<K: MetricValue, L: MetricValue, M: MetricValue>(
-    text: &[u8],
-) -> Option<(K, L, M, &[u8])>
-    ensures { IfSome result (λ read. text.now
-        ≡ slash ∷ (metric_component K.KIND (K.rank read.0)
-        ++ (slash ∷ (metric_component L.KIND (L.rank read.1)
-        ++ (slash ∷ (metric_component M.KIND (M.rank read.2) ++ read.3.now)))))) }
-{
-    let (first, second, text) = two_in_order(text)?;
-    let (third, text) = component_in_order(text)?;
-    Some((first, second, third, text))
-}
-
-/// The values of two metrics, in the same way.
-#[inline(always)]
-fn two_in_order<K: MetricValue, L: MetricValue>(text: &[u8]) -> Option<(K, L, &[u8])>
-    ensures { IfSome result (λ read. text.now
-        ≡ slash ∷ (metric_component K.KIND (K.rank read.0)
-        ++ (slash ∷ (metric_component L.KIND (L.rank read.1) ++ read.2.now)))) }
-{
-    let (first, text) = component_in_order(text)?;
-    let (second, text) = component_in_order(text)?;
-    Some((first, second, text))
-}
-
-/// The value of a metric, where a text begins with a slash and its component, and what is
-/// after that. A spelling of several letters is not recognised.
-#[inline(always)]
-fn component_in_order<M: MetricValue>(text: &[u8]) -> Option<(M, &[u8])>
-    ensures { IfSome result
-        (λ read. text.now ≡ slash ∷ (metric_component M.KIND (M.rank read.0) ++ read.1.now)) }
-{
-    letter_in_order(rest_after_name(M::KIND.name(), text)?)
-}
-
-/// The value of a metric, where a text begins with the letter that spells it, and what follows
-/// that.
-#[inline(always)]
-fn letter_in_order<M: MetricValue>(text: &[u8]) -> Option<(M, &[u8])>
-    ensures { IfSome result
-        (λ read. text.now ≡ spelling_at M.KIND (M.rank read.0) ++ read.1.now) }
-{
-    match text {
-        [letter, rest @ ..] => Some((M::read_letter(*letter)?, rest)),
-        [] => None,
-    }
 }

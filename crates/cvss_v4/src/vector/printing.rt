@@ -1,17 +1,17 @@
 //! How a vector is printed.
 
-ghost use Rattle.std.specs.Prelude.{◌≡◌, ◌≤◌, ◌+◌, ◌++◌, Some, codes, length, option_map};
+ghost use Rattle.std.specs.Prelude.{◌≡◌, ◌++◌, Some, codes, option_map};
 ghost use Rattle.std.specs.Fmt.{WritesOnOk};
 ghost use Rattle.std.specs.Option.{option_copied};
 ghost use Rattle.cvss_base.specs.Version.{numeral, canonical_text, component_of, held, version_piece};
 ghost use Rattle.cvss_text.specs.private.Printing.{with_slash};
 ghost use Rattle.cvss_v4_metric.specs.Table.{spelling_at};
 ghost use Rattle.cvss_v4.specs.Vector.{v4};
-ghost use Rattle.cvss_v4.specs.private.Shown.{shown, width};
 
 use crate::vector::Vector;
 use cvss_text::buffer::TextBuffer;
 use cvss_text::print::{Printed, write_text};
+use cvss_text::values::{write_three, write_value};
 use cvss_v4_metric::{MetricType, MetricValue};
 use std::fmt;
 
@@ -54,18 +54,18 @@ impl Printed for Vector {
     }
 
     fn write_metrics(&self, buffer: &mut TextBuffer) {
-        write_three(&self.av, &self.ac, &self.at, buffer);
-        write_three(&self.pr, &self.ui, &self.vc, buffer);
-        write_three(&self.vi, &self.va, &self.sc, buffer);
-        write_three(&self.si, &self.sa, &self.e, buffer);
-        write_three(&self.cr, &self.ir, &self.ar, buffer);
-        write_three(&self.mav, &self.mac, &self.mat, buffer);
-        write_three(&self.mpr, &self.mui, &self.mvc, buffer);
-        write_three(&self.mvi, &self.mva, &self.msc, buffer);
-        write_three(&self.msi, &self.msa, &self.s, buffer);
-        write_three(&self.au, &self.r, &self.v, buffer);
-        write_value(self.re, buffer);
-        write_value(self.u, buffer);
+        write_three::<Vector, _, _, _>(&self.av, &self.ac, &self.at, buffer);
+        write_three::<Vector, _, _, _>(&self.pr, &self.ui, &self.vc, buffer);
+        write_three::<Vector, _, _, _>(&self.vi, &self.va, &self.sc, buffer);
+        write_three::<Vector, _, _, _>(&self.si, &self.sa, &self.e, buffer);
+        write_three::<Vector, _, _, _>(&self.cr, &self.ir, &self.ar, buffer);
+        write_three::<Vector, _, _, _>(&self.mav, &self.mac, &self.mat, buffer);
+        write_three::<Vector, _, _, _>(&self.mpr, &self.mui, &self.mvc, buffer);
+        write_three::<Vector, _, _, _>(&self.mvi, &self.mva, &self.msc, buffer);
+        write_three::<Vector, _, _, _>(&self.msi, &self.msa, &self.s, buffer);
+        write_three::<Vector, _, _, _>(&self.au, &self.r, &self.v, buffer);
+        write_value::<Vector, _>(&self.re, buffer);
+        write_value::<Vector, _>(&self.u, buffer);
     }
 }
 
@@ -83,43 +83,7 @@ impl Vector {
     {
         Some(value?.with_slash())
     }
-}
 
-/// Appends a slash and the component of a value, if there is one.
-#[inline(always)]
-#[tactic(auto, using(crate::proofs::PrintingLemmas::lengths))]
-fn write_value<M: MetricValue>(value: Option<M>, buffer: &mut TextBuffer)
-    requires { length buffer.old ≤ 200 }
-    ensures text { buffer.new ≡ buffer.old ++ shown M.KIND M.rank value }
-    ensures room { length buffer.new ≤ length buffer.old + 8 }
-    ensures width { length buffer.new ≤ length buffer.old + width M.KIND }
-{
-    if let Some(metric) = value {
-        buffer.push_component(metric.with_slash());
-    }
-}
-
-/// Appends a slash and the component of each of three values that there is.
-#[inline(always)]
-fn write_three<K: MetricValue, L: MetricValue, M: MetricValue>(
-    first: &Option<K>,
-    second: &Option<L>,
-    third: &Option<M>,
-    buffer: &mut TextBuffer,
-)
-    requires { length buffer.old ≤ 184 }
-    ensures text { buffer.new ≡ buffer.old ++ (shown K.KIND K.rank first.now
-        ++ (shown L.KIND L.rank second.now ++ shown M.KIND M.rank third.now)) }
-    ensures room { length buffer.new ≤ length buffer.old + 24 }
-    ensures width { length buffer.new
-        ≤ length buffer.old + (width K.KIND + width L.KIND + width M.KIND) }
-{
-    write_value(*first, buffer);
-    write_value(*second, buffer);
-    write_value(*third, buffer);
-}
-
-impl Vector {
     /// Writes the piece that says the version.
     #[tactic(auto, using(cvss_text::proofs::NumeralLemmas::decimal_numeral))]
     fn write_version<W: fmt::Write>(&self, f: &mut fmt::Formatter<W>) -> fmt::Result

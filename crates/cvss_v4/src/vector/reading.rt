@@ -1,10 +1,11 @@
 //! How a vector is filled from its components.
 
-ghost use Rattle.std.specs.Prelude.{◌≡◌, ⊤};
-ghost use Rattle.cvss_base.specs.Text.{uppercased};
-ghost use Rattle.cvss_text.specs.private.Walk.{HasNoValue, IsFilled};
+ghost use Rattle.std.specs.Prelude.{◌≡◌, true, ⊤};
+ghost use Rattle.cvss_base.specs.V4Types.{name_of};
+ghost use Rattle.cvss_text.specs.private.Walk.{HasNoValue};
 ghost use Rattle.cvss_v4_metric.specs.Table.{spelling_at};
 ghost use Rattle.cvss_v4.specs.Vector.{v4};
+ghost use Rattle.cvss_v4.specs.private.Shown.{width};
 ghost use Rattle.cvss_v4.specs.private.VectorLaws.{v4_laws, v4_front_laws};
 
 use super::cutting::cut_named;
@@ -13,7 +14,8 @@ use crate::laws::default_vectors_have_no_metric;
 use crate::vector::Vector;
 use MetricType::*;
 use cvss_text::front::Prefixed;
-use cvss_text::walk::{ComponentError, Components, fill_place};
+use cvss_text::values::{Spells, fill};
+use cvss_text::walk::{ComponentError, Components};
 use cvss_v4_metric::{MetricType, MetricValue};
 
 /// The metrics in printing order (v4.0 specification, section 7).
@@ -65,38 +67,38 @@ impl Components for Vector {
     #[inline(always)]
     fn put(&mut self, kind: MetricType, value: &[u8]) -> Result<(), ComponentError> {
         match kind {
-            MetricType::AV => fill(&mut self.av, value),
-            MetricType::AC => fill(&mut self.ac, value),
-            MetricType::AT => fill(&mut self.at, value),
-            MetricType::PR => fill(&mut self.pr, value),
-            MetricType::UI => fill(&mut self.ui, value),
-            MetricType::VC => fill(&mut self.vc, value),
-            MetricType::VI => fill(&mut self.vi, value),
-            MetricType::VA => fill(&mut self.va, value),
-            MetricType::SC => fill(&mut self.sc, value),
-            MetricType::SI => fill(&mut self.si, value),
-            MetricType::SA => fill(&mut self.sa, value),
-            MetricType::E => fill(&mut self.e, value),
-            MetricType::CR => fill(&mut self.cr, value),
-            MetricType::IR => fill(&mut self.ir, value),
-            MetricType::AR => fill(&mut self.ar, value),
-            MetricType::MAV => fill(&mut self.mav, value),
-            MetricType::MAC => fill(&mut self.mac, value),
-            MetricType::MAT => fill(&mut self.mat, value),
-            MetricType::MPR => fill(&mut self.mpr, value),
-            MetricType::MUI => fill(&mut self.mui, value),
-            MetricType::MVC => fill(&mut self.mvc, value),
-            MetricType::MVI => fill(&mut self.mvi, value),
-            MetricType::MVA => fill(&mut self.mva, value),
-            MetricType::MSC => fill(&mut self.msc, value),
-            MetricType::MSI => fill(&mut self.msi, value),
-            MetricType::MSA => fill(&mut self.msa, value),
-            MetricType::S => fill(&mut self.s, value),
-            MetricType::AU => fill(&mut self.au, value),
-            MetricType::R => fill(&mut self.r, value),
-            MetricType::V => fill(&mut self.v, value),
-            MetricType::RE => fill(&mut self.re, value),
-            MetricType::U => fill(&mut self.u, value),
+            MetricType::AV => fill::<Vector, _>(&mut self.av, value),
+            MetricType::AC => fill::<Vector, _>(&mut self.ac, value),
+            MetricType::AT => fill::<Vector, _>(&mut self.at, value),
+            MetricType::PR => fill::<Vector, _>(&mut self.pr, value),
+            MetricType::UI => fill::<Vector, _>(&mut self.ui, value),
+            MetricType::VC => fill::<Vector, _>(&mut self.vc, value),
+            MetricType::VI => fill::<Vector, _>(&mut self.vi, value),
+            MetricType::VA => fill::<Vector, _>(&mut self.va, value),
+            MetricType::SC => fill::<Vector, _>(&mut self.sc, value),
+            MetricType::SI => fill::<Vector, _>(&mut self.si, value),
+            MetricType::SA => fill::<Vector, _>(&mut self.sa, value),
+            MetricType::E => fill::<Vector, _>(&mut self.e, value),
+            MetricType::CR => fill::<Vector, _>(&mut self.cr, value),
+            MetricType::IR => fill::<Vector, _>(&mut self.ir, value),
+            MetricType::AR => fill::<Vector, _>(&mut self.ar, value),
+            MetricType::MAV => fill::<Vector, _>(&mut self.mav, value),
+            MetricType::MAC => fill::<Vector, _>(&mut self.mac, value),
+            MetricType::MAT => fill::<Vector, _>(&mut self.mat, value),
+            MetricType::MPR => fill::<Vector, _>(&mut self.mpr, value),
+            MetricType::MUI => fill::<Vector, _>(&mut self.mui, value),
+            MetricType::MVC => fill::<Vector, _>(&mut self.mvc, value),
+            MetricType::MVI => fill::<Vector, _>(&mut self.mvi, value),
+            MetricType::MVA => fill::<Vector, _>(&mut self.mva, value),
+            MetricType::MSC => fill::<Vector, _>(&mut self.msc, value),
+            MetricType::MSI => fill::<Vector, _>(&mut self.msi, value),
+            MetricType::MSA => fill::<Vector, _>(&mut self.msa, value),
+            MetricType::S => fill::<Vector, _>(&mut self.s, value),
+            MetricType::AU => fill::<Vector, _>(&mut self.au, value),
+            MetricType::R => fill::<Vector, _>(&mut self.r, value),
+            MetricType::V => fill::<Vector, _>(&mut self.v, value),
+            MetricType::RE => fill::<Vector, _>(&mut self.re, value),
+            MetricType::U => fill::<Vector, _>(&mut self.u, value),
         }
     }
 
@@ -141,10 +143,32 @@ impl Vector {
     }
 }
 
-/// Reads a value into its place, which has to be empty.
-#[inline(always)]
-fn fill<M: MetricValue>(place: &mut Option<M>, text: &[u8]) -> Result<(), ComponentError>
-    ensures { IsFilled (λ x. uppercased (spelling_at M.KIND (M.rank x))) place.old (uppercased text.now) result place.new }
-{
-    fill_place(place, M::read_bytes(text))
+impl<M: MetricValue> Spells<M> for Vector {
+    ghost any_case = { true };
+
+    ghost metric = { name_of M.KIND };
+
+    ghost spelling = { λ value. spelling_at M.KIND (M.rank value) };
+
+    ghost width = { width M.KIND };
+
+    fn metric() -> &'static str {
+        M::KIND.name()
+    }
+
+    #[inline(always)]
+    #[tactic(auto, using(crate::proofs::PrintingLemmas::lengths))]
+    fn shown(value: M) -> &'static str {
+        value.with_slash()
+    }
+
+    #[inline(always)]
+    fn spelled(text: &[u8]) -> Option<M> {
+        M::read_bytes(text)
+    }
+
+    #[inline(always)]
+    fn by_letter(letter: u8) -> Option<M> {
+        M::read_letter(letter)
+    }
 }

@@ -1,0 +1,179 @@
+//! The values of one metric, as they are read and printed in components, once for all versions.
+
+ghost use Rattle.std.specs.Prelude.{◌≡◌, ◌≤◌, ◌+◌, ◌++◌, ◌∷◌, [], ℕ, Bool, List, IfSome, length};
+ghost use Rattle.cvss_base.specs.Text.{component, read_as, slash};
+ghost use Rattle.cvss_text.specs.private.Values.{shown};
+ghost use Rattle.cvss_text.specs.private.Walk.{IsFilled};
+
+use crate::buffer::TextBuffer;
+use crate::fast_path::{put_read, rest_after_name};
+use crate::walk::ComponentError;
+
+/// A version, as it spells the values of one of its metrics.
+pub trait Spells<M: Copy> {
+    ghost any_case: { Bool };
+
+    ghost metric: { List ℕ };
+
+    ghost spelling: { M → List ℕ };
+
+    /// At most so many bytes have a slash and a component of the metric.
+    ghost width: { ℕ };
+
+    /// The metric's name.
+    fn metric() -> &'static str
+        ensures { result.now ≡ metric };
+
+    /// A slash and the component that stands for the value in a vector.
+    fn shown(value: M) -> &'static str
+        ensures text { result.now ≡ slash ∷ component metric (spelling value) }
+        ensures least { 3 ≤ length result.now }
+        ensures most { length result.now ≤ 8 }
+        ensures width { length result.now ≤ width };
+
+    /// The value with this spelling, as the version reads it.
+    fn spelled(text: &[u8]) -> Option<M>
+        ensures spelled { IfSome result
+            (λ value. read_as any_case (spelling value) ≡ read_as any_case text.now) }
+        ensures read { (value : M) → read_as any_case (spelling value) ≡ read_as any_case text.now
+            → result ≡ Some value };
+
+    /// The value that this letter spells, exactly as it is written. It may be `None` for any letter.
+    fn by_letter(letter: u8) -> Option<M>
+        ensures { IfSome result (λ value. spelling value ≡ letter ∷ []) };
+}
+
+/// Reads a value into its place, which has to be empty.
+#[inline(always)]
+pub fn fill<V: Spells<M>, M: Copy>(place: &mut Option<M>, text: &[u8]) -> Result<(), ComponentError>
+    ensures { IsFilled (λ x. read_as V.any_case (V.spelling x)) place.old (read_as V.any_case text.now)
+        result place.new }
+{
+    let Some(value) = V::spelled(text) else {
+        return Err(ComponentError::Invalid);
+    };
+    if place.is_some() {
+        return Err(ComponentError::Repeated);
+    }
+    *place = Some(value);
+    Ok(())
+}
+
+/// Puts the value of a metric into its place, if a text begins with a slash and its component, and
+/// gives what follows that; else no value, and the text.
+#[inline(always)]
+pub fn put_value<'a, V: Spells<M>, M: Copy>(place: &mut Option<M>, text: &'a [u8]) -> &'a [u8]
+    ensures { text.now ≡ shown V.metric V.spelling place.new ++ result.now }
+{
+    put_read(place, component_in_order::<V, M>(text), text)
+}
+
+/// The values of four metrics, where a text begins with a slash and the component of each, and what
+/// follows them.
+#[inline(always)]
+pub fn four_in_order<
+    V: Spells<K> + Spells<L> + Spells<M> + Spells<N>,
+    K: Copy,
+    L: Copy,
+    M: Copy,
+    N: Copy,
+>(text: &[u8]) -> Option<(K, L, M, N, &[u8])>
+    ensures { IfSome result (λ read. text.now
+        ≡ slash ∷ (component ⟦<V as Spells<K>>⟧.metric (⟦<V as Spells<K>>⟧.spelling read.0)
+        ++ (slash ∷ (component ⟦<V as Spells<L>>⟧.metric (⟦<V as Spells<L>>⟧.spelling read.1)
+        ++ (slash ∷ (component ⟦<V as Spells<M>>⟧.metric (⟦<V as Spells<M>>⟧.spelling read.2)
+        ++ (slash ∷ (component ⟦<V as Spells<N>>⟧.metric (⟦<V as Spells<N>>⟧.spelling read.3)
+        ++ read.4.now)))))))) }
+{
+    let (first, text) = component_in_order::<V, K>(text)?;
+    let (second, third, fourth, text) = three_in_order::<V, L, M, N>(text)?;
+    Some((first, second, third, fourth, text))
+}
+
+/// The values of three metrics, where a text begins with a slash and the component of each, and what
+/// follows them.
+#[inline(always)]
+pub fn three_in_order<V: Spells<K> + Spells<L> + Spells<M>, K: Copy, L: Copy, M: Copy>(
+    text: &[u8],
+) -> Option<(K, L, M, &[u8])>
+    ensures { IfSome result (λ read. text.now
+        ≡ slash ∷ (component ⟦<V as Spells<K>>⟧.metric (⟦<V as Spells<K>>⟧.spelling read.0)
+        ++ (slash ∷ (component ⟦<V as Spells<L>>⟧.metric (⟦<V as Spells<L>>⟧.spelling read.1)
+        ++ (slash ∷ (component ⟦<V as Spells<M>>⟧.metric (⟦<V as Spells<M>>⟧.spelling read.2)
+        ++ read.3.now)))))) }
+{
+    let (first, second, text) = two_in_order::<V, K, L>(text)?;
+    let (third, text) = component_in_order::<V, M>(text)?;
+    Some((first, second, third, text))
+}
+
+/// The values of two metrics, in the same way.
+#[inline(always)]
+pub fn two_in_order<V: Spells<K> + Spells<L>, K: Copy, L: Copy>(
+    text: &[u8],
+) -> Option<(K, L, &[u8])>
+    ensures { IfSome result (λ read. text.now
+        ≡ slash ∷ (component ⟦<V as Spells<K>>⟧.metric (⟦<V as Spells<K>>⟧.spelling read.0)
+        ++ (slash ∷ (component ⟦<V as Spells<L>>⟧.metric (⟦<V as Spells<L>>⟧.spelling read.1)
+        ++ read.2.now)))) }
+{
+    let (first, text) = component_in_order::<V, K>(text)?;
+    let (second, text) = component_in_order::<V, L>(text)?;
+    Some((first, second, text))
+}
+
+/// The value of a metric that a letter spells, where a text begins with a slash and its component, and
+/// what is after that.
+#[inline(always)]
+fn component_in_order<V: Spells<M>, M: Copy>(text: &[u8]) -> Option<(M, &[u8])>
+    ensures { IfSome result
+        (λ read. text.now ≡ slash ∷ (component V.metric (V.spelling read.0) ++ read.1.now)) }
+{
+    letter_in_order::<V, M>(rest_after_name(V::metric(), text)?)
+}
+
+/// The value of a metric, where a text begins with the letter that spells it, and what follows that.
+#[inline(always)]
+pub fn letter_in_order<V: Spells<M>, M: Copy>(text: &[u8]) -> Option<(M, &[u8])>
+    ensures { IfSome result (λ read. text.now ≡ V.spelling read.0 ++ read.1.now) }
+{
+    match text {
+        [letter, rest @ ..] => Some((V::by_letter(*letter)?, rest)),
+        [] => None,
+    }
+}
+
+/// Appends a slash and the component of a value, if there is one.
+#[inline(always)]
+pub fn write_value<V: Spells<M>, M: Copy>(value: &Option<M>, buffer: &mut TextBuffer)
+    requires { length buffer.old ≤ 200 }
+    ensures text { buffer.new ≡ buffer.old ++ shown V.metric V.spelling value.now }
+    ensures room { length buffer.new ≤ length buffer.old + 8 }
+    ensures width { length buffer.new ≤ length buffer.old + V.width }
+{
+    if let Some(value) = value {
+        buffer.push_component(V::shown(*value));
+    }
+}
+
+/// Appends a slash and the component of each of three values that there is.
+#[inline(always)]
+pub fn write_three<V: Spells<K> + Spells<L> + Spells<M>, K: Copy, L: Copy, M: Copy>(
+    first: &Option<K>,
+    second: &Option<L>,
+    third: &Option<M>,
+    buffer: &mut TextBuffer,
+)
+    requires { length buffer.old ≤ 184 }
+    ensures text { buffer.new ≡ buffer.old
+        ++ (shown ⟦<V as Spells<K>>⟧.metric ⟦<V as Spells<K>>⟧.spelling first.now
+        ++ (shown ⟦<V as Spells<L>>⟧.metric ⟦<V as Spells<L>>⟧.spelling second.now
+        ++ shown ⟦<V as Spells<M>>⟧.metric ⟦<V as Spells<M>>⟧.spelling third.now)) }
+    ensures room { length buffer.new ≤ length buffer.old + 24 }
+    ensures width { length buffer.new ≤ length buffer.old
+        + (⟦<V as Spells<K>>⟧.width + ⟦<V as Spells<L>>⟧.width + ⟦<V as Spells<M>>⟧.width) }
+{
+    write_value::<V, K>(first, buffer);
+    write_value::<V, L>(second, buffer);
+    write_value::<V, M>(third, buffer);
+}
