@@ -8,7 +8,8 @@ use Rattle.cvss_base.specs.declared.v3.MetricType.TheVariants.{A, AC, AR, AV, C,
 use Rattle.cvss_base.specs.V3Types.{name_of}
 use Rattle.cvss_v3.specs.declared.vector.Vector.{Vector}
 use Rattle.cvss_score.specs.declared.v3.weights.Weights.{Weights}
-use Rattle.cvss_v3.specs.VectorWeights.{weight_in, weights_of}
+use Rattle.cvss_score.specs.v3.Weighing.{weight_in}
+use Rattle.cvss_v3.specs.VectorWeights.{weights_of}
 use Rattle.cvss_json_write.specs.Json.{Member, decimal_text, string_text, tenths_text}
 use Rattle.cvss_explain.specs.Parts.{score_member, severity_member, ways_text}
 use Rattle.cvss_explain.specs.NumbersV3.{AreBaseNumbers, AreEnvironmentalNumbers, AreTemporalNumbers}

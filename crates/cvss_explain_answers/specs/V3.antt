@@ -16,7 +16,8 @@ use Rattle.cvss_json_record.specs.declared.group.Group.TheVariants.{Temporal, En
 use Rattle.cvss_json_record.specs.WordsV3.{words_of}
 use Rattle.cvss_json_write.specs.Json.{decimal_text, tenths_text}
 use Rattle.cvss_v3.specs.Vector.{v3}
-use Rattle.cvss_v3.specs.VectorWeights.{weight_in, weights_of}
+use Rattle.cvss_score.specs.v3.Weighing.{weight_in}
+use Rattle.cvss_v3.specs.VectorWeights.{weights_of}
 use Rattle.cvss_v3.specs.declared.vector.Vector.{Vector}
 use Rattle.cvss_v3_metric.specs.Table.{printed}
 

@@ -1,10 +1,13 @@
 //! The scores of CVSS v3.0 and v3.1 in whole numbers of small units: weights, equations, roundings.
 
-pub mod equations;
+mod counts;
+mod equations;
 mod power;
 pub mod rounding;
 mod rules;
+mod scoring;
 pub mod weighing;
 mod weights;
 
 pub use rules::{Exponent, Rules};
+pub use weights::Weights;

@@ -10,7 +10,7 @@ mod printing;
 mod reading;
 mod refusing;
 mod scores;
-mod units;
+mod weighing;
 
 use crate::laws::vectors_are_their_values;
 use cvss_base::Error;

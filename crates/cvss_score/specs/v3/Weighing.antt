@@ -2,6 +2,8 @@
 -- (a metric that is Not Defined is skipped by the equations, a modified metric replaces its base metric) and 7.4.
 use Rattle.std.specs.Prelude.{ℕ, Bool, true, false, Option, Some, None}
 use Rattle.cvss_base.specs.declared.v3.MetricType.{MetricType}
+use Rattle.cvss_base.specs.declared.v3.MetricType.TheVariants.{A, AC, AV, C, I, PR, S, UI, E, RL, RC, CR, IR, AR, MAV, MAC, MPR, MUI, MS, MC, MI, MA}
+use Rattle.cvss_score.specs.declared.v3.weights.Weights.{Weights}
 use Rattle.cvss_v3_metric.specs.Modified.{replaced, weight_or}
 use Rattle.cvss_v3_metric.specs.Table.{Value, weight_of, absent_weight, scoped_weight}
 use Rattle.cvss_v3_metric.specs.declared.base.access.PrivilegesRequired.{PrivilegesRequired}
@@ -33,3 +35,28 @@ effective_scope _ base = base
 abbrev pub is_changed : Option Scope → Bool
 is_changed (Some scope.Changed) = true
 is_changed _ = false
+
+-- the weight of a metric, which the scopes have not
+abbrev pub weight_in : Weights → MetricType → Option ℕ
+weight_in w AV = Some w.av
+weight_in w AC = Some w.ac
+weight_in w PR = Some w.pr
+weight_in w UI = Some w.ui
+weight_in w S = None
+weight_in w C = Some w.c
+weight_in w I = Some w.i
+weight_in w A = Some w.a
+weight_in w E = Some w.e
+weight_in w RL = Some w.rl
+weight_in w RC = Some w.rc
+weight_in w CR = Some w.cr
+weight_in w IR = Some w.ir
+weight_in w AR = Some w.ar
+weight_in w MAV = Some w.mav
+weight_in w MAC = Some w.mac
+weight_in w MPR = Some w.mpr
+weight_in w MUI = Some w.mui
+weight_in w MS = None
+weight_in w MC = Some w.mc
+weight_in w MI = Some w.mi
+weight_in w MA = Some w.ma

@@ -1,10 +1,9 @@
-//! What the definitions of the scores speak of.
+//! What a score is computed of.
 
 /// The weights of a vector's metrics in hundredths, by their short names (v3.0 specification,
 /// section 8.4; v3.1 specification, section 7.4). An absent base metric weighs 0. A modified metric
 /// that is absent or not defined weighs as its base metric.
-///
-/// The code takes each weight from the vector where it needs it.
+#[derive(Clone, Copy)]
 pub struct Weights {
     pub av: u64,
     pub ac: u64,

@@ -38,7 +38,7 @@ impl Vector {
             (pos result *ℤ pos (10 ^ 23)) }
         ensures to_ten { result ≤ 100 }
     {
-        self.base_tenths() as u8
+        self.weights().base(self.minor_version) as u8
     }
 
     /// The temporal score (v3.1 specification, section 7.2; v3.0 specification, section 8.2).
@@ -56,7 +56,8 @@ impl Vector {
             (pos result *ℤ pos (10 ^ 23)) }
         ensures to_ten { result ≤ 100 }
     {
-        self.times_temporal(self.shared_base_tenths()) as u8
+        let weights = self.shared_weights();
+        weights.times_temporal(weights.base(self.minor_version), self.minor_version) as u8
     }
 
     /// The environmental score (v3.1 specification, section 7.3; v3.0 specification, section 8.3).
@@ -74,7 +75,9 @@ impl Vector {
             (pos result *ℤ pos (10 ^ 23)) }
         ensures to_ten { result ≤ 100 }
     {
-        self.times_temporal(self.first_tenths()) as u8
+        let weights = self.shared_weights();
+        let first = weights.environmental_first(self.minor_version);
+        weights.times_temporal(first, self.minor_version) as u8
     }
 
     /// The exploitability sub-score, which is exact (v3.1 specification, section 7.1).
@@ -82,7 +85,7 @@ impl Vector {
         ensures value { of_count result ≈ exploitability (weights_of self.now) }
         ensures limit { IsWithinLimit result }
     {
-        Score::new(i128::from(self.shared_base_parts().exploitability) * 100_000_000_000_000)
+        Score::new(self.shared_weights().exploitability())
     }
 
     /// ISS, the impact sub-score of the base metrics, which is exact (v3.1 specification, section
@@ -91,7 +94,7 @@ impl Vector {
         ensures value { of_count result ≈ iss (weights_of self.now) }
         ensures limit { IsWithinLimit result }
     {
-        Score::new(i128::from(self.shared_base_parts().sub_score) * 1_000_000_000_000_000_000)
+        Score::new(self.shared_weights().iss())
     }
 
     /// The rating of the base score (v3.1 specification, section 5).

@@ -1,6 +1,6 @@
 -- The weights that the metrics of a vector can have, in hundredths: v3.0 specification, 8.4; v3.1 specification, 7.4. The
 -- contracts of calls that `cvss` has no path to cite these.
-use Rattle.std.specs.Prelude.{◌≡◌, ℕ, nat_le, Bool, true, false, List, ◌∷◌, map, unwrap_or}
+use Rattle.std.specs.Prelude.{◌≡◌, ◌≤◌, ℕ, nat_le, Bool, true, false, List, ◌∷◌, map, unwrap_or}
 use Rattle.std.specs.List.{list_all, Contains}
 use Rattle.cvss_base.specs.declared.v3.MetricType.{MetricType}
 use Rattle.cvss_base.specs.declared.v3.MetricType.TheVariants.{AC, AV, C, PR, UI, E, RL, RC, CR}
@@ -70,3 +70,26 @@ pub record AreOfTables (w : Weights) : Type 0 where
   pub mc : Contains impacts w.mc
   pub mi : Contains impacts w.mi
   pub ma : Contains impacts w.ma
+
+-- no weight is so great that a product is too great for the code
+pub record AreBounded (w : Weights) : Type 0 where
+  pub av : w.av ≤ 100
+  pub ac : w.ac ≤ 100
+  pub pr : w.pr ≤ 100
+  pub ui : w.ui ≤ 100
+  pub c : w.c ≤ 56
+  pub i : w.i ≤ 56
+  pub a : w.a ≤ 56
+  pub e : w.e ≤ 100
+  pub rl : w.rl ≤ 100
+  pub rc : w.rc ≤ 100
+  pub cr : w.cr ≤ 150
+  pub ir : w.ir ≤ 150
+  pub ar : w.ar ≤ 150
+  pub mav : w.mav ≤ 100
+  pub mac : w.mac ≤ 100
+  pub mpr : w.mpr ≤ 100
+  pub mui : w.mui ≤ 100
+  pub mc : w.mc ≤ 56
+  pub mi : w.mi ≤ 56
+  pub ma : w.ma ≤ 56

@@ -1,0 +1,81 @@
+//! What the metrics of a vector weigh, in hundredths.
+
+ghost use Rattle.std.specs.Prelude.{◌≡◌};
+ghost use Rattle.cvss_score.specs.v3.private.Weights.{AreBounded, AreOfTables};
+ghost use Rattle.cvss_v3.specs.VectorWeights.{weights_of};
+
+use crate::vector::Vector;
+use cvss_score::v3::Weights;
+use cvss_score::v3::weighing::{
+    effective, effective_scope, is_changed, modified_privileges, scoped_weight, weight,
+};
+
+impl Vector {
+    /// What the metrics weigh, of which the equations make the scores.
+    #[inline(always)]
+    pub(super) fn weights(&self) -> Weights
+        ensures value { result ≡ weights_of self.now }
+        ensures tables { AreOfTables result }
+        ensures bounded { AreBounded result }
+    {
+        self.weighed()
+    }
+
+    #[inline(always)]
+    fn weighed(&self) -> Weights
+        ensures value { result ≡ weights_of self.now }
+        ensures bounded { AreBounded result }
+    {
+        let changed = self.is_scope_changed();
+        Weights {
+            av: weight(self.av, 0),
+            ac: weight(self.ac, 0),
+            pr: scoped_weight(self.pr, changed),
+            ui: weight(self.ui, 0),
+            changed,
+            c: weight(self.c, 0),
+            i: weight(self.i, 0),
+            a: weight(self.a, 0),
+            e: weight(self.e, 100),
+            rl: weight(self.rl, 100),
+            rc: weight(self.rc, 100),
+            cr: weight(self.cr, 100),
+            ir: weight(self.ir, 100),
+            ar: weight(self.ar, 100),
+            mav: weight(effective(self.mav, self.av), 0),
+            mac: weight(effective(self.mac, self.ac), 0),
+            mpr: modified_privileges(self.mpr, self.pr, self.ms, self.s),
+            mui: weight(effective(self.mui, self.ui), 0),
+            modified_changed: self.is_modified_scope_changed(),
+            mc: weight(effective(self.mc, self.c), 0),
+            mi: weight(effective(self.mi, self.i), 0),
+            ma: weight(effective(self.ma, self.a), 0),
+        }
+    }
+
+    /// The same, as a call that all share but the base score in tenths, which is computed for each line.
+    // Inlined into each score and number it would be a twentieth of the module of WebAssembly.
+    #[inline(never)]
+    pub(super) fn shared_weights(&self) -> Weights
+        ensures value { result ≡ weights_of self.now }
+        ensures tables { AreOfTables result }
+        ensures bounded { AreBounded result }
+    {
+        self.weights()
+    }
+
+    /// Whether the scope is changed, by which the base score is computed.
+    pub fn is_scope_changed(&self) -> bool
+        ensures { result ≡ (weights_of self.now).changed }
+    {
+        is_changed(self.s)
+    }
+
+    /// Whether the modified scope is changed, by which the environmental score is computed. Where it
+    /// is absent or `X` it is the scope.
+    pub fn is_modified_scope_changed(&self) -> bool
+        ensures { result ≡ (weights_of self.now).modified_changed }
+    {
+        is_changed(effective_scope(self.ms, self.s))
+    }
+}
