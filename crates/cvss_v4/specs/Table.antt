@@ -3,7 +3,7 @@
 use Rattle.std.specs.Prelude.{ℕ, List, Option}
 use Rattle.cvss_base.specs.declared.v4.MetricType.{MetricType}
 use Rattle.cvss_base.specs.declared.v4.MetricType.TheVariants as metric
-use Rattle.cvss_v4_metric.specs.Ranks as place
+use Rattle.cvss_v4_metric.specs.Table as place
 use Rattle.cvss_v4_metric.specs.Table.{spelling_at}
 use Rattle.cvss_v4.specs.declared.vector.Vector.{Vector}
 
