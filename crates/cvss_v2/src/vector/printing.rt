@@ -8,39 +8,21 @@ ghost use Rattle.cvss_v2_metric.specs.Table.{spelling_of};
 ghost use Rattle.cvss_v2.specs.Vector.{v2};
 ghost use Rattle.cvss_v2.specs.private.WithSlash.{value_with_slash};
 
+use crate::each_metric;
 use crate::vector::Vector;
 use cvss_text::buffer::TextBuffer;
 use cvss_text::print::{Printed, write_text};
+use cvss_text::{show_at, write_each};
 use cvss_v2_metric::{MetricType, MetricValue};
 use std::fmt;
 
 impl Printed for Vector {
     fn with_slash(&self, kind: MetricType) -> Option<&'static str> {
-        match kind {
-            MetricType::AV => self.with_slash_at(kind, self.av),
-            MetricType::AC => self.with_slash_at(kind, self.ac),
-            MetricType::Au => self.with_slash_at(kind, self.au),
-            MetricType::C => self.with_slash_at(kind, self.c),
-            MetricType::I => self.with_slash_at(kind, self.i),
-            MetricType::A => self.with_slash_at(kind, self.a),
-            MetricType::E => self.with_slash_at(kind, self.e),
-            MetricType::RL => self.with_slash_at(kind, self.rl),
-            MetricType::RC => self.with_slash_at(kind, self.rc),
-            MetricType::CDP => self.with_slash_at(kind, self.cdp),
-            MetricType::TD => self.with_slash_at(kind, self.td),
-            MetricType::CR => self.with_slash_at(kind, self.cr),
-            MetricType::IR => self.with_slash_at(kind, self.ir),
-            MetricType::AR => self.with_slash_at(kind, self.ar),
-        }
+        each_metric!(show_at!(kind: MetricType, self.with_slash_at()))
     }
 
-    fn write_metrics(&self, buffer: &mut TextBuffer) {
-        write_three(&self.av, &self.ac, &self.au, buffer);
-        write_three(&self.c, &self.i, &self.a, buffer);
-        write_three(&self.e, &self.rl, &self.rc, buffer);
-        write_three(&self.cdp, &self.td, &self.cr, buffer);
-        write_value(self.ir, buffer);
-        write_value(self.ar, buffer);
+    fn write_each(&self, buffer: &mut TextBuffer) {
+        each_metric!(write_each!(write_value(self, buffer)));
     }
 }
 
@@ -71,24 +53,6 @@ fn write_value<M: MetricValue>(value: Option<M>, buffer: &mut TextBuffer)
     if let Some(metric) = value {
         buffer.push_component(metric.with_slash());
     }
-}
-
-/// Appends a slash and the component of each of three values that there is.
-#[inline(always)]
-fn write_three<K: MetricValue, L: MetricValue, M: MetricValue>(
-    first: &Option<K>,
-    second: &Option<L>,
-    third: &Option<M>,
-    buffer: &mut TextBuffer,
-)
-    requires { length buffer.old ≤ 184 }
-    ensures text { buffer.new ≡ buffer.old ++ (value_with_slash K.KIND K.value first.now
-        ++ (value_with_slash L.KIND L.value second.now ++ value_with_slash M.KIND M.value third.now)) }
-    ensures room { length buffer.new ≤ length buffer.old + 24 }
-{
-    write_value(*first, buffer);
-    write_value(*second, buffer);
-    write_value(*third, buffer);
 }
 
 impl Vector {

@@ -8,13 +8,23 @@ ghost use Rattle.cvss_v2.specs.private.VectorLaws.{v2_laws};
 
 use super::cutting::cut_named;
 use super::in_order::{begun_in_order, whole_in_order};
+use crate::each_metric;
 use crate::vector::Vector;
-use MetricType::*;
+use cvss_text::kinds;
 use cvss_text::walk::{ComponentError, Components, fill_place};
 use cvss_v2_metric::{MetricType, MetricValue};
 
 /// The metrics in printing order (guide, section 2.4).
-const PRINTED: [MetricType; 14] = [AV, AC, Au, C, I, A, E, RL, RC, CDP, TD, CR, IR, AR];
+const PRINTED: &[MetricType] = &each_metric!(kinds!(MetricType));
+
+/// Fills the field of the metric that is asked for.
+macro_rules! fill_at {
+    (($vector:ident, $kind:ident, $value:ident) $($name:ident $field:ident $values:ty,)*) => {
+        match $kind {
+            $(MetricType::$name => fill(&mut $vector.$field, $value),)*
+        }
+    };
+}
 
 impl Components for Vector {
     type Kind = MetricType;
@@ -30,7 +40,7 @@ impl Components for Vector {
     }
 
     fn printed() -> &'static [MetricType] {
-        &PRINTED
+        PRINTED
     }
 
     fn name(kind: MetricType) -> &'static str {
@@ -60,22 +70,7 @@ impl Components for Vector {
 
     #[inline(always)]
     fn put(&mut self, kind: MetricType, value: &[u8]) -> Result<(), ComponentError> {
-        match kind {
-            MetricType::AV => fill(&mut self.av, value),
-            MetricType::AC => fill(&mut self.ac, value),
-            MetricType::Au => fill(&mut self.au, value),
-            MetricType::C => fill(&mut self.c, value),
-            MetricType::I => fill(&mut self.i, value),
-            MetricType::A => fill(&mut self.a, value),
-            MetricType::E => fill(&mut self.e, value),
-            MetricType::RL => fill(&mut self.rl, value),
-            MetricType::RC => fill(&mut self.rc, value),
-            MetricType::CDP => fill(&mut self.cdp, value),
-            MetricType::TD => fill(&mut self.td, value),
-            MetricType::CR => fill(&mut self.cr, value),
-            MetricType::IR => fill(&mut self.ir, value),
-            MetricType::AR => fill(&mut self.ar, value),
-        }
+        each_metric!(fill_at!(self, kind, value))
     }
 
     fn first_missing(&self) -> Option<MetricType> {

@@ -9,51 +9,21 @@ ghost use Rattle.cvss_v3_metric.specs.Table.{spelling_of};
 ghost use Rattle.cvss_v3.specs.Vector.{v3};
 ghost use Rattle.cvss_v3.specs.private.Shown.{shown};
 
+use crate::each_metric;
 use crate::vector::Vector;
 use cvss_text::buffer::TextBuffer;
 use cvss_text::print::{Printed, write_text};
+use cvss_text::{show_at, write_each};
 use cvss_v3_metric::{MetricType, MetricValue};
 use std::fmt;
 
 impl Printed for Vector {
     fn with_slash(&self, kind: MetricType) -> Option<&'static str> {
-        match kind {
-            MetricType::AV => self.with_slash_at(kind, self.av),
-            MetricType::AC => self.with_slash_at(kind, self.ac),
-            MetricType::PR => self.with_slash_at(kind, self.pr),
-            MetricType::UI => self.with_slash_at(kind, self.ui),
-            MetricType::S => self.with_slash_at(kind, self.s),
-            MetricType::C => self.with_slash_at(kind, self.c),
-            MetricType::I => self.with_slash_at(kind, self.i),
-            MetricType::A => self.with_slash_at(kind, self.a),
-            MetricType::E => self.with_slash_at(kind, self.e),
-            MetricType::RL => self.with_slash_at(kind, self.rl),
-            MetricType::RC => self.with_slash_at(kind, self.rc),
-            MetricType::CR => self.with_slash_at(kind, self.cr),
-            MetricType::IR => self.with_slash_at(kind, self.ir),
-            MetricType::AR => self.with_slash_at(kind, self.ar),
-            MetricType::MAV => self.with_slash_at(kind, self.mav),
-            MetricType::MAC => self.with_slash_at(kind, self.mac),
-            MetricType::MPR => self.with_slash_at(kind, self.mpr),
-            MetricType::MUI => self.with_slash_at(kind, self.mui),
-            MetricType::MS => self.with_slash_at(kind, self.ms),
-            MetricType::MC => self.with_slash_at(kind, self.mc),
-            MetricType::MI => self.with_slash_at(kind, self.mi),
-            MetricType::MA => self.with_slash_at(kind, self.ma),
-        }
+        each_metric!(show_at!(kind: MetricType, self.with_slash_at()))
     }
 
-    fn write_metrics(&self, buffer: &mut TextBuffer) {
-        write_three(&self.av, &self.ac, &self.pr, buffer);
-        write_three(&self.ui, &self.s, &self.c, buffer);
-        write_value(self.i, buffer);
-        write_value(self.a, buffer);
-        write_three(&self.e, &self.rl, &self.rc, buffer);
-        write_three(&self.cr, &self.ir, &self.ar, buffer);
-        write_three(&self.mav, &self.mac, &self.mpr, buffer);
-        write_three(&self.mui, &self.ms, &self.mc, buffer);
-        write_value(self.mi, buffer);
-        write_value(self.ma, buffer);
+    fn write_each(&self, buffer: &mut TextBuffer) {
+        each_metric!(write_each!(write_value(self, buffer)));
     }
 }
 
@@ -84,24 +54,6 @@ fn write_value<M: MetricValue>(value: Option<M>, buffer: &mut TextBuffer)
     if let Some(metric) = value {
         buffer.push_component(metric.with_slash());
     }
-}
-
-/// Appends a slash and the component of each of three values that there is.
-#[inline(always)]
-fn write_three<K: MetricValue, L: MetricValue, M: MetricValue>(
-    first: &Option<K>,
-    second: &Option<L>,
-    third: &Option<M>,
-    buffer: &mut TextBuffer,
-)
-    requires { length buffer.old ≤ 184 }
-    ensures text { buffer.new ≡ buffer.old ++ (shown K.KIND K.value first.now
-        ++ (shown L.KIND L.value second.now ++ shown M.KIND M.value third.now)) }
-    ensures room { length buffer.new ≤ length buffer.old + 24 }
-{
-    write_value(*first, buffer);
-    write_value(*second, buffer);
-    write_value(*third, buffer);
 }
 
 impl Vector {

@@ -9,63 +9,21 @@ ghost use Rattle.cvss_v4_metric.specs.Table.{spelling_at};
 ghost use Rattle.cvss_v4.specs.Vector.{v4};
 ghost use Rattle.cvss_v4.specs.private.Shown.{shown, width};
 
+use crate::each_metric;
 use crate::vector::Vector;
 use cvss_text::buffer::TextBuffer;
 use cvss_text::print::{Printed, write_text};
+use cvss_text::{show_at, write_each};
 use cvss_v4_metric::{MetricType, MetricValue};
 use std::fmt;
 
 impl Printed for Vector {
     fn with_slash(&self, kind: MetricType) -> Option<&'static str> {
-        match kind {
-            MetricType::AV => self.with_slash_at(kind, self.av),
-            MetricType::AC => self.with_slash_at(kind, self.ac),
-            MetricType::AT => self.with_slash_at(kind, self.at),
-            MetricType::PR => self.with_slash_at(kind, self.pr),
-            MetricType::UI => self.with_slash_at(kind, self.ui),
-            MetricType::VC => self.with_slash_at(kind, self.vc),
-            MetricType::VI => self.with_slash_at(kind, self.vi),
-            MetricType::VA => self.with_slash_at(kind, self.va),
-            MetricType::SC => self.with_slash_at(kind, self.sc),
-            MetricType::SI => self.with_slash_at(kind, self.si),
-            MetricType::SA => self.with_slash_at(kind, self.sa),
-            MetricType::E => self.with_slash_at(kind, self.e),
-            MetricType::CR => self.with_slash_at(kind, self.cr),
-            MetricType::IR => self.with_slash_at(kind, self.ir),
-            MetricType::AR => self.with_slash_at(kind, self.ar),
-            MetricType::MAV => self.with_slash_at(kind, self.mav),
-            MetricType::MAC => self.with_slash_at(kind, self.mac),
-            MetricType::MAT => self.with_slash_at(kind, self.mat),
-            MetricType::MPR => self.with_slash_at(kind, self.mpr),
-            MetricType::MUI => self.with_slash_at(kind, self.mui),
-            MetricType::MVC => self.with_slash_at(kind, self.mvc),
-            MetricType::MVI => self.with_slash_at(kind, self.mvi),
-            MetricType::MVA => self.with_slash_at(kind, self.mva),
-            MetricType::MSC => self.with_slash_at(kind, self.msc),
-            MetricType::MSI => self.with_slash_at(kind, self.msi),
-            MetricType::MSA => self.with_slash_at(kind, self.msa),
-            MetricType::S => self.with_slash_at(kind, self.s),
-            MetricType::AU => self.with_slash_at(kind, self.au),
-            MetricType::R => self.with_slash_at(kind, self.r),
-            MetricType::V => self.with_slash_at(kind, self.v),
-            MetricType::RE => self.with_slash_at(kind, self.re),
-            MetricType::U => self.with_slash_at(kind, self.u),
-        }
+        each_metric!(show_at!(kind: MetricType, self.with_slash_at()))
     }
 
-    fn write_metrics(&self, buffer: &mut TextBuffer) {
-        write_three(&self.av, &self.ac, &self.at, buffer);
-        write_three(&self.pr, &self.ui, &self.vc, buffer);
-        write_three(&self.vi, &self.va, &self.sc, buffer);
-        write_three(&self.si, &self.sa, &self.e, buffer);
-        write_three(&self.cr, &self.ir, &self.ar, buffer);
-        write_three(&self.mav, &self.mac, &self.mat, buffer);
-        write_three(&self.mpr, &self.mui, &self.mvc, buffer);
-        write_three(&self.mvi, &self.mva, &self.msc, buffer);
-        write_three(&self.msi, &self.msa, &self.s, buffer);
-        write_three(&self.au, &self.r, &self.v, buffer);
-        write_value(self.re, buffer);
-        write_value(self.u, buffer);
+    fn write_each(&self, buffer: &mut TextBuffer) {
+        each_metric!(write_each!(write_value(self, buffer)));
     }
 }
 
@@ -97,26 +55,6 @@ fn write_value<M: MetricValue>(value: Option<M>, buffer: &mut TextBuffer)
     if let Some(metric) = value {
         buffer.push_component(metric.with_slash());
     }
-}
-
-/// Appends a slash and the component of each of three values that there is.
-#[inline(always)]
-fn write_three<K: MetricValue, L: MetricValue, M: MetricValue>(
-    first: &Option<K>,
-    second: &Option<L>,
-    third: &Option<M>,
-    buffer: &mut TextBuffer,
-)
-    requires { length buffer.old ≤ 184 }
-    ensures text { buffer.new ≡ buffer.old ++ (shown K.KIND K.rank first.now
-        ++ (shown L.KIND L.rank second.now ++ shown M.KIND M.rank third.now)) }
-    ensures room { length buffer.new ≤ length buffer.old + 24 }
-    ensures width { length buffer.new
-        ≤ length buffer.old + (width K.KIND + width L.KIND + width M.KIND) }
-{
-    write_value(*first, buffer);
-    write_value(*second, buffer);
-    write_value(*third, buffer);
 }
 
 impl Vector {

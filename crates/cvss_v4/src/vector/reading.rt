@@ -9,18 +9,25 @@ ghost use Rattle.cvss_v4.specs.private.VectorLaws.{v4_laws, v4_front_laws};
 
 use super::cutting::cut_named;
 use super::in_order::{begun_in_order, whole_in_order};
+use crate::each_metric;
 use crate::laws::default_vectors_have_no_metric;
 use crate::vector::Vector;
-use MetricType::*;
 use cvss_text::front::Prefixed;
+use cvss_text::kinds;
 use cvss_text::walk::{ComponentError, Components, fill_place};
 use cvss_v4_metric::{MetricType, MetricValue};
 
 /// The metrics in printing order (v4.0 specification, section 7).
-const PRINTED: [MetricType; 32] = [
-    AV, AC, AT, PR, UI, VC, VI, VA, SC, SI, SA, E, CR, IR, AR, MAV, MAC, MAT, MPR, MUI, MVC, MVI,
-    MVA, MSC, MSI, MSA, S, AU, R, V, RE, U,
-];
+const PRINTED: &[MetricType] = &each_metric!(kinds!(MetricType));
+
+/// Fills the field of the metric that is asked for.
+macro_rules! fill_at {
+    (($vector:ident, $kind:ident, $value:ident) $($name:ident $field:ident $values:ty,)*) => {
+        match $kind {
+            $(MetricType::$name => fill(&mut $vector.$field, $value),)*
+        }
+    };
+}
 
 impl Components for Vector {
     type Kind = MetricType;
@@ -36,7 +43,7 @@ impl Components for Vector {
     }
 
     fn printed() -> &'static [MetricType] {
-        &PRINTED
+        PRINTED
     }
 
     fn name(kind: MetricType) -> &'static str {
@@ -64,40 +71,7 @@ impl Components for Vector {
 
     #[inline(always)]
     fn put(&mut self, kind: MetricType, value: &[u8]) -> Result<(), ComponentError> {
-        match kind {
-            MetricType::AV => fill(&mut self.av, value),
-            MetricType::AC => fill(&mut self.ac, value),
-            MetricType::AT => fill(&mut self.at, value),
-            MetricType::PR => fill(&mut self.pr, value),
-            MetricType::UI => fill(&mut self.ui, value),
-            MetricType::VC => fill(&mut self.vc, value),
-            MetricType::VI => fill(&mut self.vi, value),
-            MetricType::VA => fill(&mut self.va, value),
-            MetricType::SC => fill(&mut self.sc, value),
-            MetricType::SI => fill(&mut self.si, value),
-            MetricType::SA => fill(&mut self.sa, value),
-            MetricType::E => fill(&mut self.e, value),
-            MetricType::CR => fill(&mut self.cr, value),
-            MetricType::IR => fill(&mut self.ir, value),
-            MetricType::AR => fill(&mut self.ar, value),
-            MetricType::MAV => fill(&mut self.mav, value),
-            MetricType::MAC => fill(&mut self.mac, value),
-            MetricType::MAT => fill(&mut self.mat, value),
-            MetricType::MPR => fill(&mut self.mpr, value),
-            MetricType::MUI => fill(&mut self.mui, value),
-            MetricType::MVC => fill(&mut self.mvc, value),
-            MetricType::MVI => fill(&mut self.mvi, value),
-            MetricType::MVA => fill(&mut self.mva, value),
-            MetricType::MSC => fill(&mut self.msc, value),
-            MetricType::MSI => fill(&mut self.msi, value),
-            MetricType::MSA => fill(&mut self.msa, value),
-            MetricType::S => fill(&mut self.s, value),
-            MetricType::AU => fill(&mut self.au, value),
-            MetricType::R => fill(&mut self.r, value),
-            MetricType::V => fill(&mut self.v, value),
-            MetricType::RE => fill(&mut self.re, value),
-            MetricType::U => fill(&mut self.u, value),
-        }
+        each_metric!(fill_at!(self, kind, value))
     }
 
     fn first_missing(&self) -> Option<MetricType> {
