@@ -55,11 +55,11 @@ impl CvssValues {
     }
 }
 
-/// The field of each of these metrics.
+/// The field of each metric.
 // Each metric by its name, and no loop: a metric that is constant is a jump less.
 macro_rules! fields {
-    ($vector:ident, $version:ident: $($kind:ident)*) => {
-        [$(field_at($vector, $version::$kind)),*]
+    (($vector:ident, $kinds:ident) $($name:ident $field:ident $values:ty,)*) => {
+        [$(field_at($vector, $kinds::$name)),*]
     };
 }
 
@@ -86,20 +86,19 @@ fn filled_up(fields: &[[u8; 8]]) -> [[u8; 8]; 32]
 fn fields_v2(vector: &v2::Vector) -> [[u8; 8]; 14]
     ensures { result ≡ fields_in v2 vector.now }
 {
-    fields!(vector, V2: AV AC Au C I A E RL RC CDP TD CR IR AR)
+    cvss_v2::each_metric!(fields!(vector, V2))
 }
 
 fn fields_v3(vector: &v3::Vector) -> [[u8; 8]; 22]
     ensures { result ≡ fields_in v3 vector.now }
 {
-    fields!(vector, V3: AV AC PR UI S C I A E RL RC CR IR AR MAV MAC MPR MUI MS MC MI MA)
+    cvss_v3::each_metric!(fields!(vector, V3))
 }
 
 fn fields_v4(vector: &v4::Vector) -> [[u8; 8]; 32]
     ensures { result ≡ fields_in v4 vector.now }
 {
-    fields!(vector, V4: AV AC AT PR UI VC VI VA SC SI SA E CR IR AR MAV MAC MAT MPR MUI MVC MVI MVA
-        MSC MSI MSA S AU R V RE U)
+    cvss_v4::each_metric!(fields!(vector, V4))
 }
 
 /// The spelling of the value that a vector has for a metric, filled up with bytes 0.

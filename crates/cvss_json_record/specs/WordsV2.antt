@@ -4,6 +4,9 @@ use Rattle.std.specs.Prelude.{ℕ, List, [], ◌∷◌, codes}
 use Rattle.cvss_base.specs.declared.v2.MetricType.{MetricType}
 use Rattle.cvss_base.specs.declared.v2.MetricType.TheVariants.{AV, AC, Au, C, I, A, E, RL, RC, CDP, TD, CR, IR, AR}
 use Rattle.cvss_json_record.specs.Words.{Row, not_defined}
+use Rattle.cvss_json_record.specs.declared.field.Field.{Field}
+use Rattle.cvss_json_record.specs.declared.field.Field.TheVariants.{V2, Score, Text, Version}
+use Rattle.cvss_json_record.specs.declared.group.Group.TheVariants.{Base, Temporal, Environmental}
 
 -- words that several metrics have
 abbrev impact_words : List Row
@@ -37,3 +40,9 @@ member_of kind = (entry_of kind).0
 -- the spellings with their words
 abbrev pub words_of : MetricType → List Row
 words_of kind = (entry_of kind).1
+
+-- the members that a record may have, in the order of their names
+abbrev pub fields : List Field
+fields =
+    V2 AC ∷ V2 AV ∷ V2 Au ∷ V2 A ∷ V2 AR ∷ Score Base ∷ V2 CDP ∷ V2 C ∷ V2 CR ∷ Score Environmental
+    ∷ V2 E ∷ V2 I ∷ V2 IR ∷ V2 RL ∷ V2 RC ∷ V2 TD ∷ Score Temporal ∷ Text ∷ Version ∷ []

@@ -4,6 +4,9 @@ use Rattle.std.specs.Prelude.{ℕ, List, [], ◌∷◌, ◌++◌, codes}
 use Rattle.cvss_base.specs.declared.v4.MetricType.{MetricType}
 use Rattle.cvss_base.specs.declared.v4.MetricType.TheVariants as metric
 use Rattle.cvss_json_record.specs.Words.{Row, not_defined}
+use Rattle.cvss_json_record.specs.declared.field.Field.{Field}
+use Rattle.cvss_json_record.specs.declared.field.Field.TheVariants.{V4, Score, Rating, Text, Version}
+use Rattle.cvss_json_record.specs.declared.group.Group.TheVariants.{Base}
 
 -- words that several metrics have
 abbrev attack_vector_words : List Row
@@ -76,3 +79,13 @@ member_of kind = (entry_of kind).0
 -- the spellings with their words
 abbrev pub words_of : MetricType → List Row
 words_of kind = (entry_of kind).1
+
+-- the members that a record may have, in the order of their names
+abbrev pub fields : List Field
+fields =
+    V4 metric.AU ∷ V4 metric.R ∷ V4 metric.S ∷ V4 metric.AC ∷ V4 metric.AT ∷ V4 metric.AV
+    ∷ V4 metric.AR ∷ Score Base ∷ Rating Base ∷ V4 metric.CR ∷ V4 metric.E ∷ V4 metric.IR
+    ∷ V4 metric.MAC ∷ V4 metric.MAT ∷ V4 metric.MAV ∷ V4 metric.MPR ∷ V4 metric.MSA ∷ V4 metric.MSC
+    ∷ V4 metric.MSI ∷ V4 metric.MUI ∷ V4 metric.MVA ∷ V4 metric.MVC ∷ V4 metric.MVI ∷ V4 metric.PR
+    ∷ V4 metric.U ∷ V4 metric.SA ∷ V4 metric.SC ∷ V4 metric.SI ∷ V4 metric.UI ∷ V4 metric.V ∷ Text
+    ∷ Version ∷ V4 metric.VA ∷ V4 metric.VC ∷ V4 metric.VI ∷ V4 metric.RE ∷ []

@@ -7,7 +7,6 @@ ghost use Rattle.cvss_base.specs.declared.v3.MetricType as kind_v3;
 ghost use Rattle.cvss_base.specs.declared.v4.MetricType as kind_v4;
 ghost use Rattle.cvss_base.specs.Equality.{ClonesAlways, ClonesByValue};
 ghost use Rattle.cvss_base.specs.V4Types.{declared};
-ghost use Rattle.cvss_json_record.specs.Fields.{fields_v2, fields_v3, fields_v4};
 ghost use Rattle.cvss_json_record.specs.declared.field.Field.TheVariants.{V2, V3, V4};
 ghost use Rattle.cvss_json_record.specs.Words.{AreRowsOf, HaveOneName};
 ghost use Rattle.cvss_json_record.specs.WordsV2 as v2;
@@ -40,9 +39,9 @@ pub fn members_report_metrics()
 /// The members of each version are in the order of their names, no two have one name, and each metric
 /// has one.
 pub fn members_are_in_order()
-    ensures v2 { AreMembers fields_v2 V2 table_v2.printed }
-    ensures v3 { AreMembers fields_v3 V3 table_v3.printed }
-    ensures v4 { AreMembers fields_v4 V4 declared }
+    ensures v2 { AreMembers v2.fields V2 table_v2.printed }
+    ensures v3 { AreMembers v3.fields V3 table_v3.printed }
+    ensures v4 { AreMembers v4.fields V4 declared }
 {}
 
 /// A clone of a member, of what it says, of a group or of scores is that value.

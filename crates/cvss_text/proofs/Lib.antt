@@ -1,4 +1,3 @@
-pub mod BufferLemmas
 pub mod CanonicalLemmas
 pub mod ComponentLemmas
 pub mod DenotesLemmas

@@ -3,7 +3,7 @@ use Rattle.std.proofs.Common.{◌≡◌, ℕ, List, [], ◌∷◌, ◌++◌, dro
 use Rattle.std.specs.List.{cons_option}
 use Rattle.cvss_base.specs.Text.{joined, slash}
 use Rattle.cvss_base.specs.Version.{Version, component_of}
-use Rattle.cvss_text.specs.private.Printing.{with_slash, text_with_slash, texts_with_slash}
+use Rattle.cvss_text.specs.private.Printing.{with_slash, text_with_slash, texts_with_slash, with_texts}
 
 -- a first piece and the components of some metrics, joined: the piece, and each component after a slash
 joined-cons_option : (first : List ℕ) (part : Option (List ℕ)) (parts : List (List ℕ)) → joined (first ∷ cons_option part parts) ≡ joined ((first ++ unwrap_or (with_slash part) []) ∷ parts)
@@ -12,6 +12,12 @@ joined-cons_option first (Some part) [] = refl
 joined-cons_option first (Some part) (next ∷ parts) = sym (append_assoc first (slash ∷ part) (slash ∷ joined (next ∷ parts)))
 
 module _ {V K : Type 0} (version : Version V K) (v : V) where
+  -- components that are appended one after another
+  pub texts-appended : (text : List ℕ) (kinds : List K) → with_texts version v text kinds ≡ text ++ texts_with_slash version v kinds
+  texts-appended text [] = sym (append-nil text)
+  texts-appended text (kind ∷ kinds) =
+      texts-appended (text ++ text_with_slash version v kind) kinds ∙ append_assoc text (text_with_slash version v kind) (texts_with_slash version v kinds)
+
   pub joined-with_slash : (first : List ℕ) (kinds : List K) → joined (first ∷ filter_map (component_of version v) kinds) ≡ first ++ texts_with_slash version v kinds
   joined-with_slash first [] = sym (append-nil first)
   joined-with_slash first (kind ∷ kinds) =

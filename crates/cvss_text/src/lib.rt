@@ -7,6 +7,7 @@ mod beginning;
 pub mod buffer;
 pub mod cutting;
 pub mod fast_path;
+mod fields;
 pub mod front;
 pub mod metrics;
 pub mod pieces;

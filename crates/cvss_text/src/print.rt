@@ -3,7 +3,7 @@
 ghost use Rattle.std.specs.Prelude.{◌≡◌, ◌≤◌, ◌++◌, ◌∷◌, [], length, option_copied};
 ghost use Rattle.std.specs.Fmt.{WritesOnOk};
 ghost use Rattle.cvss_base.specs.Version.{component_of, canonical_text};
-ghost use Rattle.cvss_text.specs.private.Printing.{with_slash, texts_with_slash};
+ghost use Rattle.cvss_text.specs.private.Printing.{with_slash, texts_with_slash, with_texts};
 
 use crate::buffer::TextBuffer;
 use crate::walk::Components;
@@ -15,10 +15,19 @@ pub trait Printed: Components {
     fn with_slash(&self, kind: Self::Kind) -> Option<&'static str>
         ensures { option_copied result ≡ with_slash (component_of Self.version self.now kind) };
 
-    /// Appends all components in printing order, each with a slash before it.
-    fn write_metrics(&self, buffer: &mut TextBuffer)
+    /// Appends one component after another in printing order, each with a slash before it.
+    fn write_each(&self, buffer: &mut TextBuffer)
         requires { length buffer.old ≤ 8 }
-        ensures { buffer.new ≡ buffer.old ++ texts_with_slash Self.version self.now Self.version.printed };
+        ensures { buffer.new ≡ with_texts Self.version self.now buffer.old Self.version.printed };
+
+    /// Appends all components in printing order, each with a slash before it.
+    #[inline(always)]
+    final fn write_metrics(&self, buffer: &mut TextBuffer)
+        requires { length buffer.old ≤ 8 }
+        ensures { buffer.new ≡ buffer.old ++ texts_with_slash Self.version self.now Self.version.printed }
+    {
+        self.write_each(buffer);
+    }
 }
 
 /// Writes the canonical text of a vector after the piece that says its version into an empty buffer,

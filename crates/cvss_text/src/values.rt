@@ -145,35 +145,13 @@ pub fn letter_in_order<V: Spells<M>, M: Copy>(text: &[u8]) -> Option<(M, &[u8])>
 
 /// Appends a slash and the component of a value, if there is one.
 #[inline(always)]
-pub fn write_value<V: Spells<M>, M: Copy>(value: &Option<M>, buffer: &mut TextBuffer)
+pub fn write_value<V: Spells<M>, M: Copy>(value: Option<M>, buffer: &mut TextBuffer)
     requires { length buffer.old ≤ 200 }
-    ensures text { buffer.new ≡ buffer.old ++ shown V.metric V.spelling value.now }
+    ensures text { buffer.new ≡ buffer.old ++ shown V.metric V.spelling value }
     ensures room { length buffer.new ≤ length buffer.old + 8 }
     ensures width { length buffer.new ≤ length buffer.old + V.width }
 {
     if let Some(value) = value {
-        buffer.push_component(V::shown(*value));
+        buffer.push_component(V::shown(value));
     }
-}
-
-/// Appends a slash and the component of each of three values that there is.
-#[inline(always)]
-pub fn write_three<V: Spells<K> + Spells<L> + Spells<M>, K: Copy, L: Copy, M: Copy>(
-    first: &Option<K>,
-    second: &Option<L>,
-    third: &Option<M>,
-    buffer: &mut TextBuffer,
-)
-    requires { length buffer.old ≤ 184 }
-    ensures text { buffer.new ≡ buffer.old
-        ++ (shown ⟦<V as Spells<K>>⟧.metric ⟦<V as Spells<K>>⟧.spelling first.now
-        ++ (shown ⟦<V as Spells<L>>⟧.metric ⟦<V as Spells<L>>⟧.spelling second.now
-        ++ shown ⟦<V as Spells<M>>⟧.metric ⟦<V as Spells<M>>⟧.spelling third.now)) }
-    ensures room { length buffer.new ≤ length buffer.old + 24 }
-    ensures width { length buffer.new ≤ length buffer.old
-        + (⟦<V as Spells<K>>⟧.width + ⟦<V as Spells<L>>⟧.width + ⟦<V as Spells<M>>⟧.width) }
-{
-    write_value::<V, K>(first, buffer);
-    write_value::<V, L>(second, buffer);
-    write_value::<V, M>(third, buffer);
 }

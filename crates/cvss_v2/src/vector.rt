@@ -49,6 +49,31 @@ pub struct Vector {
     pub ar: Option<AvailabilityRequirement>,
 }
 
+/// Calls a macro with what is given for it and, of each metric in printing order, the abbreviation,
+/// the field and the type of its values.
+#[macro_export]
+macro_rules! each_metric {
+    ($with:ident!($($given:tt)*)) => {
+        $with! {
+            ($($given)*)
+            AV av AccessVector,
+            AC ac AccessComplexity,
+            Au au Authentication,
+            C c ConfidentialityImpact,
+            I i IntegrityImpact,
+            A a AvailabilityImpact,
+            E e Exploitability,
+            RL rl RemediationLevel,
+            RC rc ReportConfidence,
+            CDP cdp CollateralDamagePotential,
+            TD td TargetDistribution,
+            CR cr ConfidentialityRequirement,
+            IR ir IntegrityRequirement,
+            AR ar AvailabilityRequirement,
+        }
+    };
+}
+
 impl Vector {
     ghost use Rattle.std.specs.Str.{IsUtf8};
     ghost use Rattle.cvss_base.specs.Refusal.{Refusal, IsFirstRefusal};

@@ -58,6 +58,39 @@ pub struct Vector {
     pub ma: Option<Modified<Availability>>,
 }
 
+/// Calls a macro with what is given for it and, of each metric in printing order, the abbreviation,
+/// the field and the type of its values.
+#[macro_export]
+macro_rules! each_metric {
+    ($with:ident!($($given:tt)*)) => {
+        $with! {
+            ($($given)*)
+            AV av AttackVector,
+            AC ac AttackComplexity,
+            PR pr PrivilegesRequired,
+            UI ui UserInteraction,
+            S s Scope,
+            C c Confidentiality,
+            I i Integrity,
+            A a Availability,
+            E e ExploitCodeMaturity,
+            RL rl RemediationLevel,
+            RC rc ReportConfidence,
+            CR cr ConfidentialityRequirement,
+            IR ir IntegrityRequirement,
+            AR ar AvailabilityRequirement,
+            MAV mav Modified<AttackVector>,
+            MAC mac Modified<AttackComplexity>,
+            MPR mpr Modified<PrivilegesRequired>,
+            MUI mui Modified<UserInteraction>,
+            MS ms ModifiedScope,
+            MC mc Modified<Confidentiality>,
+            MI mi Modified<Integrity>,
+            MA ma Modified<Availability>,
+        }
+    };
+}
+
 impl Vector {
     ghost use Rattle.std.specs.Str.{IsUtf8};
     ghost use Rattle.cvss_base.specs.Refusal.{Refusal, IsFirstRefusalAfter};

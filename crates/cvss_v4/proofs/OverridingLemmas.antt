@@ -23,7 +23,7 @@ use Rattle.cvss_v4.specs.Overriding.{AreOverrides, IsOverridden, NamesOther, Obj
 use Rattle.cvss_v4.specs.private.OverridingSteps.{AddsOverride, IsObjectionTo, HasReadOverrides}
 use Rattle.cvss_v4.specs.Table.{Value, value_at}
 use Rattle.cvss_v4.specs.Vector.{v4}
-use Rattle.cvss_v4.specs.private.VectorLaws.{v4_laws, one_minor_version, vector_of, vector_has}
+use Rattle.cvss_v4.specs.private.VectorLaws.{v4_laws, one_minor_version, with_values, vector_has}
 use Rattle.cvss_v4.specs.declared.vector.Vector.{Vector}
 
 -- a text that names an environmental metric names no other
@@ -134,14 +134,14 @@ value_by v overrides kind _ = value_at v kind
 
 -- the vector of these values
 abbrev pub overridden : Vector → Vector → Vector
-overridden v overrides = vector_of v.minor_version (λ kind. value_by v overrides kind (group_of kind))
+overridden v overrides = with_values v (λ kind. value_by v overrides kind (group_of kind))
 
 of_other_group : (v overrides : Vector) (kind : MetricType) (group : MetricGroup) → ¬ (group ≡ Environmental) → value_by v overrides kind group ≡ value_at v kind
 of_other_group v overrides kind = elim [ Environmental ↦ λ not. absurd (not refl) | _ ↦ λ _. refl ]
 
 pub IsOverridden-own : (v overrides : Vector) → IsOverridden v overrides (overridden v overrides)
 IsOverridden-own v overrides =
-    let has = vector_has v.minor_version (λ kind. value_by v overrides kind (group_of kind)) in
+    let has = vector_has v (λ kind. value_by v overrides kind (group_of kind)) in
     record {
       replaced = λ kind is. has kind ∙ ap (value_by v overrides kind) is;
       kept = λ kind not. has kind ∙ of_other_group v overrides kind (group_of kind) not;

@@ -64,6 +64,49 @@ pub struct Vector {
     u: Option<supplemental::ProviderUrgency>,
 }
 
+/// Calls a macro with what is given for it and, of each metric in printing order, the abbreviation,
+/// the field and the type of its values.
+#[macro_export]
+macro_rules! each_metric {
+    ($with:ident!($($given:tt)*)) => {
+        $with! {
+            ($($given)*)
+            AV av base::AttackVector,
+            AC ac base::AttackComplexity,
+            AT at base::AttackRequirements,
+            PR pr base::PrivilegesRequired,
+            UI ui base::UserInteraction,
+            VC vc base::ConfidentialityImpactToTheVulnerableSystem,
+            VI vi base::IntegrityImpactToTheVulnerableSystem,
+            VA va base::AvailabilityImpactToTheVulnerableSystem,
+            SC sc base::ConfidentialityImpactToTheSubsequentSystem,
+            SI si base::IntegrityImpactToTheSubsequentSystem,
+            SA sa base::AvailabilityImpactToTheSubsequentSystem,
+            E e threat::ExploitMaturity,
+            CR cr environmental::ConfidentialityRequirements,
+            IR ir environmental::IntegrityRequirements,
+            AR ar environmental::AvailabilityRequirements,
+            MAV mav environmental::ModifiedAttackVector,
+            MAC mac environmental::ModifiedAttackComplexity,
+            MAT mat environmental::ModifiedAttackRequirements,
+            MPR mpr environmental::ModifiedPrivilegesRequired,
+            MUI mui environmental::ModifiedUserInteraction,
+            MVC mvc environmental::ModifiedConfidentialityImpactToTheVulnerableSystem,
+            MVI mvi environmental::ModifiedIntegrityImpactToTheVulnerableSystem,
+            MVA mva environmental::ModifiedAvailabilityImpactToTheVulnerableSystem,
+            MSC msc environmental::ModifiedConfidentialityImpactToTheSubsequentSystem,
+            MSI msi environmental::ModifiedIntegrityImpactToTheSubsequentSystem,
+            MSA msa environmental::ModifiedAvailabilityImpactToTheSubsequentSystem,
+            S s supplemental::Safety,
+            AU au supplemental::Automatable,
+            R r supplemental::Recovery,
+            V v supplemental::ValueDensity,
+            RE re supplemental::VulnerabilityResponseEffort,
+            U u supplemental::ProviderUrgency,
+        }
+    };
+}
+
 impl Vector {
     ghost use Rattle.std.specs.Str.{IsUtf8};
     ghost use Rattle.cvss_base.specs.Refusal.{Refusal, IsFirstRefusalAfter};

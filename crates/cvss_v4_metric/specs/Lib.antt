@@ -1,4 +1,3 @@
 pub mod Metrics
-pub mod Ranks
 pub mod Reading
 pub mod Table

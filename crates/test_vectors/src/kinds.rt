@@ -15,6 +15,17 @@ pub(crate) enum Asked<'a> {
     Each(&'a str),
 }
 
+/// Says of a metric of a version with the type of its values.
+macro_rules! reported_at {
+    (($rt:ident, $kind:ident, $asked:ident) $($name:ident $field:ident $values:ty,)*) => {
+        match $kind {
+            $(MetricType::$name => reported::<$values>($rt, $kind, $asked),)*
+        }
+    };
+}
+
+pub(crate) use reported_at;
+
 /// A metric's name, and what it stands for.
 pub(crate) fn kind(rt: &HostRuntime, asked: &str) -> io::Result<()> {
     let (version, name) = first_word(asked);

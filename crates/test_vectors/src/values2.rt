@@ -1,34 +1,19 @@
 //! Values of the metrics of CVSS v2.
 
-use crate::kinds::{Asked, print_with};
+use crate::kinds::{Asked, print_with, reported_at};
 use crate::shown::{print_error, print_value, show};
-use cvss_v2_metric::{Metric, MetricType, base, environmental, temporal};
+use cvss_v2::each_metric;
+use cvss_v2_metric::base::*;
+use cvss_v2_metric::environmental::*;
+use cvss_v2_metric::temporal::*;
+use cvss_v2_metric::{Metric, MetricType};
 use std::io;
 
 /// Says of the metric of a name, or of its values.
 pub(crate) fn answer(rt: &HostRuntime, name: &str, asked: Asked<'_>) -> io::Result<()> {
     match MetricType::from_str(rt.alloc(), name) {
-        Ok(kind) => answer_of(rt, kind, asked),
+        Ok(kind) => each_metric!(reported_at!(rt, kind, asked)),
         Err(error) => print_error(rt, &error),
-    }
-}
-
-fn answer_of(rt: &HostRuntime, kind: MetricType, asked: Asked<'_>) -> io::Result<()> {
-    match kind {
-        MetricType::AV => reported::<base::AccessVector>(rt, kind, asked),
-        MetricType::AC => reported::<base::AccessComplexity>(rt, kind, asked),
-        MetricType::Au => reported::<base::Authentication>(rt, kind, asked),
-        MetricType::C => reported::<base::ConfidentialityImpact>(rt, kind, asked),
-        MetricType::I => reported::<base::IntegrityImpact>(rt, kind, asked),
-        MetricType::A => reported::<base::AvailabilityImpact>(rt, kind, asked),
-        MetricType::E => reported::<temporal::Exploitability>(rt, kind, asked),
-        MetricType::RL => reported::<temporal::RemediationLevel>(rt, kind, asked),
-        MetricType::RC => reported::<temporal::ReportConfidence>(rt, kind, asked),
-        MetricType::CDP => reported::<environmental::CollateralDamagePotential>(rt, kind, asked),
-        MetricType::TD => reported::<environmental::TargetDistribution>(rt, kind, asked),
-        MetricType::CR => reported::<environmental::ConfidentialityRequirement>(rt, kind, asked),
-        MetricType::IR => reported::<environmental::IntegrityRequirement>(rt, kind, asked),
-        MetricType::AR => reported::<environmental::AvailabilityRequirement>(rt, kind, asked),
     }
 }
 

@@ -1,43 +1,19 @@
 //! Values of the metrics of CVSS v3.
 
-use crate::kinds::{Asked, print_with};
+use crate::kinds::{Asked, print_with, reported_at};
 use crate::shown::{print_error, print_value, show};
-use cvss_v3_metric::environmental::Modified;
-use cvss_v3_metric::{Metric, MetricType, base, environmental, temporal};
+use cvss_v3::each_metric;
+use cvss_v3_metric::base::*;
+use cvss_v3_metric::environmental::*;
+use cvss_v3_metric::temporal::*;
+use cvss_v3_metric::{Metric, MetricType};
 use std::io;
 
 /// Says of the metric of a name, or of its values.
 pub(crate) fn answer(rt: &HostRuntime, name: &str, asked: Asked<'_>) -> io::Result<()> {
     match MetricType::from_str(rt.alloc(), name) {
-        Ok(kind) => answer_of(rt, kind, asked),
+        Ok(kind) => each_metric!(reported_at!(rt, kind, asked)),
         Err(error) => print_error(rt, &error),
-    }
-}
-
-fn answer_of(rt: &HostRuntime, kind: MetricType, asked: Asked<'_>) -> io::Result<()> {
-    match kind {
-        MetricType::AV => reported::<base::AttackVector>(rt, kind, asked),
-        MetricType::AC => reported::<base::AttackComplexity>(rt, kind, asked),
-        MetricType::PR => reported::<base::PrivilegesRequired>(rt, kind, asked),
-        MetricType::UI => reported::<base::UserInteraction>(rt, kind, asked),
-        MetricType::S => reported::<base::Scope>(rt, kind, asked),
-        MetricType::C => reported::<base::Confidentiality>(rt, kind, asked),
-        MetricType::I => reported::<base::Integrity>(rt, kind, asked),
-        MetricType::A => reported::<base::Availability>(rt, kind, asked),
-        MetricType::E => reported::<temporal::ExploitCodeMaturity>(rt, kind, asked),
-        MetricType::RL => reported::<temporal::RemediationLevel>(rt, kind, asked),
-        MetricType::RC => reported::<temporal::ReportConfidence>(rt, kind, asked),
-        MetricType::CR => reported::<environmental::ConfidentialityRequirement>(rt, kind, asked),
-        MetricType::IR => reported::<environmental::IntegrityRequirement>(rt, kind, asked),
-        MetricType::AR => reported::<environmental::AvailabilityRequirement>(rt, kind, asked),
-        MetricType::MAV => reported::<Modified<base::AttackVector>>(rt, kind, asked),
-        MetricType::MAC => reported::<Modified<base::AttackComplexity>>(rt, kind, asked),
-        MetricType::MPR => reported::<Modified<base::PrivilegesRequired>>(rt, kind, asked),
-        MetricType::MUI => reported::<Modified<base::UserInteraction>>(rt, kind, asked),
-        MetricType::MS => reported::<environmental::ModifiedScope>(rt, kind, asked),
-        MetricType::MC => reported::<Modified<base::Confidentiality>>(rt, kind, asked),
-        MetricType::MI => reported::<Modified<base::Integrity>>(rt, kind, asked),
-        MetricType::MA => reported::<Modified<base::Availability>>(rt, kind, asked),
     }
 }
 

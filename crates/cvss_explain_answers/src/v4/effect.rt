@@ -26,7 +26,7 @@ pub(super) fn put_levels(class: &MacroVector, kind: MetricType, page: &mut Page)
         SC | SI | SA | MSC | MSI | MSA => put_level(b"EQ4:", class.eq4, page),
         E => put_level(b"EQ5:", class.eq5, page),
         CR | IR | AR => put_level(b"EQ6:", class.eq6, page),
-        S | AU | R | V | RE | U => page.push(b"-"),
+        _ => page.push(b"-"),
     }
 }
 

@@ -3,6 +3,8 @@
 ghost use Rattle.std.specs.Prelude.{◌≡◌, map};
 ghost use Rattle.cvss_json_record.specs.WordsV2.{entry_of};
 
+use crate::field::Field::{self, Score, Text, V2, Version};
+use crate::group::Group::{Base, Environmental, Temporal};
 use crate::names::NOT_DEFINED;
 use crate::names::rows::Row;
 use MetricType::*;
@@ -49,3 +51,11 @@ pub fn entry(kind: MetricType) -> (&'static str, &'static [Row])
         AR => ("availabilityRequirement", REQUIREMENTS),
     }
 }
+
+/// The members that a record may have, in the order of their names.
+#[rattlefmt::skip]
+pub(crate) const FIELDS: &[Field] = &[
+    V2(AC), V2(AV), V2(Au), V2(A), V2(AR), Score(Base), V2(CDP), V2(C), V2(CR),
+    Score(Environmental), V2(E), V2(I), V2(IR), V2(RL), V2(RC), V2(TD), Score(Temporal), Text,
+    Version,
+];

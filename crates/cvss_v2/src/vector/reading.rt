@@ -8,14 +8,24 @@ ghost use Rattle.cvss_v2.specs.private.VectorLaws.{v2_laws};
 
 use super::cutting::cut_named;
 use super::in_order::{begun_in_order, whole_in_order};
+use crate::each_metric;
 use crate::vector::Vector;
-use MetricType::*;
+use cvss_text::kinds;
 use cvss_text::values::{Spells, fill};
 use cvss_text::walk::{ComponentError, Components};
 use cvss_v2_metric::{MetricType, MetricValue};
 
 /// The metrics in printing order (guide, section 2.4).
-const PRINTED: [MetricType; 14] = [AV, AC, Au, C, I, A, E, RL, RC, CDP, TD, CR, IR, AR];
+const PRINTED: &[MetricType] = &each_metric!(kinds!(MetricType));
+
+/// Fills the field of the metric that is asked for.
+macro_rules! fill_at {
+    (($vector:ident, $kind:ident, $value:ident) $($name:ident $field:ident $values:ty,)*) => {
+        match $kind {
+            $(MetricType::$name => fill::<Vector, _>(&mut $vector.$field, $value),)*
+        }
+    };
+}
 
 impl Components for Vector {
     type Kind = MetricType;
@@ -31,7 +41,7 @@ impl Components for Vector {
     }
 
     fn printed() -> &'static [MetricType] {
-        &PRINTED
+        PRINTED
     }
 
     fn name(kind: MetricType) -> &'static str {
@@ -61,22 +71,7 @@ impl Components for Vector {
 
     #[inline(always)]
     fn put(&mut self, kind: MetricType, value: &[u8]) -> Result<(), ComponentError> {
-        match kind {
-            MetricType::AV => fill::<Vector, _>(&mut self.av, value),
-            MetricType::AC => fill::<Vector, _>(&mut self.ac, value),
-            MetricType::Au => fill::<Vector, _>(&mut self.au, value),
-            MetricType::C => fill::<Vector, _>(&mut self.c, value),
-            MetricType::I => fill::<Vector, _>(&mut self.i, value),
-            MetricType::A => fill::<Vector, _>(&mut self.a, value),
-            MetricType::E => fill::<Vector, _>(&mut self.e, value),
-            MetricType::RL => fill::<Vector, _>(&mut self.rl, value),
-            MetricType::RC => fill::<Vector, _>(&mut self.rc, value),
-            MetricType::CDP => fill::<Vector, _>(&mut self.cdp, value),
-            MetricType::TD => fill::<Vector, _>(&mut self.td, value),
-            MetricType::CR => fill::<Vector, _>(&mut self.cr, value),
-            MetricType::IR => fill::<Vector, _>(&mut self.ir, value),
-            MetricType::AR => fill::<Vector, _>(&mut self.ar, value),
-        }
+        each_metric!(fill_at!(self, kind, value))
     }
 
     fn first_missing(&self) -> Option<MetricType> {

@@ -8,52 +8,22 @@ ghost use Rattle.cvss_text.specs.private.Printing.{with_slash};
 ghost use Rattle.cvss_v3_metric.specs.Table.{spelling_of};
 ghost use Rattle.cvss_v3.specs.Vector.{v3};
 
+use crate::each_metric;
 use crate::vector::Vector;
 use cvss_text::buffer::TextBuffer;
 use cvss_text::print::{Printed, write_text};
-use cvss_text::values::{write_three, write_value};
+use cvss_text::values::write_value;
+use cvss_text::{show_at, write_each};
 use cvss_v3_metric::{MetricType, MetricValue};
 use std::fmt;
 
 impl Printed for Vector {
     fn with_slash(&self, kind: MetricType) -> Option<&'static str> {
-        match kind {
-            MetricType::AV => self.with_slash_at(kind, self.av),
-            MetricType::AC => self.with_slash_at(kind, self.ac),
-            MetricType::PR => self.with_slash_at(kind, self.pr),
-            MetricType::UI => self.with_slash_at(kind, self.ui),
-            MetricType::S => self.with_slash_at(kind, self.s),
-            MetricType::C => self.with_slash_at(kind, self.c),
-            MetricType::I => self.with_slash_at(kind, self.i),
-            MetricType::A => self.with_slash_at(kind, self.a),
-            MetricType::E => self.with_slash_at(kind, self.e),
-            MetricType::RL => self.with_slash_at(kind, self.rl),
-            MetricType::RC => self.with_slash_at(kind, self.rc),
-            MetricType::CR => self.with_slash_at(kind, self.cr),
-            MetricType::IR => self.with_slash_at(kind, self.ir),
-            MetricType::AR => self.with_slash_at(kind, self.ar),
-            MetricType::MAV => self.with_slash_at(kind, self.mav),
-            MetricType::MAC => self.with_slash_at(kind, self.mac),
-            MetricType::MPR => self.with_slash_at(kind, self.mpr),
-            MetricType::MUI => self.with_slash_at(kind, self.mui),
-            MetricType::MS => self.with_slash_at(kind, self.ms),
-            MetricType::MC => self.with_slash_at(kind, self.mc),
-            MetricType::MI => self.with_slash_at(kind, self.mi),
-            MetricType::MA => self.with_slash_at(kind, self.ma),
-        }
+        each_metric!(show_at!(kind: MetricType, self.with_slash_at()))
     }
 
-    fn write_metrics(&self, buffer: &mut TextBuffer) {
-        write_three::<Vector, _, _, _>(&self.av, &self.ac, &self.pr, buffer);
-        write_three::<Vector, _, _, _>(&self.ui, &self.s, &self.c, buffer);
-        write_value::<Vector, _>(&self.i, buffer);
-        write_value::<Vector, _>(&self.a, buffer);
-        write_three::<Vector, _, _, _>(&self.e, &self.rl, &self.rc, buffer);
-        write_three::<Vector, _, _, _>(&self.cr, &self.ir, &self.ar, buffer);
-        write_three::<Vector, _, _, _>(&self.mav, &self.mac, &self.mpr, buffer);
-        write_three::<Vector, _, _, _>(&self.mui, &self.ms, &self.mc, buffer);
-        write_value::<Vector, _>(&self.mi, buffer);
-        write_value::<Vector, _>(&self.ma, buffer);
+    fn write_each(&self, buffer: &mut TextBuffer) {
+        each_metric!(write_each!(write_value::<Vector>(self, buffer)));
     }
 }
 

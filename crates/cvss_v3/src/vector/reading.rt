@@ -10,17 +10,25 @@ ghost use Rattle.cvss_v3.specs.private.VectorLaws.{v3_laws, v3_front_laws};
 
 use super::cutting::cut_named;
 use super::in_order::{begun_in_order, whole_in_order};
+use crate::each_metric;
 use crate::vector::Vector;
-use MetricType::*;
 use cvss_text::front::Prefixed;
+use cvss_text::kinds;
 use cvss_text::values::{Spells, fill};
 use cvss_text::walk::{ComponentError, Components};
 use cvss_v3_metric::{MetricType, MetricValue, reported_kind};
 
 /// The metrics in printing order (v3.1 specification, section 6).
-const PRINTED: [MetricType; 22] = [
-    AV, AC, PR, UI, S, C, I, A, E, RL, RC, CR, IR, AR, MAV, MAC, MPR, MUI, MS, MC, MI, MA,
-];
+const PRINTED: &[MetricType] = &each_metric!(kinds!(MetricType));
+
+/// Fills the field of the metric that is asked for.
+macro_rules! fill_at {
+    (($vector:ident, $kind:ident, $value:ident) $($name:ident $field:ident $values:ty,)*) => {
+        match $kind {
+            $(MetricType::$name => fill::<Vector, _>(&mut $vector.$field, $value),)*
+        }
+    };
+}
 
 impl Components for Vector {
     type Kind = MetricType;
@@ -36,7 +44,7 @@ impl Components for Vector {
     }
 
     fn printed() -> &'static [MetricType] {
-        &PRINTED
+        PRINTED
     }
 
     fn name(kind: MetricType) -> &'static str {
@@ -64,30 +72,7 @@ impl Components for Vector {
 
     #[inline(always)]
     fn put(&mut self, kind: MetricType, value: &[u8]) -> Result<(), ComponentError> {
-        match kind {
-            MetricType::AV => fill::<Vector, _>(&mut self.av, value),
-            MetricType::AC => fill::<Vector, _>(&mut self.ac, value),
-            MetricType::PR => fill::<Vector, _>(&mut self.pr, value),
-            MetricType::UI => fill::<Vector, _>(&mut self.ui, value),
-            MetricType::S => fill::<Vector, _>(&mut self.s, value),
-            MetricType::C => fill::<Vector, _>(&mut self.c, value),
-            MetricType::I => fill::<Vector, _>(&mut self.i, value),
-            MetricType::A => fill::<Vector, _>(&mut self.a, value),
-            MetricType::E => fill::<Vector, _>(&mut self.e, value),
-            MetricType::RL => fill::<Vector, _>(&mut self.rl, value),
-            MetricType::RC => fill::<Vector, _>(&mut self.rc, value),
-            MetricType::CR => fill::<Vector, _>(&mut self.cr, value),
-            MetricType::IR => fill::<Vector, _>(&mut self.ir, value),
-            MetricType::AR => fill::<Vector, _>(&mut self.ar, value),
-            MetricType::MAV => fill::<Vector, _>(&mut self.mav, value),
-            MetricType::MAC => fill::<Vector, _>(&mut self.mac, value),
-            MetricType::MPR => fill::<Vector, _>(&mut self.mpr, value),
-            MetricType::MUI => fill::<Vector, _>(&mut self.mui, value),
-            MetricType::MS => fill::<Vector, _>(&mut self.ms, value),
-            MetricType::MC => fill::<Vector, _>(&mut self.mc, value),
-            MetricType::MI => fill::<Vector, _>(&mut self.mi, value),
-            MetricType::MA => fill::<Vector, _>(&mut self.ma, value),
-        }
+        each_metric!(fill_at!(self, kind, value))
     }
 
     fn first_missing(&self) -> Option<MetricType> {

@@ -1,5 +1,6 @@
 -- What the walk over a text needs to know of CVSS v4.0.
-use Rattle.std.specs.Prelude.{◌≡◌, ℕ, ◌++◌, codes, Option, None, refl}
+use Rattle.std.specs.Prelude.{◌≡◌, ◌++◌, codes, Option, None, refl}
+use Rattle.std.specs.List.{fold}
 use Rattle.std.proofs.Common.{sym, ◌∙◌}
 use Rattle.cvss_text.specs.private.Walk.{HasNoValue, VersionLaws, FrontLaws}
 use Rattle.cvss_base.specs.Version.{numeral}
@@ -8,7 +9,8 @@ use Rattle.cvss_base.specs.declared.v4.MetricType.TheVariants as metric
 use Rattle.cvss_text.proofs.NumeralLemmas.{numeral-injective, numeral-plain}
 use Rattle.cvss_v4.specs.private.TableLaws.{plain_spelling, one_value}
 use Rattle.cvss_v4.specs.declared.vector.Vector.{Vector}
-use Rattle.cvss_v4.specs.Table.{Value, value_at}
+use Rattle.cvss_v4.specs.Table.{Value, value_at, values_of}
+use Rattle.cvss_v4_metric.specs.Table.{printed}
 use Rattle.cvss_v4.specs.Vector.{v4}
 
 -- vectors with one version piece have one minor version
@@ -17,55 +19,21 @@ one_minor_version v w same =
     let numerals : numeral v.minor_version ≡ numeral w.minor_version = cc in
     numeral-injective v.minor_version w.minor_version numerals
 
--- the vector with a minor version and a value, or none, for each metric
-abbrev pub vector_of : ℕ → ((kind : MetricType) → Option (Value kind)) → Vector
-vector_of minor_version value = record {
-  minor_version = minor_version;
-  av = value metric.AV;
-  ac = value metric.AC;
-  at = value metric.AT;
-  pr = value metric.PR;
-  ui = value metric.UI;
-  vc = value metric.VC;
-  vi = value metric.VI;
-  va = value metric.VA;
-  sc = value metric.SC;
-  si = value metric.SI;
-  sa = value metric.SA;
-  e = value metric.E;
-  cr = value metric.CR;
-  ir = value metric.IR;
-  ar = value metric.AR;
-  mav = value metric.MAV;
-  mac = value metric.MAC;
-  mat = value metric.MAT;
-  mpr = value metric.MPR;
-  mui = value metric.MUI;
-  mvc = value metric.MVC;
-  mvi = value metric.MVI;
-  mva = value metric.MVA;
-  msc = value metric.MSC;
-  msi = value metric.MSI;
-  msa = value metric.MSA;
-  s = value metric.S;
-  au = value metric.AU;
-  r = value metric.R;
-  v = value metric.V;
-  re = value metric.RE;
-  u = value metric.U;
-}
+-- the vector with other values
+abbrev pub with_values : Vector → ((kind : MetricType) → Option (Value kind)) → Vector
+with_values v value = fold (λ new kind. (values_of kind).with_value new (value kind)) v printed
 
 -- it has these values
-pub vector_has : (minor_version : ℕ) (value : (kind : MetricType) → Option (Value kind)) (kind : MetricType) → value_at (vector_of minor_version value) kind ≡ value kind
-vector_has minor_version value = elim [ metric.AC ↦ refl | _ ↦ refl ]
+pub vector_has : (v : Vector) (value : (kind : MetricType) → Option (Value kind)) (kind : MetricType) → value_at (with_values v value) kind ≡ value kind
+vector_has v value = elim [ metric.AC ↦ refl | _ ↦ refl ]
 
 -- a vector is its minor version and its values
 one_vector : (v w : Vector) → v4.front v ≡ v4.front w → ((kind : MetricType) → value_at v kind ≡ value_at w kind) → v ≡ w
-one_vector v w front same = λ i. vector_of (one_minor_version v w front i) (λ kind. same kind i)
+one_vector v w front same = λ i. with_values (record v { minor_version = one_minor_version v w front i }) (λ kind. same kind i)
 
 -- of each minor version there is one vector without values
-pub without_values : (v : Vector) → HasNoValue v4 v → v ≡ vector_of v.minor_version (λ _. None)
-without_values v empty = one_vector v _ refl (λ kind. empty.none kind ∙ sym (vector_has v.minor_version (λ _. None) kind))
+pub without_values : (v : Vector) → HasNoValue v4 v → v ≡ with_values v (λ _. None)
+without_values v empty = one_vector v _ refl (λ kind. empty.none kind ∙ sym (vector_has v (λ _. None) kind))
 
 pub v4_laws : VersionLaws v4
 v4_laws = record {

@@ -8,7 +8,7 @@ ghost use Rattle.cvss_text.specs.private.Walk.{HasNoValue, IsInOrderTo, IsWhole,
 ghost use Rattle.cvss_base.specs.Text.{slash};
 ghost use Rattle.cvss_base.specs.declared.v4.MetricType.TheVariants.{AC, AT, AV, U};
 ghost use Rattle.cvss_v4_metric.specs.Table.{metric_component, printed, spelling_at};
-ghost use Rattle.cvss_v4_metric.specs.Ranks as rank;
+ghost use Rattle.cvss_v4_metric.specs.Table as rank;
 ghost use Rattle.cvss_v4.specs.Vector.{v4};
 
 use crate::vector::Vector;

@@ -8,64 +8,22 @@ ghost use Rattle.cvss_text.specs.private.Printing.{with_slash};
 ghost use Rattle.cvss_v4_metric.specs.Table.{spelling_at};
 ghost use Rattle.cvss_v4.specs.Vector.{v4};
 
+use crate::each_metric;
 use crate::vector::Vector;
 use cvss_text::buffer::TextBuffer;
 use cvss_text::print::{Printed, write_text};
-use cvss_text::values::{write_three, write_value};
+use cvss_text::values::write_value;
+use cvss_text::{show_at, write_each};
 use cvss_v4_metric::{MetricType, MetricValue};
 use std::fmt;
 
 impl Printed for Vector {
     fn with_slash(&self, kind: MetricType) -> Option<&'static str> {
-        match kind {
-            MetricType::AV => self.with_slash_at(kind, self.av),
-            MetricType::AC => self.with_slash_at(kind, self.ac),
-            MetricType::AT => self.with_slash_at(kind, self.at),
-            MetricType::PR => self.with_slash_at(kind, self.pr),
-            MetricType::UI => self.with_slash_at(kind, self.ui),
-            MetricType::VC => self.with_slash_at(kind, self.vc),
-            MetricType::VI => self.with_slash_at(kind, self.vi),
-            MetricType::VA => self.with_slash_at(kind, self.va),
-            MetricType::SC => self.with_slash_at(kind, self.sc),
-            MetricType::SI => self.with_slash_at(kind, self.si),
-            MetricType::SA => self.with_slash_at(kind, self.sa),
-            MetricType::E => self.with_slash_at(kind, self.e),
-            MetricType::CR => self.with_slash_at(kind, self.cr),
-            MetricType::IR => self.with_slash_at(kind, self.ir),
-            MetricType::AR => self.with_slash_at(kind, self.ar),
-            MetricType::MAV => self.with_slash_at(kind, self.mav),
-            MetricType::MAC => self.with_slash_at(kind, self.mac),
-            MetricType::MAT => self.with_slash_at(kind, self.mat),
-            MetricType::MPR => self.with_slash_at(kind, self.mpr),
-            MetricType::MUI => self.with_slash_at(kind, self.mui),
-            MetricType::MVC => self.with_slash_at(kind, self.mvc),
-            MetricType::MVI => self.with_slash_at(kind, self.mvi),
-            MetricType::MVA => self.with_slash_at(kind, self.mva),
-            MetricType::MSC => self.with_slash_at(kind, self.msc),
-            MetricType::MSI => self.with_slash_at(kind, self.msi),
-            MetricType::MSA => self.with_slash_at(kind, self.msa),
-            MetricType::S => self.with_slash_at(kind, self.s),
-            MetricType::AU => self.with_slash_at(kind, self.au),
-            MetricType::R => self.with_slash_at(kind, self.r),
-            MetricType::V => self.with_slash_at(kind, self.v),
-            MetricType::RE => self.with_slash_at(kind, self.re),
-            MetricType::U => self.with_slash_at(kind, self.u),
-        }
+        each_metric!(show_at!(kind: MetricType, self.with_slash_at()))
     }
 
-    fn write_metrics(&self, buffer: &mut TextBuffer) {
-        write_three::<Vector, _, _, _>(&self.av, &self.ac, &self.at, buffer);
-        write_three::<Vector, _, _, _>(&self.pr, &self.ui, &self.vc, buffer);
-        write_three::<Vector, _, _, _>(&self.vi, &self.va, &self.sc, buffer);
-        write_three::<Vector, _, _, _>(&self.si, &self.sa, &self.e, buffer);
-        write_three::<Vector, _, _, _>(&self.cr, &self.ir, &self.ar, buffer);
-        write_three::<Vector, _, _, _>(&self.mav, &self.mac, &self.mat, buffer);
-        write_three::<Vector, _, _, _>(&self.mpr, &self.mui, &self.mvc, buffer);
-        write_three::<Vector, _, _, _>(&self.mvi, &self.mva, &self.msc, buffer);
-        write_three::<Vector, _, _, _>(&self.msi, &self.msa, &self.s, buffer);
-        write_three::<Vector, _, _, _>(&self.au, &self.r, &self.v, buffer);
-        write_value::<Vector, _>(&self.re, buffer);
-        write_value::<Vector, _>(&self.u, buffer);
+    fn write_each(&self, buffer: &mut TextBuffer) {
+        each_metric!(write_each!(write_value::<Vector>(self, buffer)));
     }
 }
 

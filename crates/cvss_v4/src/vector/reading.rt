@@ -10,19 +10,26 @@ ghost use Rattle.cvss_v4.specs.private.VectorLaws.{v4_laws, v4_front_laws};
 
 use super::cutting::cut_named;
 use super::in_order::{begun_in_order, whole_in_order};
+use crate::each_metric;
 use crate::laws::default_vectors_have_no_metric;
 use crate::vector::Vector;
-use MetricType::*;
 use cvss_text::front::Prefixed;
+use cvss_text::kinds;
 use cvss_text::values::{Spells, fill};
 use cvss_text::walk::{ComponentError, Components};
 use cvss_v4_metric::{MetricType, MetricValue};
 
 /// The metrics in printing order (v4.0 specification, section 7).
-const PRINTED: [MetricType; 32] = [
-    AV, AC, AT, PR, UI, VC, VI, VA, SC, SI, SA, E, CR, IR, AR, MAV, MAC, MAT, MPR, MUI, MVC, MVI,
-    MVA, MSC, MSI, MSA, S, AU, R, V, RE, U,
-];
+const PRINTED: &[MetricType] = &each_metric!(kinds!(MetricType));
+
+/// Fills the field of the metric that is asked for.
+macro_rules! fill_at {
+    (($vector:ident, $kind:ident, $value:ident) $($name:ident $field:ident $values:ty,)*) => {
+        match $kind {
+            $(MetricType::$name => fill::<Vector, _>(&mut $vector.$field, $value),)*
+        }
+    };
+}
 
 impl Components for Vector {
     type Kind = MetricType;
@@ -38,7 +45,7 @@ impl Components for Vector {
     }
 
     fn printed() -> &'static [MetricType] {
-        &PRINTED
+        PRINTED
     }
 
     fn name(kind: MetricType) -> &'static str {
@@ -66,40 +73,7 @@ impl Components for Vector {
 
     #[inline(always)]
     fn put(&mut self, kind: MetricType, value: &[u8]) -> Result<(), ComponentError> {
-        match kind {
-            MetricType::AV => fill::<Vector, _>(&mut self.av, value),
-            MetricType::AC => fill::<Vector, _>(&mut self.ac, value),
-            MetricType::AT => fill::<Vector, _>(&mut self.at, value),
-            MetricType::PR => fill::<Vector, _>(&mut self.pr, value),
-            MetricType::UI => fill::<Vector, _>(&mut self.ui, value),
-            MetricType::VC => fill::<Vector, _>(&mut self.vc, value),
-            MetricType::VI => fill::<Vector, _>(&mut self.vi, value),
-            MetricType::VA => fill::<Vector, _>(&mut self.va, value),
-            MetricType::SC => fill::<Vector, _>(&mut self.sc, value),
-            MetricType::SI => fill::<Vector, _>(&mut self.si, value),
-            MetricType::SA => fill::<Vector, _>(&mut self.sa, value),
-            MetricType::E => fill::<Vector, _>(&mut self.e, value),
-            MetricType::CR => fill::<Vector, _>(&mut self.cr, value),
-            MetricType::IR => fill::<Vector, _>(&mut self.ir, value),
-            MetricType::AR => fill::<Vector, _>(&mut self.ar, value),
-            MetricType::MAV => fill::<Vector, _>(&mut self.mav, value),
-            MetricType::MAC => fill::<Vector, _>(&mut self.mac, value),
-            MetricType::MAT => fill::<Vector, _>(&mut self.mat, value),
-            MetricType::MPR => fill::<Vector, _>(&mut self.mpr, value),
-            MetricType::MUI => fill::<Vector, _>(&mut self.mui, value),
-            MetricType::MVC => fill::<Vector, _>(&mut self.mvc, value),
-            MetricType::MVI => fill::<Vector, _>(&mut self.mvi, value),
-            MetricType::MVA => fill::<Vector, _>(&mut self.mva, value),
-            MetricType::MSC => fill::<Vector, _>(&mut self.msc, value),
-            MetricType::MSI => fill::<Vector, _>(&mut self.msi, value),
-            MetricType::MSA => fill::<Vector, _>(&mut self.msa, value),
-            MetricType::S => fill::<Vector, _>(&mut self.s, value),
-            MetricType::AU => fill::<Vector, _>(&mut self.au, value),
-            MetricType::R => fill::<Vector, _>(&mut self.r, value),
-            MetricType::V => fill::<Vector, _>(&mut self.v, value),
-            MetricType::RE => fill::<Vector, _>(&mut self.re, value),
-            MetricType::U => fill::<Vector, _>(&mut self.u, value),
-        }
+        each_metric!(fill_at!(self, kind, value))
     }
 
     fn first_missing(&self) -> Option<MetricType> {

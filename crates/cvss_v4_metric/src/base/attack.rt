@@ -4,7 +4,7 @@
 ghost use Rattle.std.specs.Prelude.{Some};
 ghost use Rattle.std.proofs.Common.{rules};
 ghost use Rattle.cvss_base.specs.declared.v4.MetricType.TheVariants as metric;
-ghost use Rattle.cvss_v4_metric.specs.Ranks as place;
+ghost use Rattle.cvss_v4_metric.specs.Table as place;
 ghost use Rattle.cvss_v4_metric.specs.Table.{metric_component};
 
 use crate::metric::{MetricEnum, MetricType, MetricValue};

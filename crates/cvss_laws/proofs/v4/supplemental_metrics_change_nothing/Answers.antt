@@ -7,7 +7,7 @@ use Rattle.cvss_v4.specs.Merging.{effective_of}
 use Rattle.cvss_v4.specs.Nomenclature.{nomenclature_of}
 use Rattle.cvss_v4.specs.Table.{Value, value_at}
 use Rattle.cvss_laws.specs.v4.MergingLaws.{DifferInSupplemental}
-use Rattle.cvss_v4.specs.private.VectorLaws.{vector_of}
+use Rattle.cvss_v4.specs.private.VectorLaws.{with_values}
 use Rattle.cvss_v4.specs.declared.vector.Vector.{Vector}
 use Rattle.cvss_laws.proofs.v4.supplemental_metrics_change_nothing.Goals as goal
 
@@ -20,8 +20,8 @@ same_value : (v w : Vector) (kind : MetricType) (group : MetricGroup) → (¬ (g
 same_value v w kind = elim [ Supplemental ↦ λ _. refl | _ ↦ λ kept. kept (λ is. absurd cc) ]
 
 -- the vector of these values scores as the second, and is the first
-same_vector : (v w : Vector) → DifferInSupplemental v w → vector_of v.minor_version (λ kind. value_by v w kind (group_of kind)) ≡ v
-same_vector v w same = λ i. vector_of v.minor_version (λ kind. same_value v w kind (group_of kind) (same.kept kind) i)
+same_vector : (v w : Vector) → DifferInSupplemental v w → with_values v (λ kind. value_by v w kind (group_of kind)) ≡ v
+same_vector v w same = λ i. with_values v (λ kind. same_value v w kind (group_of kind) (same.kept kind) i)
 
 pub returns-clause-score : goal.returns-clause-score
 returns-clause-score c = λ v w same. ap effective_of (same_vector v w same)
