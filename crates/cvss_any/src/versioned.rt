@@ -1,7 +1,6 @@
 //! Vectors without metrics, of each version.
 
-ghost use Rattle.std.specs.Prelude.{◌≡◌, [], ℕ, List, codes};
-ghost use Rattle.cvss_text.specs.private.Walk.{HasNoValue};
+ghost use Rattle.std.specs.Prelude.{◌≡◌, [], ℕ, List, None, codes};
 ghost use Rattle.cvss_any.specs.private.Versions.{front_of};
 
 use crate::{v2, v3, v4};
@@ -14,7 +13,7 @@ pub trait Versioned: Printed {
     /// The vector without metrics, of a minor version.
     fn without_metrics(minor_version: usize) -> Self
         ensures front { Self.version.front result ≡ front minor_version }
-        ensures valueless { HasNoValue Self.version result };
+        ensures valueless { (kind : Self.Kind) → Self.version.value_of result kind ≡ None };
 }
 
 impl Versioned for v2::Vector {

@@ -3,4 +3,4 @@ use Rattle.cvss_base.specs.declared.v4.MetricType.TheVariants.{AC}
 use Rattle.cvss_any.proofs.versioned.V4VectorVersioned.without_metrics.Goals as goal
 
 pub returns-clause-valueless : goal.returns-clause-valueless
-returns-clause-valueless c = record { none = elim [ AC ↦ search rules | _ ↦ search rules ] }
+returns-clause-valueless c = elim [ AC ↦ search rules | _ ↦ search rules ]
