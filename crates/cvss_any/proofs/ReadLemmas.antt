@@ -1,10 +1,9 @@
 -- What reading a text answers, from what the rules of its version read.
-use Rattle.std.proofs.Common.{◌≡◌, ◌++◌, arith, List, ℕ, zero, suc, Bool, true, false, None, Result, Ok, Err, refl, sym, ap, ◌∙◌, subst, IsUtf8, codes, lit<}
+use Rattle.std.proofs.Common.{◌≡◌, ◌++◌, arith, List, ℕ, zero, suc, Result, Ok, Err, refl, sym, ap, ◌∙◌, subst, IsUtf8, codes, lit<}
 use Rattle.cvss_base.specs.Refusal.{Refusal}
 use Rattle.cvss_base.specs.Text.{pieces}
 use Rattle.cvss_base.specs.Version.{Version, Denotes, IsComplete}
 use Rattle.cvss_any.specs.Answers.{HasScore}
-use Rattle.cvss_any.specs.Complete.{first_missing, missing_by}
 use Rattle.cvss_text.specs.Route.{NoVersion, Route, ToV40, ToNoVersion, route_of}
 use Rattle.cvss_any.specs.Dispatch.{DenotesCvss, IsFirstRefusalCvss, IsFirstReasonAt, without_version}
 use Rattle.cvss_any.specs.private.Steps.{IsRead, IsPrintableFault, read_as, reason_read}
@@ -114,8 +113,3 @@ module _ (text : List ℕ) where
         (λ fault first. record { own = reason_of v4 fault; first = reason_after v4 v4_laws v4_front_laws text (codes "4.0") (0, lit< tt, refl) (pieces components) cut (reason_of v4 fault) first; is = refl })
         (λ fault printable. printable)
     read_v4 (suc minor) known routed cut = absurd (omega (arith, known))
-
--- what lacks no base metric lacks none that it may not
-pub none_missing : (allow_incomplete : Bool) (cvss : Cvss) → first_missing cvss ≡ None → missing_by allow_incomplete cvss ≡ None
-none_missing true cvss none = refl
-none_missing false cvss none = none

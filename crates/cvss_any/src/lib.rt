@@ -15,6 +15,7 @@ mod refusal;
 mod segment;
 mod setting;
 mod vector;
+mod versioned;
 
 pub use bytes_error::BytesError;
 pub use cvss_text::buffer::TextBuffer;
@@ -30,3 +31,4 @@ pub use refusal::{ReadError, Refusal};
 pub use segment::Segment;
 pub use setting::{SetError, Version};
 pub use vector::Cvss;
+pub use versioned::Versioned;

@@ -1,12 +1,12 @@
 //! What each version brings to a vector of any version. CVSS v3.0 and v3.1 are one version here, with
 //! two minor versions.
 
-ghost use Rattle.std.specs.Prelude.{◌≡◌, ◌≤◌, [], ℕ, Bool, List, None, Result, codes, ⊤};
+ghost use Rattle.std.specs.Prelude.{◌≡◌, ◌≤◌, [], ℕ, Bool, None, Result, ⊤};
 ghost use Rattle.cvss_base.specs.Text.{pieces};
 ghost use Rattle.cvss_base.specs.Version.{canonical_text};
 ghost use Rattle.cvss_text.specs.Route.{Route, ToV20, ToV40};
 ghost use Rattle.cvss_text.specs.declared.walk.Fault.{Fault};
-ghost use Rattle.cvss_text.specs.private.Walk.{HasNoValue, IsReadLeft};
+ghost use Rattle.cvss_text.specs.private.Walk.{IsReadLeft};
 ghost use Rattle.cvss_any.specs.Answers.{HasScore, text_of};
 ghost use Rattle.cvss_any.specs.Complete.{missing_by};
 ghost use Rattle.cvss_any.specs.Published.{IsPublished};
@@ -17,25 +17,24 @@ ghost use Rattle.cvss_any.specs.declared.reading.ReadFault.TheVariants as read;
 ghost use Rattle.cvss_any.specs.declared.vector.Cvss.{Cvss};
 ghost use Rattle.cvss_any.specs.declared.vector.Cvss.TheVariants as wrapped;
 ghost use Rattle.cvss_any.specs.private.Steps.{IsRead, read_as};
-ghost use Rattle.cvss_any.specs.private.Versions.{IsRouted, front_of, route_v3, wrapped_v3};
+ghost use Rattle.cvss_any.specs.private.Versions.{IsRouted, route_v3, wrapped_v3};
 
 use crate::complete::missing_of_v3;
 use crate::metric_type::MetricType;
 use crate::published::{Bounds, Published};
 use crate::reading::ReadFault;
 use crate::vector::Cvss;
+use crate::versioned::Versioned;
 use crate::{v2, v3, v4};
 use cvss_text::buffer::TextBuffer;
-use cvss_text::print::{Printed, text_after};
+use cvss_text::print::text_after;
 use cvss_text::walk::Fault;
 
 /// A version, whose metrics and vectors are also those of any version.
-pub(crate) trait OneVersion: Printed {
+pub(crate) trait OneVersion: Versioned {
     ghost wrap: { Self.Kind → MetricType };
 
     ghost joined: { ℕ → Self → Cvss };
-
-    ghost front: { ℕ → List (List ℕ) };
 
     ghost route: { ℕ → Route };
 
@@ -51,11 +50,6 @@ pub(crate) trait OneVersion: Printed {
     fn join(self, minor_version: usize) -> Cvss
         ensures { result ≡ joined minor_version self };
 
-    /// The vector without metrics, of a minor version.
-    fn without_metrics(minor_version: usize) -> Self
-        ensures front { Self.version.front result ≡ front minor_version }
-        ensures valueless { HasNoValue Self.version result };
-
     /// The fault as one that any version may have found.
     fn reported<'a>(fault: Fault<'a, Self::Kind>) -> ReadFault<'a>
         ensures { result ≡ reported fault.entry };
@@ -63,8 +57,8 @@ pub(crate) trait OneVersion: Printed {
     /// What the rules of this version read of the components of a text that says it, is what the text
     /// denotes. A law: it does nothing.
     fn reads_by_its_rules(text: &[u8], components: &[u8], minor_version: usize, empty: Self)
-        requires routed { IsRouted has_minor route front text.now components.now minor_version }
-        requires front { Self.version.front empty ≡ front minor_version }
+        requires routed { IsRouted has_minor route Self.front text.now components.now minor_version }
+        requires front { Self.version.front empty ≡ Self.front minor_version }
         ensures read { (answer : Result (Unit {0}) (Fault Self.Kind)) (v : Self)
             → IsReadLeft Self.version (pieces components.now) empty answer v
             → IsRead text.now (read_as (joined minor_version) reported answer v) }
@@ -84,7 +78,7 @@ pub(crate) trait OneVersion: Printed {
     /// Writes the vector's canonical text into an empty buffer, and gives it.
     fn canonical<'a>(&self, minor_version: usize, buffer: &'a mut TextBuffer) -> &'a [u8]
         requires minor { has_minor minor_version }
-        requires front { Self.version.front self.now ≡ front minor_version }
+        requires front { Self.version.front self.now ≡ Self.front minor_version }
         requires empty { buffer.old ≡ [] }
         ensures { result.now ≡ canonical_text Self.version self.now };
 }
@@ -93,8 +87,6 @@ impl OneVersion for v2::Vector {
     ghost wrap = { of.V2 };
 
     ghost joined = { λ _. wrapped.CvssV20 };
-
-    ghost front = { λ _. [] };
 
     ghost route = { λ _. ToV20 };
 
@@ -108,10 +100,6 @@ impl OneVersion for v2::Vector {
 
     fn join(self, _minor_version: usize) -> Cvss {
         Cvss::CvssV20(self)
-    }
-
-    fn without_metrics(_minor_version: usize) -> v2::Vector {
-        v2::Vector::default()
     }
 
     #[inline(always)]
@@ -148,8 +136,6 @@ impl OneVersion for v3::Vector {
 
     ghost joined = { wrapped_v3 };
 
-    ghost front = { front_of (codes "3.") };
-
     ghost route = { route_v3 };
 
     ghost has_minor = { λ minor. minor ≤ 1 };
@@ -166,13 +152,6 @@ impl OneVersion for v3::Vector {
             0 => Cvss::CvssV30(self),
             _ => Cvss::CvssV31(self),
         }
-    }
-
-    #[inline(always)]
-    fn without_metrics(minor_version: usize) -> v3::Vector {
-        let mut empty = v3::Vector::default();
-        empty.minor_version = minor_version;
-        empty
     }
 
     #[inline(always)]
@@ -216,8 +195,6 @@ impl OneVersion for v4::Vector {
 
     ghost joined = { λ _. wrapped.CvssV40 };
 
-    ghost front = { front_of (codes "4.") };
-
     ghost route = { λ _. ToV40 };
 
     ghost has_minor = { λ minor. minor ≡ 0 };
@@ -230,13 +207,6 @@ impl OneVersion for v4::Vector {
 
     fn join(self, _minor_version: usize) -> Cvss {
         Cvss::CvssV40(self)
-    }
-
-    #[inline(always)]
-    fn without_metrics(minor_version: usize) -> v4::Vector {
-        let mut empty = v4::Vector::default();
-        empty.minor_version = minor_version;
-        empty
     }
 
     #[inline(always)]

@@ -21,7 +21,7 @@ impl<'a> Segment<'a> {
     }
 
     /// Bytes as they are.
-    pub(crate) fn given(bytes: &'a [u8]) -> Segment<'a>
+    pub fn given(bytes: &'a [u8]) -> Segment<'a>
         ensures { segment_text result ≡ bytes.now }
     {
         Segment::read(false, bytes)

@@ -66,15 +66,14 @@ module _ {V K : Type 0} (version : Version V K) {IsIt : V → Type 0} {IsReason 
     bound = bound;
   }
 
--- the vector has the given value for a metric or, without one, its own
-abbrev IsCompletedAt : {V K : Type 0} → Version V K → V → V → V → K → Type 0
-IsCompletedAt version given own v kind =
-    version.value_of v kind ≡ option_or (version.value_of given kind) (version.value_of own kind)
+-- the vector has the given value for a metric or, without one, another that is wanted
+abbrev IsCompletedAt : {V K : Type 0} → (version : Version V K) → ((kind : K) → Option (version.Value kind)) → V → V → K → Type 0
+IsCompletedAt version wanted given v kind = version.value_of v kind ≡ option_or (version.value_of given kind) (wanted kind)
 
 -- the metrics that are printed before an index are completed, and others are completed or as they were given
-pub record IsCompletedTo {V K : Type 0} (version : Version V K) (given own : V) (index : ℕ) (v : V) : Type 0 where
-  pub completed : (kind : K) → place_of version kind < index → IsCompletedAt version given own v kind
-  pub either : (kind : K) → (version.value_of v kind ≡ version.value_of given kind) ⊎ IsCompletedAt version given own v kind
+pub record IsCompletedTo {V K : Type 0} (version : Version V K) (wanted : (kind : K) → Option (version.Value kind)) (given : V) (index : ℕ) (v : V) : Type 0 where
+  pub completed : (kind : K) → place_of version kind < index → IsCompletedAt version wanted given v kind
+  pub either : (kind : K) → (version.value_of v kind ≡ version.value_of given kind) ⊎ IsCompletedAt version wanted given v kind
   pub front : version.front v ≡ version.front given
 
 module _ {V K : Type 0} (version : Version V K) (version_laws : VersionLaws version) where
@@ -192,18 +191,18 @@ module _ {V K : Type 0} (version : Version V K) (version_laws : VersionLaws vers
     one_reason None None (Missing one) _ first second = absurd second
     one_reason None _ _ _ first second = absurd first
 
-  module _ (given own : V) where
-    pub IsCompletedTo-start : IsCompletedTo version given own 0 given
+  module _ (wanted : (kind : K) → Option (version.Value kind)) (given : V) where
+    pub IsCompletedTo-start : IsCompletedTo version wanted given 0 given
     IsCompletedTo-start = record { completed = λ kind below. absurd (omega (arith, below)); either = λ kind. inl refl; front = refl }
 
-    completed_here : (kind : K) (old new : V) → IsCopied version own kind old new → (version.value_of old kind ≡ version.value_of given kind) ⊎ IsCompletedAt version given own old kind → IsCompletedAt version given own new kind
-    completed_here kind old new is (inl kept) = is.here ∙ ap (λ each. option_or each (version.value_of own kind)) kept
-    completed_here kind old new is (inr done) = is.here ∙ ap (λ each. option_or each (version.value_of own kind)) done ∙ or_twice (version.value_of given kind) (version.value_of own kind)
+    completed_here : (kind : K) (old new : V) → IsCopied version kind (wanted kind) old new → (version.value_of old kind ≡ version.value_of given kind) ⊎ IsCompletedAt version wanted given old kind → IsCompletedAt version wanted given new kind
+    completed_here kind old new is (inl kept) = is.here ∙ ap (λ each. option_or each (wanted kind)) kept
+    completed_here kind old new is (inr done) = is.here ∙ ap (λ each. option_or each (wanted kind)) done ∙ or_twice (version.value_of given kind) (wanted kind)
 
-    pub IsCompletedTo-more : (index : ℕ) (kind : K) → slice_get version.printed index ≡ Some kind → (old new : V) → IsCopied version own kind old new → IsCompletedTo version given own index old → IsCompletedTo version given own (index + 1) new
+    pub IsCompletedTo-more : (index : ℕ) (kind : K) → slice_get version.printed index ≡ Some kind → (old new : V) → IsCopied version kind (wanted kind) old new → IsCompletedTo version wanted given index old → IsCompletedTo version wanted given (index + 1) new
     IsCompletedTo-more index kind at old new is before =
         let here = completed_here kind old new is (before.either kind) in
-        let at_kind : (other : K) → kind ≡ other → IsCompletedAt version given own new other = λ other same. subst (IsCompletedAt version given own new) same here in
+        let at_kind : (other : K) → kind ≡ other → IsCompletedAt version wanted given new other = λ other same. subst (IsCompletedAt version wanted given new) same here in
         record {
           completed = λ other below. elim (cases_lt (place_of version other) index) [
             | inl earlier ↦ elim (is.others other) [ inl same ↦ at_kind other (sym same) | inr same ↦ same ∙ before.completed other earlier ]
@@ -216,5 +215,5 @@ module _ {V K : Type 0} (version : Version V K) (version_laws : VersionLaws vers
           front = is.front ∙ before.front;
         }
 
-    pub IsCompletedTo-all : (v : V) → IsCompletedTo version given own (length version.printed) v → (kind : K) → IsCompletedAt version given own v kind
+    pub IsCompletedTo-all : (v : V) → IsCompletedTo version wanted given (length version.printed) v → (kind : K) → IsCompletedAt version wanted given v kind
     IsCompletedTo-all v all kind = all.completed kind (slice_get_within version.printed (place_of version kind) kind (version_laws.placed kind))

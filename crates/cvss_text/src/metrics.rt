@@ -2,7 +2,6 @@
 
 ghost use Rattle.std.specs.Prelude.{◌≡◌, List, option_copied};
 ghost use Rattle.std.specs.Iterator.{YieldsFirstBy, item_count};
-ghost use Rattle.cvss_base.specs.Text.{value_part};
 ghost use Rattle.cvss_base.specs.Version.{held};
 ghost use Rattle.cvss_text.specs.Listing.{listed_metrics, metrics_left, as_listed};
 
@@ -56,19 +55,11 @@ impl<V: Listed> Iterator for Metrics<V> {
 }
 
 /// How the vector's value for a metric is spelled.
-#[tactic(auto, using(crate::proofs::LawLemmas::helds))]
+#[tactic(auto, using(crate::proofs::LawLemmas::spellings))]
 pub fn spelled<V: Printed>(vector: &V, kind: V::Kind) -> Option<&'static str>
     ensures { option_copied result ≡ held V.version vector.now kind }
 {
-    Some(after_colon(vector.with_slash(kind)?))
-}
-
-/// What follows the first colon.
-fn after_colon(component: &'static str) -> &'static str
-    ensures { result.now ≡ value_part component.now }
-{
-    match component.split_once(':') {
-        Some((_, spelling)) => spelling,
-        None => "",
-    }
+    let component = vector.with_slash(kind)?;
+    // after a slash, the name and a colon
+    Some(&component[V::name(kind).len() + 2..])
 }

@@ -5,9 +5,9 @@ ghost use Rattle.std.specs.Prelude.{◌≡◌, ◌≤◌, IfOk, IfErr, OnOk, Som
 ghost use Rattle.cvss_base.specs.Text.{pieces};
 ghost use Rattle.cvss_base.specs.Version.{AreComponentsOf};
 ghost use Rattle.cvss_text.specs.Setting.{IsBuildReason, IsBuilt, IsFirstWrong, IsSet, IsSetReason, components_in};
-ghost use Rattle.cvss_text.specs.private.SettingSteps.{IsAnswered, IsCopied, IsWrongFor};
+ghost use Rattle.cvss_text.specs.private.SettingSteps.{IsAnswered, IsCopied, IsWrongFor, kept};
 ghost use Rattle.cvss_text.specs.private.Walk.{Adds, HasNoValue, reason_of};
-ghost use Rattle.std.specs.Option.{option_or};
+ghost use Rattle.std.specs.Option.{option_copied, option_or};
 
 use crate::metrics::spelled;
 use crate::pieces::{front_of, is_component, pieces_of};
@@ -31,7 +31,7 @@ pub fn set<'a, V: Printed>(
         return Ok(*vector);
     }
     match read_given(text, empty) {
-        Ok(given) => Ok(completed(given, vector)),
+        Ok(given) => Ok(completed(given, vector, None)),
         Err((index, fault)) => Err((Some(index), fault)),
     }
 }
@@ -95,28 +95,34 @@ fn read_one<'a, V: Components>(piece: &'a [u8], given: &mut V) -> Result<(), Fau
     read_component(piece, given)
 }
 
-/// The given vector with the values of another for all metrics for which it has none.
-fn completed<V: Printed>(given: V, own: &V) -> V
+/// The given vector with the values of another for all metrics for which it has none, but those that
+/// are spelled as what is left out, if something is.
+pub fn completed<V: Printed>(given: V, own: &V, left_out: Option<&[u8]>) -> V
     ensures values { (kind : V.Kind) → V.version.value_of result kind
-        ≡ option_or (V.version.value_of given kind) (V.version.value_of own.now kind) }
+        ≡ option_or (V.version.value_of given kind)
+        (kept V.version (option_copied left_out.entry) own.now kind) }
     ensures front { V.version.front result ≡ V.version.front given }
 {
     let mut vector = given;
     for kind in V::printed() {
-        copy_value(own, *kind, &mut vector);
+        copy_value(own, *kind, left_out, &mut vector);
     }
     vector
 }
 
-/// Copies the value of a vector for a metric into another that has none.
-fn copy_value<V: Printed>(own: &V, kind: V::Kind, vector: &mut V)
-    ensures { IsCopied V.version own.now kind vector.old vector.new }
+/// Copies the value of a vector for a metric into another that has none, unless it is left out.
+fn copy_value<V: Printed>(own: &V, kind: V::Kind, left_out: Option<&[u8]>, vector: &mut V)
+    ensures { IsCopied V.version kind (kept V.version (option_copied left_out.entry) own.now kind)
+        vector.old vector.new }
 {
     if spelled(vector, kind).is_some() {
         return;
     }
-    if let Some(spelling) = spelled(own, kind) {
-        // The metric has this value, and the vector has none.
-        let _ = vector.put(kind, spelling.as_bytes());
+    match spelled(own, kind) {
+        Some(spelling) if left_out != Some(spelling.as_bytes()) => {
+            // The metric has this value, and the vector has none.
+            let _ = vector.put(kind, spelling.as_bytes());
+        }
+        _ => {}
     }
 }

@@ -1,9 +1,9 @@
 -- What the private code that sets metrics does at each step.
-use Rattle.std.specs.Prelude.{◌≡◌, ◌⊎◌, ℕ, ◌≤◌, List, length, Option, IfSome, Result, Ok, IfOk, IfErr, IsErrAnd}
-use Rattle.std.specs.Option.{option_or}
+use Rattle.std.specs.Prelude.{◌≡◌, ◌⊎◌, ℕ, ◌≤◌, Bool, true, not, if◌then◌else◌, List, length, bytes_eq, Option, Some, None, IfSome, Result, Ok, IfOk, IfErr, IsErrAnd}
+use Rattle.std.specs.Option.{option_map_or, option_or}
 use Rattle.cvss_base.specs.Refusal.{Refusal, BadComponent}
 use Rattle.cvss_base.specs.Text.{IsComponent}
-use Rattle.cvss_base.specs.Version.{Version}
+use Rattle.cvss_base.specs.Version.{Version, held}
 use Rattle.cvss_text.specs.private.Walk.{IsFaultOf, reason_of}
 use Rattle.cvss_text.specs.declared.walk.Fault.{Fault}
 
@@ -12,9 +12,18 @@ abbrev pub IsWrongFor : {V K : Type 0} → Version V K → V → List ℕ → Re
 IsWrongFor version v piece (BadComponent text) = (text ≡ piece) × ¬ (IsComponent piece)
 IsWrongFor version v piece reason = IsComponent piece × IsFaultOf version v piece reason
 
--- a vector has the value of another for a metric where it had none, and keeps all else
-pub record IsCopied {V K : Type 0} (version : Version V K) (own : V) (kind : K) (old new : V) : Type 0 where
-  pub here : version.value_of new kind ≡ option_or (version.value_of old kind) (version.value_of own kind)
+-- whether a value with this spelling is kept, where one may be left out
+abbrev pub is_kept : Option (List ℕ) → Option (List ℕ) → Bool
+is_kept None spelling = true
+is_kept (Some text) spelling = option_map_or (λ each. not (bytes_eq text each)) spelling true
+
+-- the value of a vector for a metric, unless it is left out
+abbrev pub kept : {V K : Type 0} → (version : Version V K) → Option (List ℕ) → V → (kind : K) → Option (version.Value kind)
+kept version left_out own kind = if is_kept left_out (held version own kind) then version.value_of own kind else None
+
+-- a vector has this value for a metric where it had none, and keeps all else
+pub record IsCopied {V K : Type 0} (version : Version V K) (kind : K) (value : Option (version.Value kind)) (old new : V) : Type 0 where
+  pub here : version.value_of new kind ≡ option_or (version.value_of old kind) value
   pub others : (other : K) → (other ≡ kind) ⊎ (version.value_of new other ≡ version.value_of old other)
   pub front : version.front new ≡ version.front old
 

@@ -1,6 +1,9 @@
 use Rattle.cvss_any.specs.Answers.{text_of}
-use Rattle.cvss_lines.proofs.TextsLemmas.{appended}
-use Rattle.cvss_answer.proofs.answer.write_text.Goals as goal
+use Rattle.std.proofs.lemmas.Fmt.{contents_after_writes}
+use Rattle.cvss_lines.specs.declared.buffered.OutputBuffer.{OutputBuffer}
+use Rattle.cvss_explain_answers.proofs.text.write_text.Goals as goal
 
-pub returns : goal.returns
-returns c = appended c.write.result c.args.answers.now c.write.new.self (text_of c.args.vector.now) c.write.ensures.writes
+pub returns-in-Ok : goal.returns-in-Ok
+returns-in-Ok c =
+    contents_after_writes _ (λ (answers : OutputBuffer). answers.bytes.items) (λ old bytes new is. is) c.args.answers.now (text_of c.args.cvss.now) c.write.new.self
+    c.in-Ok.ensures.writes

@@ -4,7 +4,7 @@ use Rattle.cvss_text.specs.private.Walk.{IsFirstOfPieces, reason_of}
 use Rattle.cvss_v2.specs.Vector.{v2}
 use Rattle.cvss_any.specs.declared.reading.ReadFault.TheVariants as reported
 use Rattle.cvss_any.specs.declared.vector.Cvss.TheVariants.{CvssV20}
-use Rattle.cvss_any.proofs.ReadLemmas.{none_missing, read_any}
+use Rattle.cvss_any.proofs.ReadLemmas.{read_any}
 use Rattle.cvss_any.proofs.one_version.V2VectorOneVersion.reads_by_its_rules.Goals as goal
 
 pub returns-clause-read : goal.returns-clause-read
@@ -14,6 +14,3 @@ returns-clause-read c =
     (λ v denotes _ complete. record { denoted = denotes; complete = complete })
     (λ fault first. record { own = reason_of v2 fault; first = subst (λ parts. IsFirstOfPieces v2 parts (reason_of v2 fault)) (sym is.cut) first; is = refl })
     (λ fault printable. printable) c.args._empty c.requires.front
-
-pub returns-clause-complete : goal.returns-clause-complete
-returns-clause-complete c = λ allow_incomplete v _. none_missing allow_incomplete (CvssV20 v) refl

@@ -1,12 +1,7 @@
-use Rattle.std.proofs.Common.{refl}
-use Rattle.cvss_any.specs.declared.vector.Cvss.TheVariants.{CvssV40}
-use Rattle.cvss_any.proofs.ReadLemmas.{none_missing, read_v4}
+use Rattle.cvss_any.proofs.ReadLemmas.{read_v4}
 use Rattle.cvss_any.proofs.one_version.V4VectorOneVersion.reads_by_its_rules.Goals as goal
 
 pub returns-clause-read : goal.returns-clause-read
 returns-clause-read c =
     let is = c.requires.routed in
     read_v4 c.args._text.now c.args._components.now c.args._minor is.known is.routed is.cut c.args._empty c.requires.front
-
-pub returns-clause-complete : goal.returns-clause-complete
-returns-clause-complete c = λ allow_incomplete v _. none_missing allow_incomplete (CvssV40 v) refl

@@ -1,6 +1,0 @@
-use Rattle.std.proofs.Common.{rules}
-use Rattle.cvss_base.specs.declared.v4.MetricType.TheVariants.{AC}
-use Rattle.cvss_any.proofs.one_version.V4VectorOneVersion.without_metrics.Goals as goal
-
-pub returns-clause-valueless : goal.returns-clause-valueless
-returns-clause-valueless c = record { none = elim [ AC ↦ search rules | _ ↦ search rules ] }
