@@ -4,7 +4,7 @@ ghost use Rattle.std.specs.Prelude.{◌≡◌};
 ghost use Rattle.cvss_subcommands.specs.Scoring.{Scores, ServesTable};
 
 use crate::flags::Flags;
-use crate::tasks::{Score, ScoreRow};
+use crate::tasks::{Score, ScoreIncomplete, ScoreRow};
 use cvss_lines::write_whole;
 use cvss_program::{EachLine, Files, Served, WatchedReader, are_many, serve_operands};
 use cvss_rows::{Format, header};
@@ -43,10 +43,12 @@ pub(crate) fn score<F: Files, R: Read, W: Write, E: Write>(
             writer,
             report,
         )
+    } else if allow_incomplete {
+        let answer = ScoreIncomplete;
+        let task = EachLine { answer };
+        serve_operands(alloc, &task, operands, files, reader, writer, report)
     } else {
-        let task = EachLine {
-            answer: Score { allow_incomplete },
-        };
+        let task = EachLine { answer: Score };
         serve_operands(alloc, &task, operands, files, reader, writer, report)
     }
 }

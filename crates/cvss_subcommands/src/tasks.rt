@@ -13,15 +13,12 @@ use cvss_rows::{Format, Rows};
 use std::alloc::{AllocError, Global};
 use std::io::{Read, Write};
 
-/// Scores the vector.
+/// Scores the vector, which has to be complete.
 #[derive(Drop)]
-pub(crate) struct Score {
-    /// A vector of CVSS v3 may lack base metrics.
-    pub(crate) allow_incomplete: bool,
-}
+pub(crate) struct Score;
 
 impl Answering for Score {
-    ghost rule = { λ score. score_rule score.allow_incomplete };
+    ghost rule = { λ _. score_rule false };
 
     #[inline(always)]
     fn answer_line(
@@ -31,11 +28,34 @@ impl Answering for Score {
         line: &[u8],
         answers: &mut OutputBuffer,
     ) -> Result<bool, AllocError> {
-        answer_score(line, self.allow_incomplete, answers)
+        answer_score(line, false, answers)
     }
 }
 
 impl LineAnswer for Score {
+    ghost one_text = { λ _. is_one_text _ _ };
+}
+
+/// Scores the vector, which may lack base metrics if it is one of CVSS v3.
+#[derive(Drop)]
+pub(crate) struct ScoreIncomplete;
+
+impl Answering for ScoreIncomplete {
+    ghost rule = { λ _. score_rule true };
+
+    #[inline(always)]
+    fn answer_line(
+        &self,
+        _alloc: Global,
+        _number: u64,
+        line: &[u8],
+        answers: &mut OutputBuffer,
+    ) -> Result<bool, AllocError> {
+        answer_score(line, true, answers)
+    }
+}
+
+impl LineAnswer for ScoreIncomplete {
     ghost one_text = { λ _. is_one_text _ _ };
 }
 
