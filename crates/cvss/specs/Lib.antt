@@ -53,7 +53,6 @@ pub use Rattle.cvss_v3.specs.VectorWeights as WeightsV3
 pub use Rattle.cvss_v3.specs.declared.vector.Vector as VectorTypeV3
 pub use Rattle.cvss_v4_metric.specs.Metrics as MetricsV4
 pub use Rattle.cvss_v4_metric.specs.Reading as ReadingV4
-pub use Rattle.cvss_v4_metric.specs.Table as RanksV4
 pub use Rattle.cvss_v4_metric.specs.Table as TableV4
 pub use Rattle.cvss_score.specs.v4.AsSevere as AsSevereV4
 pub use Rattle.cvss_score.specs.v4.Classes as ClassesV4

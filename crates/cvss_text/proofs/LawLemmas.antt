@@ -25,7 +25,7 @@ pub record IsCutAt {K : Type 0} (printed : List K) (kind : K) : Type 0 where
 
 module _ {V K : Type 0} (version : Version V K) (version_laws : VersionLaws version) where
   -- what holds of each printed metric holds of each metric
-  at_each : {Y : Type 0} (f g : K → Y) → map f version.printed ≡ map g version.printed → (kind : K) → f kind ≡ g kind
+  pub at_each : {Y : Type 0} (f g : K → Y) → map f version.printed ≡ map g version.printed → (kind : K) → f kind ≡ g kind
   at_each {Y} f g same kind =
       let at : (h : K → Y) → slice_get (map h version.printed) (place_of version kind) ≡ Some (h kind) = λ h. slice_get-map h version.printed (place_of version kind) ∙ ap (option_map h) (version_laws.placed kind) in
       same_Some (f kind) (g kind) (sym (at f) ∙ (ap (λ list. slice_get list (place_of version kind)) same ∙ at g))

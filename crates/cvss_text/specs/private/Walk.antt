@@ -1,6 +1,6 @@
 -- What the private walk over the components does at each step. What callers rely on is in
 -- Version and Refusal.
-use Rattle.std.specs.Prelude.{◌≡◌, ◌≢◌, ℕ, ◌⊎◌, List, [], ◌∷◌, ◌++◌, length, map, Option, Some, None, IsSome, Result, Ok, IfOk, OnOk, IfErr, OnErr, IsErrAnd, Contains, slice_get, find, is_none, ⊤}
+use Rattle.std.specs.Prelude.{◌≡◌, ◌≢◌, ℕ, ◌⊎◌, List, [], ◌∷◌, ◌++◌, length, map, Option, Some, None, IsSome, Result, Ok, IfOk, OnOk, IfErr, OnErr, IsErrAnd, Contains, slice_get, find, is_none, ⊤, if◌then◌else◌, bytes_eq}
 use Rattle.std.specs.List.{All, range_with_len, sum_by}
 use Rattle.std.specs.Borrow.{Bor}
 use Rattle.std.specs.Str.{IsUtf8}
@@ -12,7 +12,7 @@ use Rattle.cvss_text.specs.private.Printing.{texts_with_slash}
 use Rattle.cvss_base.specs.laws.Order.{place_in}
 use Rattle.cvss_base.specs.private.Component.{delimiter_bytes}
 use Rattle.cvss_base.specs.Text.{slash, pieces, IsComponent, name_part, value_part, component}
-use Rattle.cvss_base.specs.Version.{Version, read, reading, version_piece, AreComponentsOf, Denotes, IsComplete, IsWellFormed}
+use Rattle.cvss_base.specs.Version.{Version, held, read, reading, version_piece, AreComponentsOf, Denotes, IsComplete, IsWellFormed}
 use Rattle.cvss_base.specs.Refusal.{Refusal, BadComponent, WrongPrefix, WrongVersion, UnknownName, BadValue, Repeated, Missing, Spells, IsFirstReason, BadPiecesFirst, IsReasonAfter, IsWrongPrefix, IsWrongVersion}
 
 -- the place of a metric in the printing order, which its name says
@@ -66,6 +66,10 @@ pub record Puts {V K : Type 0} (version : Version V K) (old : V) (kind : K) (tex
   pub fills : Fills (reading version kind) (version.value_of old kind) text (version.value_of new kind)
   pub others : (other : K) → (other ≡ kind) ⊎ (version.value_of new other ≡ version.value_of old other)
   pub front : version.front new ≡ version.front old
+
+-- what a vector holds for each metric but one, with its front
+abbrev pub elsewhere : {V K : Type 0} → Version V K → K → V → List (List ℕ) × List (Option (List ℕ))
+elsewhere version here v = (version.front v, map (λ other. if bytes_eq (version.name other) (version.name here) then None else held version v other) version.printed)
 
 -- what putting a value into a vector answers
 pub record IsPut {V K : Type 0} (version : Version V K) (old : V) (kind : K) (text : List ℕ) (answer : Result (Unit {0}) ComponentError) (new : V) : Type 0 where

@@ -1,9 +1,11 @@
 //! How a vector is filled from its components.
 
-ghost use Rattle.std.specs.Prelude.{false, ⊤};
+ghost use Rattle.std.specs.Prelude.{false, ⊤, ◌≡◌};
 ghost use Rattle.cvss_base.specs.V2Types.{name_of};
+ghost use Rattle.cvss_base.specs.Version.{read, reading};
+ghost use Rattle.cvss_text.specs.private.Walk.{IsFilled, IsPut, elsewhere};
 ghost use Rattle.cvss_v2_metric.specs.Table.{spelling_of};
-ghost use Rattle.cvss_v2.specs.Vector.{v2};
+ghost use Rattle.cvss_v2.specs.Vector.{v2, value_at};
 ghost use Rattle.cvss_v2.specs.private.VectorLaws.{v2_laws};
 
 use super::cutting::cut_named;
@@ -20,9 +22,14 @@ const PRINTED: &[MetricType] = &each_metric!(kinds!(MetricType));
 
 /// Fills the field of the metric that is asked for.
 macro_rules! fill_at {
-    (($vector:ident, $kind:ident, $value:ident) $($name:ident $field:ident $values:ty,)*) => {
+    (($vector:ident, $kind:ident, $value:ident, $old:ident)
+     $($name:ident $field:ident $values:ty,)*) => {
         match $kind {
-            $(MetricType::$name => fill::<Vector, _>(&mut $vector.$field, $value),)*
+            $(MetricType::$name => {
+                let answer = fill::<Vector, _>(&mut $vector.$field, $value);
+                fills_one($kind, MetricType::$name, &$old, $value, &answer, $vector);
+                answer
+            })*
         }
     };
 }
@@ -71,7 +78,9 @@ impl Components for Vector {
 
     #[inline(always)]
     fn put(&mut self, kind: MetricType, value: &[u8]) -> Result<(), ComponentError> {
-        each_metric!(fill_at!(self, kind, value))
+        // What it held is for the law alone.
+        let old = *self;
+        each_metric!(fill_at!(self, kind, value, old))
     }
 
     fn first_missing(&self) -> Option<MetricType> {
@@ -116,3 +125,20 @@ impl<M: MetricValue> Spells<M> for Vector {
         M::read_bytes(&[letter])
     }
 }
+
+/// A law: where the place of a metric is filled and all else is kept, its value is put into a vector.
+#[inline(always)]
+fn fills_one(
+    kind: MetricType,
+    here: MetricType,
+    old: &Vector,
+    value: &[u8],
+    answer: &Result<(), ComponentError>,
+    new: &Vector,
+)
+    requires here { kind ≡ here }
+    requires filled { IsFilled (reading v2 here) (value_at old.now here) (read v2 value.now)
+        answer.now (value_at new.now here) }
+    requires kept { elsewhere v2 here new.now ≡ elsewhere v2 here old.now }
+    ensures { IsPut v2 old.now kind (read v2 value.now) answer.now new.now }
+{}

@@ -2,10 +2,11 @@
 
 ghost use Rattle.std.specs.Prelude.{◌≡◌, None, true};
 ghost use Rattle.cvss_base.specs.V3Types.{name_of};
-ghost use Rattle.cvss_text.specs.private.Walk.{HasNoValue};
+ghost use Rattle.cvss_text.specs.private.Walk.{HasNoValue, IsFilled, IsPut, elsewhere};
+ghost use Rattle.cvss_base.specs.Version.{read, reading};
 ghost use Rattle.cvss_v3_metric.specs.Table.{spelling_of};
 ghost use Rattle.cvss_v3.specs.Complete.{first_missing_base};
-ghost use Rattle.cvss_v3.specs.Vector.{v3};
+ghost use Rattle.cvss_v3.specs.Vector.{v3, value_at};
 ghost use Rattle.cvss_v3.specs.private.VectorLaws.{v3_laws, v3_front_laws};
 
 use super::cutting::cut_named;
@@ -23,9 +24,14 @@ const PRINTED: &[MetricType] = &each_metric!(kinds!(MetricType));
 
 /// Fills the field of the metric that is asked for.
 macro_rules! fill_at {
-    (($vector:ident, $kind:ident, $value:ident) $($name:ident $field:ident $values:ty,)*) => {
+    (($vector:ident, $kind:ident, $value:ident, $old:ident)
+     $($name:ident $field:ident $values:ty,)*) => {
         match $kind {
-            $(MetricType::$name => fill::<Vector, _>(&mut $vector.$field, $value),)*
+            $(MetricType::$name => {
+                let answer = fill::<Vector, _>(&mut $vector.$field, $value);
+                fills_one($kind, MetricType::$name, &$old, $value, &answer, $vector);
+                answer
+            })*
         }
     };
 }
@@ -72,7 +78,9 @@ impl Components for Vector {
 
     #[inline(always)]
     fn put(&mut self, kind: MetricType, value: &[u8]) -> Result<(), ComponentError> {
-        each_metric!(fill_at!(self, kind, value))
+        // What it held is for the law alone.
+        let old = *self;
+        each_metric!(fill_at!(self, kind, value, old))
     }
 
     fn first_missing(&self) -> Option<MetricType> {
@@ -138,3 +146,20 @@ impl<M: MetricValue> Spells<M> for Vector {
         M::read_letter(letter)
     }
 }
+
+/// A law: where the place of a metric is filled and all else is kept, its value is put into a vector.
+#[inline(always)]
+fn fills_one(
+    kind: MetricType,
+    here: MetricType,
+    old: &Vector,
+    value: &[u8],
+    answer: &Result<(), ComponentError>,
+    new: &Vector,
+)
+    requires here { kind ≡ here }
+    requires filled { IsFilled (reading v3 here) (value_at old.now here) (read v3 value.now)
+        answer.now (value_at new.now here) }
+    requires kept { elsewhere v3 here new.now ≡ elsewhere v3 here old.now }
+    ensures { IsPut v3 old.now kind (read v3 value.now) answer.now new.now }
+{}

@@ -2,8 +2,10 @@
 
 ghost use Rattle.std.specs.Prelude.{◌≡◌, true, ⊤};
 ghost use Rattle.cvss_base.specs.V4Types.{name_of};
-ghost use Rattle.cvss_text.specs.private.Walk.{HasNoValue};
+ghost use Rattle.cvss_text.specs.private.Walk.{HasNoValue, IsFilled, IsPut, elsewhere};
+ghost use Rattle.cvss_base.specs.Version.{read, reading};
 ghost use Rattle.cvss_v4_metric.specs.Table.{spelling_at};
+ghost use Rattle.cvss_v4.specs.Table.{value_at};
 ghost use Rattle.cvss_v4.specs.Vector.{v4};
 ghost use Rattle.cvss_v4.specs.private.Shown.{width};
 ghost use Rattle.cvss_v4.specs.private.VectorLaws.{v4_laws, v4_front_laws};
@@ -24,9 +26,14 @@ const PRINTED: &[MetricType] = &each_metric!(kinds!(MetricType));
 
 /// Fills the field of the metric that is asked for.
 macro_rules! fill_at {
-    (($vector:ident, $kind:ident, $value:ident) $($name:ident $field:ident $values:ty,)*) => {
+    (($vector:ident, $kind:ident, $value:ident, $old:ident)
+     $($name:ident $field:ident $values:ty,)*) => {
         match $kind {
-            $(MetricType::$name => fill::<Vector, _>(&mut $vector.$field, $value),)*
+            $(MetricType::$name => {
+                let answer = fill::<Vector, _>(&mut $vector.$field, $value);
+                fills_one($kind, MetricType::$name, &$old, $value, &answer, $vector);
+                answer
+            })*
         }
     };
 }
@@ -73,7 +80,9 @@ impl Components for Vector {
 
     #[inline(always)]
     fn put(&mut self, kind: MetricType, value: &[u8]) -> Result<(), ComponentError> {
-        each_metric!(fill_at!(self, kind, value))
+        // What it held is for the law alone.
+        let old = *self;
+        each_metric!(fill_at!(self, kind, value, old))
     }
 
     fn first_missing(&self) -> Option<MetricType> {
@@ -146,3 +155,20 @@ impl<M: MetricValue> Spells<M> for Vector {
         M::read_letter(letter)
     }
 }
+
+/// A law: where the place of a metric is filled and all else is kept, its value is put into a vector.
+#[inline(always)]
+fn fills_one(
+    kind: MetricType,
+    here: MetricType,
+    old: &Vector,
+    value: &[u8],
+    answer: &Result<(), ComponentError>,
+    new: &Vector,
+)
+    requires here { kind ≡ here }
+    requires filled { IsFilled (reading v4 here) (value_at old.now here) (read v4 value.now)
+        answer.now (value_at new.now here) }
+    requires kept { elsewhere v4 here new.now ≡ elsewhere v4 here old.now }
+    ensures { IsPut v4 old.now kind (read v4 value.now) answer.now new.now }
+{}
