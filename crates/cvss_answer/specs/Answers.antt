@@ -10,7 +10,7 @@ use Rattle.cvss_any.specs.Reasons.{error_message}
 use Rattle.cvss_any.specs.declared.refusal.ReadError.{ReadError}
 use Rattle.cvss_any.specs.declared.published.Bounds.{Bounds}
 use Rattle.cvss_any.specs.declared.published.Published.{Published}
-use Rattle.cvss_lines.specs.Answers.{Rule, by_one_text, written_text}
+use Rattle.cvss_lines.specs.Answers.{Rule, by_one_text}
 
 -- the line is a text that denotes a vector of some version, which lacks no base metric unless it may, and the answer is
 -- this vector's
@@ -37,12 +37,6 @@ score_rule allow_incomplete = by_one_text (λ number. IsAcceptance allow_incompl
 -- this is an answer to the line where vectors of CVSS v3 may lack base metrics
 abbrev pub IsAnswer : Rule
 IsAnswer = score_rule true
-
--- the vector's answer and a byte 10 are written after the earlier answers
-pub record WritesVector (vector : Cvss) (old new : List ℕ) : Type 0 where
-  pub tenths : ℕ
-  pub scored : IsScoreOf vector (score_of_tenths tenths)
-  pub written : new ≡ old ++ written_text (vector_answer vector tenths)
 
 -- what follows a vector's text in its answer: a score of so many tenths and its rating within these bounds, each
 -- after a blank, and a byte 10

@@ -1,9 +1,10 @@
 //! The answer to one line.
 
 ghost use Rattle.std.specs.Prelude.{◌≡◌, ℕ, ◌++◌, ◌≤◌, IfOk, OnOk};
-ghost use Rattle.cvss_any.specs.Answers.{HasScore, text_of};
-ghost use Rattle.cvss_lines.specs.Answers.{WritesAnswer};
-ghost use Rattle.cvss_answer.specs.Answers.{IsAnswer, WritesVector, error_line, score_line, score_rule, vector_line};
+ghost use Rattle.cvss_any.specs.Answers.{text_of, vector_answer};
+ghost use Rattle.cvss_any.specs.Published.{IsPublished};
+ghost use Rattle.cvss_lines.specs.Answers.{WritesAnswer, written_text};
+ghost use Rattle.cvss_answer.specs.Answers.{IsAnswer, error_line, score_line, score_rule, vector_line};
 
 use crate::score_line::score_line;
 use crate::segments::push_segments;
@@ -97,18 +98,28 @@ pub fn write_canonical(
     Vectors::accept(text, published, &mut answers.bytes)
 }
 
-/// Writes the answer of a vector, and a byte 10.
-pub(crate) fn write_vector(vector: &Cvss, answers: &mut OutputBuffer) -> fmt::Result
-    requires { HasScore vector.now }
-    ensures { OnOk result
-        (WritesVector vector.now answers.old.bytes.items answers.new.bytes.items) }
+/// Writes a vector's text with what is published of it, and a byte 10: the vector's answer.
+///
+/// # Errors
+///
+/// Out of memory. A beginning of the answer may be written then.
+pub fn write_vector(
+    vector: &Cvss,
+    published: Published,
+    answers: &mut OutputBuffer,
+) -> Result<(), AllocError>
+    requires { IsPublished vector.now published }
+    ensures { OnOk result (answers.new.bytes.items ≡ answers.old.bytes.items
+        ++ written_text (vector_answer vector.now published.tenths)) }
 {
-    write_text(vector, answers)?;
-    answers.push(score_line(vector.published()).as_bytes())?;
-    Ok(())
+    if write_text(vector, answers).is_err() {
+        return Err(AllocError);
+    }
+    answers.push(score_line(published).as_bytes())
 }
 
 /// Writes a vector's text.
+#[tactic(auto, using(cvss_lines::proofs::TextsLemmas::appended))]
 fn write_text(vector: &Cvss, answers: &mut OutputBuffer) -> fmt::Result
     ensures { OnOk result
         (answers.new.bytes.items ≡ answers.old.bytes.items ++ text_of vector.now) }

@@ -26,10 +26,10 @@ pub fn answer_with_metrics(
         answers.old.bytes.items answers.new.bytes.items) }
 {
     match vector_with(line, metrics) {
-        Ok(vector) => match write_vector(&vector, answers) {
-            Ok(()) => Ok(true),
-            Err(_) => Err(AllocError),
-        },
+        Ok(vector) => {
+            write_vector(&vector, vector.published(), answers)?;
+            Ok(true)
+        }
         Err(error) => {
             write_error(error, answers)?;
             Ok(false)

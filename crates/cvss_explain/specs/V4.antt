@@ -1,9 +1,9 @@
 -- The explanation of a score of CVSS v4.0: specification, section 8.2. Members are in the order of their names.
-use Rattle.std.specs.Prelude.{◌≡◌, ℕ, ◌-◌, List, [], ◌∷◌, ◌++◌, codes, flat_map, map, pos, Option, Some, None}
+use Rattle.std.specs.Prelude.{◌≡◌, ℕ, ◌-◌, List, [], ◌∷◌, codes, flat_map, map, pos, Option, Some, None}
 use Rattle.std.specs.Fmt.{decimal}
 use Rattle.cvss_any.specs.declared.vector.Cvss.{Cvss}
 use Rattle.cvss_v4.specs.Nomenclature.{nomenclature_of, text_of as nomenclature_text}
-use Rattle.cvss_json_write.specs.Json.{Member, array_text, decimal_text, object_text, string_text, tenths_text}
+use Rattle.cvss_json_write.specs.Json.{array_text, decimal_text, object_text, string_text, tenths_text}
 use Rattle.cvss_score.specs.v4.Explanation.{IsExplanation}
 use Rattle.cvss_v4.specs.Merging.{effective_of}
 use Rattle.cvss_score.specs.declared.v4.nomenclature.Nomenclature.{Nomenclature}
@@ -76,24 +76,19 @@ abbrev pub groups_text : MacroVector → ℕ → Option GroupExplanations → Li
 groups_text class value None = array_text []
 groups_text class value (Some groups) = array_text (map (group_text value) (named class groups))
 
--- the class, the mean of what the groups take from its value, the nomenclature, and the number that is left
-abbrev pub class_members : Explanation → Nomenclature → List Member
-class_members explanation nomenclature =
-    (codes "macroVector", string_text (class_text explanation.class))
-    ∷ (codes "mean", decimal_text (pos (nearest_to explanation.mean 504_000)))
-    ∷ (codes "nomenclature", string_text (nomenclature_text nomenclature))
-    ∷ (codes "number", decimal_text (pos (nearest_to explanation.number 504_000)))
-    ∷ []
-
--- the explanation of a score of so many tenths, with these numbers
+-- the explanation of a score of so many tenths, with the class, the mean of what the groups take from its value, and the
+-- number that is left
 abbrev pub explanation_text : Option ℕ → Cvss → ℕ → Nomenclature → Explanation → List ℕ
 explanation_text line cvss tenths nomenclature explanation =
     object_text (
     (codes "effective", object_text (effective_members explanation.effective))
     ∷ (codes "groups", groups_text explanation.class explanation.value explanation.groups)
     ∷ with_line line (
-    class_members explanation nomenclature
-    ++ score_member tenths
+    (codes "macroVector", string_text (class_text explanation.class))
+    ∷ (codes "mean", decimal_text (pos (nearest_to explanation.mean 504_000)))
+    ∷ (codes "nomenclature", string_text (nomenclature_text nomenclature))
+    ∷ (codes "number", decimal_text (pos (nearest_to explanation.number 504_000)))
+    ∷ score_member tenths
     ∷ severity_member cvss tenths
     ∷ (codes "value", tenths_text explanation.value)
     ∷ vector_member cvss

@@ -1,9 +1,8 @@
 //! The explanation of a score of CVSS v4.0 (specification, section 8.2).
 
-ghost use Rattle.std.specs.Prelude.{◌≡◌, ◌≤◌, [], length};
+ghost use Rattle.std.specs.Prelude.{◌≡◌, []};
 ghost use Rattle.cvss_base.specs.Version.{IsComplete};
 ghost use Rattle.cvss_explain.specs.V4.{IsExplanationText};
-ghost use Rattle.cvss_v4.specs.Nomenclature.{text_of as nomenclature_text};
 ghost use Rattle.cvss_v4.specs.Vector.{v4};
 
 mod effective;
@@ -12,7 +11,7 @@ use crate::groups::fraction;
 use crate::parts::{Explained, Value};
 use cvss_any::Cvss;
 use cvss_json_write::{Page, Scalar, put_object};
-use cvss_v4::{Nomenclature, Vector};
+use cvss_v4::Vector;
 pub(crate) use effective::{EFFECTIVE, Letters};
 
 /// Writes why a complete vector has its score.
@@ -30,7 +29,7 @@ pub(crate) fn put_explanation(
     let explanation = vector.explanation();
     let mean = fraction(explanation.mean, 504_000);
     let number = fraction(explanation.number, 504_000);
-    let nomenclature = nomenclature_text(vector.nomenclature());
+    let nomenclature = vector.nomenclature().as_str();
     put_object(
         page,
         &Explained { cvss },
@@ -49,16 +48,4 @@ pub(crate) fn put_explanation(
             ("version", Value::Version),
         ],
     );
-}
-
-fn nomenclature_text(nomenclature: Nomenclature) -> &'static str
-    ensures text { result.now ≡ nomenclature_text nomenclature }
-    ensures short { length result.now ≤ 8 }
-{
-    match nomenclature {
-        Nomenclature::CvssB => "CVSS-B",
-        Nomenclature::CvssBE => "CVSS-BE",
-        Nomenclature::CvssBT => "CVSS-BT",
-        Nomenclature::CvssBTE => "CVSS-BTE",
-    }
 }

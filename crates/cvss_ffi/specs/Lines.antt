@@ -33,10 +33,6 @@ pub record HasNoRoom (texts : List ℕ) (size written : ℕ) : Type 0 where
   pub answered : IsLineAnswer next answer
   pub large : size < written + length (ended answer)
 
--- no line ends any more, or the answer to the next line has no room
-abbrev pub IsLast : List ℕ → ℕ → ℕ → Type 0
-IsLast texts size written = HasNoEnd texts ⊎ HasNoRoom texts size written
-
 -- the answers to the lines before this rest are at the beginning of the buffer, and after them the buffer is as it was
 pub record HasAnswered (texts rest old now : List ℕ) (written : ℕ) : Type 0 where
   pub lines : List ℕ
@@ -45,9 +41,9 @@ pub record HasAnswered (texts rest old now : List ℕ) (written : ℕ) : Type 0 
   pub answered : AreAnswers lines answers
   pub put : HasPut old answers now written
 
--- so many bytes are read, and all lines answered that end and whose answers have room
+-- so many bytes are read, and all lines answered until none ends any more, or the answer to the next has no room
 pub record AnswersLines (texts old now : List ℕ) (read written : ℕ) : Type 0 where
   pub rest : List ℕ
   pub done : HasAnswered texts rest old now written
   pub read_is : read + length rest ≡ length texts
-  pub last : IsLast rest (length old) written
+  pub last : HasNoEnd rest ⊎ HasNoRoom rest (length old) written

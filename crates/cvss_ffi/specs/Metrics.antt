@@ -18,13 +18,10 @@ padded text = begun (take 8 text) (0 ∷ 0 ∷ 0 ∷ 0 ∷ 0 ∷ 0 ∷ 0 ∷ 0 �
 abbrev pub metric_of : List ℕ → List ℕ → CvssMetric
 metric_of name value = record { name = padded name; value = padded value }
 
--- the metric of this type that a vector has, if it has one
-abbrev pub metric_at : {V K : Type 0} → Version V K → V → K → List CvssMetric
-metric_at version v kind = option_to_list (option_map (λ value. metric_of (version.name kind) value) (held version v kind))
-
--- those of these types that a vector has
+-- the metrics of these types that a vector has
 abbrev pub metrics_at : {V K : Type 0} → Version V K → V → List K → List CvssMetric
-metrics_at version v kinds = flat_map (metric_at version v) kinds
+metrics_at version v kinds =
+    flat_map (λ kind. option_to_list (option_map (λ value. metric_of (version.name kind) value) (held version v kind))) kinds
 
 -- the metrics that a vector has, in the order of its canonical text
 abbrev pub metrics_in_order : Cvss → List CvssMetric

@@ -116,10 +116,7 @@ pub record IsOfVersion (number : ℤ) (metrics said : List ℕ) : Type 0 where
   pub numbered : number_of version ≡ number
   pub why : IsWhyNot (IsBuiltReason version metrics) metrics said
 
--- why no vector is built
-abbrev pub IsBuildReasonText : ℤ → List ℕ → List ℕ → Type 0
-IsBuildReasonText number metrics said = IsNoVersion number said ⊎ IsOfVersion number metrics said
-
 -- the vector of a version that metrics make, or why they make none
 abbrev pub Builds : ℤ → List ℕ → Result Cvss (List ℕ) → Type 0
-Builds number metrics = IsNew (IsBuiltFrom number metrics) (IsBuildReasonText number metrics)
+Builds number metrics =
+    IsNew (IsBuiltFrom number metrics) (λ said. IsNoVersion number said ⊎ IsOfVersion number metrics said)

@@ -40,20 +40,13 @@ pub(crate) fn write_segments(segments: &[Segment<'_>], place: usize, buffer: &mu
     let [segment, rest @ ..] = segments else {
         return place;
     };
-    let end = place + segment_length(segment);
+    let end = place + segment.bytes.len();
     let last = write_segments(rest, end, buffer);
     if last > buffer.len() {
         return last;
     }
     write_segment(*segment, &mut buffer[place..end]);
     last
-}
-
-/// How many bytes a segment has.
-fn segment_length(segment: &Segment<'_>) -> usize
-    ensures { result ≡ length (segment_text segment.now) }
-{
-    segment.bytes.len()
 }
 
 /// Writes a segment into a part of a buffer that is as long.

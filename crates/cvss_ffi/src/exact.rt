@@ -4,18 +4,15 @@
 ghost use Rattle.std.specs.Prelude.{◌≡◌, ◌↔◌, ◌*ℤ◌, ◌^◌, ℤ, pos, [], IfSome, IfNone, IsTrue};
 ghost use Rattle.cvss_base.specs.Exact.{IsWithinLimit, of_count};
 ghost use Rattle.cvss_base.specs.Tenths.{IsInTenths};
-ghost use Rattle.cvss_text.specs.private.Walk.{HasNoValue};
 ghost use Rattle.cvss_v2.specs.Vector.{v2};
 ghost use Rattle.cvss_v3.specs.Vector.{v3};
 ghost use Rattle.cvss_ffi.specs.Exact.{AreNumbersOf, AreNumbersV2, AreNumbersV3, IsBeforeV4, IsNoPartial, IsNumber, IsOfPartial, IsPartial, IsRoundedFor, IsRoundedTo, IsTemporalWith, count_in, front_v3};
 
-use crate::empty::{empty_v2, empty_v3};
 use crate::scores::tenths_of as scores_of;
 use crate::{v2, v3};
-use cvss_any::Cvss;
+use cvss_any::{Cvss, Versioned};
 use cvss_base::TENTH;
 use cvss_text::setting::read_given;
-use cvss_text::walk::Components;
 
 /// An exact number: a count of 10^-12 and a count of 10^-24, added.
 #[derive(Drop)]
@@ -67,14 +64,14 @@ pub fn numbers_of(version: i32, metrics: &[u8]) -> Option<CvssNumbers>
 fn partial_v2(metrics: &[u8]) -> Option<CvssNumbers>
     ensures { IsOfPartial v2 [] metrics.now AreNumbersV2 result }
 {
-    let vector = partial(empty_v2(), metrics)?;
+    let vector = partial(0, metrics)?;
     Some(numbers_of_v2(&vector))
 }
 
 fn partial_v3(minor_version: usize, metrics: &[u8]) -> Option<CvssNumbers>
     ensures { IsOfPartial v3 (front_v3 minor_version) metrics.now AreNumbersV3 result }
 {
-    let vector = partial(empty_v3(minor_version), metrics)?;
+    let vector = partial(minor_version, metrics)?;
     Some(numbers_of_v3(&vector))
 }
 
@@ -109,18 +106,18 @@ pub fn temporal(metrics: &[u8], impact: &CvssNumber) -> Option<i32>
     ensures { IsTemporalWith metrics.now impact.now result }
 {
     let count = count_of(impact)?;
-    let vector = partial(empty_v2(), metrics)?;
+    let vector: v2::Vector = partial(0, metrics)?;
     let score = vector.temporal_score_internal(v2::Score::new(count));
     Some(tenths_of(score.value()))
 }
 
-/// The vector with these components, which a text joins by slashes, each once; none is mandatory. A
-/// vector without metrics is given, whose front the vector has.
-fn partial<V: Components>(empty: V, metrics: &[u8]) -> Option<V>
-    requires { HasNoValue V.version empty }
-    ensures is { IfSome result (IsPartial V.version (V.version.front empty) metrics.now) }
-    ensures none { IfNone result (IsNoPartial V.version (V.version.front empty) metrics.now) }
+/// The vector of a minor version with these components, which a text joins by slashes, each once; none
+/// is mandatory.
+fn partial<V: Versioned>(minor_version: usize, metrics: &[u8]) -> Option<V>
+    ensures is { IfSome result (IsPartial V.version (V.front minor_version) metrics.now) }
+    ensures none { IfNone result (IsNoPartial V.version (V.front minor_version) metrics.now) }
 {
+    let empty = V::without_metrics(minor_version);
     let Ok(metrics) = str::from_utf8(metrics) else {
         return None;
     };

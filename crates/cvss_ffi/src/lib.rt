@@ -10,7 +10,6 @@ pub mod answer;
 mod buffer;
 pub mod canonical;
 pub mod defined;
-mod empty;
 pub mod exact;
 pub mod laws;
 pub mod lines;

@@ -3,7 +3,7 @@
 ghost use Rattle.std.specs.Prelude.{◌≡◌, ◌<◌, ◌≤◌, ◌+◌, ◌^◌, ◌++◌, length};
 ghost use Rattle.cvss_any.specs.Reasons.{error_message, reason_text};
 ghost use Rattle.cvss_any.specs.Refusals.{refusal_of};
-ghost use Rattle.cvss_any.specs.Segments.{segment_text, text_of};
+ghost use Rattle.cvss_any.specs.Segments.{text_of};
 ghost use Rattle.cvss_ffi.specs.Buffer.{IsWritten};
 
 use crate::buffer::write_segments;
@@ -46,22 +46,12 @@ fn around<'a>(words: &'a [u8], segments: [Segment<'a>; 5], end: &'a [u8]) -> [Se
 {
     let [first, second, third, fourth, fifth] = segments;
     [
-        plain(words),
+        Segment::given(words),
         first,
         second,
         third,
         fourth,
         fifth,
-        plain(end),
+        Segment::given(end),
     ]
-}
-
-/// Bytes as they are.
-fn plain(bytes: &[u8]) -> Segment<'_>
-    ensures { segment_text result ≡ bytes.now }
-{
-    Segment {
-        bytes,
-        upper: false,
-    }
 }

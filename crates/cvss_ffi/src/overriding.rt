@@ -9,11 +9,10 @@ ghost use Rattle.cvss_ffi.specs.Overriding.{IsOverrideReason, IsWithOverrides, S
 ghost use Rattle.cvss_ffi.specs.Setting.{IsNew};
 ghost use Rattle.cvss_ffi.specs.private.Rejection.{answered, rejection_text};
 
-use crate::empty::empty_v4;
 use crate::refusal::read;
 use crate::rejection::Rejection;
 use crate::v4;
-use cvss_any::{Cvss, Refusal};
+use cvss_any::{Cvss, Refusal, Versioned};
 use cvss_v4::overrides::{OverrideFault, read_override};
 
 /// The vector that a text denotes with overrides in place, or why there is none.
@@ -60,7 +59,7 @@ fn overrides_of(text: &str) -> Result<v4::Vector, (usize, OverrideFault<'_>)>
     ensures refused { IfErr result (λ refused. IsFirstObjection (components_in text.now) refused.0
         (objection_of refused.1)) }
 {
-    let mut overrides = empty_v4(0);
+    let mut overrides = v4::Vector::without_metrics(0);
     if text.is_empty() {
         return Ok(overrides);
     }

@@ -119,7 +119,7 @@ fn copy_value<V: Printed>(own: &V, kind: V::Kind, left_out: Option<&[u8]>, vecto
         return;
     }
     match spelled(own, kind) {
-        Some(spelling) if left_out != Some(spelling.as_bytes()) => {
+        Some(spelling) if Some(spelling.as_bytes()) != left_out => {
             // The metric has this value, and the vector has none.
             let _ = vector.put(kind, spelling.as_bytes());
         }

@@ -1,14 +1,12 @@
 -- Words of the private code: what is read of a text, and texts that are written one after another.
-use Rattle.std.specs.Prelude.{◌≡◌, ◌⊎◌, ℕ, ◌+◌, ◌<◌, ◌≤◌, List, [], ◌++◌, drop, length, take}
+use Rattle.std.specs.Prelude.{◌≡◌, ℕ, ◌+◌, ◌<◌, ◌≤◌, List, [], ◌++◌, drop, length, take}
 use Rattle.cvss_any.specs.Answers.{IsScoreOf, rating_by, score_of_tenths}
 use Rattle.cvss_base.specs.SeverityText.{text_of as severity_text}
 use Rattle.cvss_base.specs.Tenths.{tenths_text}
 use Rattle.cvss_any.specs.Reasons.{IsReason, error_message, said_of}
 use Rattle.cvss_any.specs.declared.refusal.ReadError.{ReadError}
 use Rattle.cvss_any.specs.declared.vector.Cvss.{Cvss}
-use Rattle.cvss_base.specs.Version.{Version, held}
 use Rattle.cvss_ffi.specs.Answers.{IsRefused}
-use Rattle.cvss_ffi.specs.Defined.{defined_in}
 use Rattle.cvss_ffi.specs.Refusals.{IsKind, IsQuoted, IsReportedKind, kind_number, not_utf8, quoted_part, reported_name}
 
 -- the text denotes no vector, and the error says what is reported of it
@@ -24,12 +22,6 @@ pub record IsWrittenAt (place : ℕ) (text old now : List ℕ) (reported : ℕ) 
   pub reported_is : reported ≡ place + length text
   pub there : reported ≤ length old → now ≡ take place old ++ (text ++ drop reported old)
   pub left : length old < reported → now ≡ old
-
--- a vector gains the value of another for a metric if this is defined, and keeps all else
-pub record IsCopiedIfDefined {V K : Type 0} (version : Version V K) (undefined : List ℕ) (v : V) (kind : K) (old new : V) : Type 0 where
-  pub here : held version new kind ≡ defined_in version undefined v kind
-  pub others : (other : K) → (other ≡ kind) ⊎ (version.value_of new other ≡ version.value_of old other)
-  pub front : version.front new ≡ version.front old
 
 -- the texts are that of the vector's score, with one decimal, and that of the score's rating
 pub record IsRated (cvss : Cvss) (score rating : List ℕ) : Type 0 where

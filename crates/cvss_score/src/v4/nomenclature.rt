@@ -1,6 +1,6 @@
 //! Which groups of metrics a score rests on (v4.0 specification, section 1.3).
 
-ghost use Rattle.std.specs.Prelude.{◌≡◌, IfOk, IfErr, Ok, Some, is_some};
+ghost use Rattle.std.specs.Prelude.{◌≡◌, ◌≤◌, length, IfOk, IfErr, Ok, Some, is_some};
 ghost use Rattle.cvss_score.specs.v4.Nomenclature.{text_of, nomenclature_with, ReportsNoNomenclature};
 
 use cvss_base::Error;
@@ -19,8 +19,9 @@ pub enum Nomenclature {
 
 impl Nomenclature {
     /// The nomenclature's name.
-    fn as_str(self) -> &'static str
-        ensures { result.now ≡ text_of self }
+    pub fn as_str(self) -> &'static str
+        ensures text { result.now ≡ text_of self }
+        ensures short { length result.now ≤ 8 }
     {
         match self {
             Nomenclature::CvssB => "CVSS-B",

@@ -15,7 +15,7 @@ IsWrongFor version v piece reason = IsComponent piece × IsFaultOf version v pie
 -- whether a value with this spelling is kept, where one may be left out
 abbrev pub is_kept : Option (List ℕ) → Option (List ℕ) → Bool
 is_kept None spelling = true
-is_kept (Some text) spelling = option_map_or (λ each. not (bytes_eq text each)) spelling true
+is_kept (Some text) spelling = option_map_or (λ each. not (bytes_eq each text)) spelling true
 
 -- the value of a vector for a metric, unless it is left out
 abbrev pub kept : {V K : Type 0} → (version : Version V K) → Option (List ℕ) → V → (kind : K) → Option (version.Value kind)

@@ -4,16 +4,16 @@ use Rattle.cvss_any.specs.Reasons.{error_message}
 use Rattle.cvss_lines.proofs.TextsLemmas.{accepted_by, refused_by}
 use Rattle.cvss_answer.proofs.setting.answer_with_metrics.Goals as goal
 
-pub returns-in-Ok-write_vector : goal.returns-in-Ok-write_vector
-returns-in-Ok-write_vector c = λ number.
-    let written = c.in-Ok-write_vector.ensures in
-    accepted_by _ _ number c.args.line.now (vector_answer c.in-Ok.vector written.tenths) _ _ written.written
+pub returns-in_ok-write_vector-in-Ok : goal.returns-in_ok-write_vector-in-Ok
+returns-in_ok-write_vector-in-Ok c = λ number.
+    let published = c.published.result in
+    accepted_by _ _ number c.args.line.now (vector_answer c.in-Ok.vector published.tenths) _ _ c.in_ok-write_vector-in-Ok.ensures
     (record {
       new = c.in-Ok.vector;
       is_set = c.in-Ok.ensures.set;
       complete = c.in-Ok.ensures.complete;
-      tenths = written.tenths;
-      scored = written.scored;
+      tenths = published.tenths;
+      scored = c.published.ensures.scored;
       is = refl;
     })
 

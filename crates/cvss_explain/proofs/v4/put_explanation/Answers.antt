@@ -4,6 +4,6 @@ pub returns : goal.returns
 returns c = record {
   explanation = c.explanation-explanation.result;
   is_explanation = c.explanation-explanation.ensures.explanation;
-  is = rw (c.requires.empty, c.fraction-mean.ensures, c.fraction-number.ensures, c.nomenclature_text-nomenclature.ensures.text, c.nomenclature.ensures)
+  is = rw (c.requires.empty, c.fraction-mean.ensures, c.fraction-number.ensures, c.as_str-nomenclature.ensures.text, c.nomenclature.ensures)
       at c.put_object.ensures.text;
 }

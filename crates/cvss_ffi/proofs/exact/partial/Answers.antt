@@ -1,4 +1,4 @@
-use Rattle.std.proofs.Common.{refl, sym, ap, ◌∙◌, subst, arith}
+use Rattle.std.proofs.Common.{sym, ap, ◌∙◌, subst, arith}
 use Rattle.std.proofs.lemmas.Bool.Decides.{nat_tests}
 use Rattle.cvss_base.specs.Text.{pieces}
 use Rattle.cvss_base.specs.Version.{AreComponentsOf}
@@ -14,21 +14,9 @@ returns-then-is_empty-clause-is g c =
     let none = components_in-none c.in-Ok.metrics.now (grind (arith, nat_tests)) in
     record {
       utf8 = read.1;
-      front_is = refl;
-      components = subst (λ parts. AreComponentsOf version parts c.args.empty) (sym none ∙ ap components_in read.0)
-          (AreComponentsOf-none version g.met.V.Components.version_laws c.args.empty c.requires);
-    }
-
-pub returns-in-Ok-read_given-clause-is : goal.returns-in-Ok-read_given-clause-is
-returns-in-Ok-read_given-clause-is g c =
-    let version = g.V.Components.version in
-    let vector = c.in-Ok-read_given.vector in
-    let same = sym (components_in-some c.in-Ok.metrics.now (grind (arith, nat_tests))) in
-    record {
-      utf8 = c.in-Ok.ensures.cases.1;
-      front_is = c.in-Ok-read_given.ensures.front;
-      components = subst (λ each. AreComponentsOf version each vector) (sym same ∙ ap components_in c.in-Ok.ensures.cases.0)
-          c.in-Ok-read_given.ensures.components;
+      front_is = c.without_metrics-empty.ensures.front;
+      components = subst (λ parts. AreComponentsOf version parts c.without_metrics-empty.result) (sym none ∙ ap components_in read.0)
+          (AreComponentsOf-none version g.met.V.Components.version_laws c.without_metrics-empty.result (record { none = c.without_metrics-empty.ensures.valueless }));
     }
 
 pub returns-in-Err-clause-none : goal.returns-in-Err-clause-none

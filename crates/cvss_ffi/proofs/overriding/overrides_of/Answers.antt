@@ -1,16 +1,14 @@
-use Rattle.std.proofs.Common.{◌≡◌, ◌∙◌, ◌<◌, ℕ, List, [], ◌∷◌, ap, length, refl, sym, subst, arith, length-append, get_or}
+use Rattle.std.proofs.Common.{◌≡◌, ◌∙◌, ◌<◌, ℕ, List, [], ◌∷◌, None, ap, length, refl, sym, subst, arith, length-append, get_or}
 use Rattle.std.proofs.lemmas.Bool.Decides.{nat_tests}
 use Rattle.std.proofs.lemmas.List.{get_or_default}
-use Rattle.std.proofs.lemmas.List.Splits.{length-slice_split}
-use Rattle.std.proofs.lemmas.List.Sums.{count_by-le-length}
 use Rattle.std.proofs.lemmas.Iterator.Consumers.{YieldsList-end, YieldsList-turn}
 use Rattle.std.proofs.lemmas.Iterator.Splits.{YieldsList-from_str_split}
 use Rattle.cvss_base.specs.Refusal.{piece_at}
 use Rattle.cvss_base.specs.Text.{pieces}
 use Rattle.cvss_text.proofs.SettingLemmas.{components_in-none, components_in-some}
-use Rattle.cvss_text.proofs.TextLemmas.{is_slash}
 use Rattle.cvss_v4.proofs.OverridingLemmas.{AreOverrides-all, HasReadOverrides-more, HasReadOverrides-none, IsFirstObjection-at, no_objection_held}
 use Rattle.cvss_v4.specs.Overriding.{AreOverrides, IsFirstObjection}
+use Rattle.cvss_v4.specs.private.VectorLaws.{one_minor_version, vector_of}
 use Rattle.cvss_v4.specs.private.OverridingSteps.{HasReadOverrides, objection_of}
 use Rattle.cvss_ffi.proofs.overriding.overrides_of.Goals as goal
 
@@ -22,11 +20,11 @@ piece_here parts index yielded bytes piece at is within here =
 
 pub returns-then-is_empty-clause-accepted : goal.returns-then-is_empty-clause-accepted
 returns-then-is_empty-clause-accepted c =
-    let none = HasReadOverrides-none [] c.empty_v4-overrides.result c.empty_v4-overrides.ensures.version c.empty_v4-overrides.ensures.valueless in
-    subst (λ texts. AreOverrides texts c.empty_v4-overrides.result) (sym (components_in-none c.args.text.now (grind (arith, nat_tests)))) (AreOverrides-all [] c.empty_v4-overrides.result none)
+    let none = HasReadOverrides-none [] c.without_metrics-overrides.result (one_minor_version c.without_metrics-overrides.result (vector_of 0 (λ _. None)) c.without_metrics-overrides.ensures.front) (record { none = c.without_metrics-overrides.ensures.valueless }) in
+    subst (λ texts. AreOverrides texts c.without_metrics-overrides.result) (sym (components_in-none c.args.text.now (grind (arith, nat_tests)))) (AreOverrides-all [] c.without_metrics-overrides.result none)
 
 pub loop-piece-init : goal.loop-piece-init
-loop-piece-init c = (refl, HasReadOverrides-none (pieces c.args.text.now) c.empty_v4-overrides.result c.empty_v4-overrides.ensures.version c.empty_v4-overrides.ensures.valueless)
+loop-piece-init c = (refl, HasReadOverrides-none (pieces c.args.text.now) c.without_metrics-overrides.result (one_minor_version c.without_metrics-overrides.result (vector_of 0 (λ _. None)) c.without_metrics-overrides.ensures.front) (record { none = c.without_metrics-overrides.ensures.valueless }))
 
 pub loop-piece-preserved : goal.loop-piece-preserved
 loop-piece-preserved c =
@@ -35,11 +33,6 @@ loop-piece-preserved c =
       omega (arith, c.loop-piece.invariant.0, length-append c.loop-piece.yielded (c.in-Some.piece ∷ [])),
       HasReadOverrides-more (pieces c.args.text.now) c.loop-piece.index here.0 c.as_bytes.result.now here.1 c.loop-piece.overrides c.read_override.new.overrides c.in_default.ensures.component c.in_default.ensures.read c.loop-piece.invariant.1,
     )
-
-pub overflow_add-index : goal.overflow_add-index
-overflow_add-index c =
-    let turn = YieldsList-turn (YieldsList-from_str_split 47 c.args.text.now (omega arith) (cc) (cc) (cc)) c.loop-piece.yielded _ c.loop-piece.yielded_by _ _ c.in-Some.piece c.in-Some.is c.next.ensures.steps in
-    omega (arith, c.loop-piece.invariant.0, turn.0, length-slice_split is_slash c.args.text.now, count_by-le-length is_slash c.args.text.now, c.split-piece-items.type_inv)
 
 pub returns-in-Err-clause-accepts : goal.returns-in-Err-clause-accepts
 returns-in-Err-clause-accepts c = λ overrides are.

@@ -1,5 +1,0 @@
-use Rattle.std.proofs.Common.{rules}
-use Rattle.cvss_explain.proofs.v3.environmental.Goals as goal
-
-pub returns-clause-text : goal.returns-clause-text
-returns-clause-text c = rw c.severity.ensures.text (search rules)
