@@ -1,5 +1,6 @@
 -- What is answered of a vector of any version, from what its version answers.
 use Rattle.std.proofs.Common.{◌≡◌, ℕ, ◌≤◌, List, Option, Some, None, IfSome, Result, Ok, Err, length, refl, sym, ap, ◌∙◌, subst, arith}
+use Rattle.cvss_base.specs.V4Types.{most_metrics}
 use Rattle.cvss_base.specs.Refusal.{Refusal}
 use Rattle.cvss_base.specs.Version.{Version}
 use Rattle.cvss_text.specs.private.SettingSteps.{IsAnswered}
@@ -19,7 +20,7 @@ use Rattle.cvss_text.proofs.SettingLemmas.{IsComplete-set}
 use Rattle.cvss_v4.specs.Vector.{v4}
 use Rattle.cvss_v4.specs.private.VectorLaws.{v4_laws}
 
-fewer : (index : Option ℕ) (n : ℕ) → n ≤ 32 → IfSome index (λ i. i ≤ n) → IfSome index (λ i. i ≤ 32)
+fewer : (index : Option ℕ) (n : ℕ) → n ≤ most_metrics → IfSome index (λ i. i ≤ n) → IfSome index (λ i. i ≤ most_metrics)
 fewer None n most bound = tt
 fewer (Some i) n most bound = omega arith
 
@@ -36,7 +37,7 @@ module _ {V K : Type 0} {version : Version V K} {IsIt : V → Type 0} {IsReason 
     bound = tt;
   }
 
-  pub answered_err : (refused : Option ℕ × Fault K) (error : SetError) → error.index ≡ refused.0 → refusal_of error.reason ≡ wrapped of_any (reason_of version refused.1) → length version.printed ≤ 32 → IsAnswered version IsIt IsReason (Err refused) → IsAnsweredBy (IsOf wrap IsIt) (λ index. IsReasonOf of_any (IsReason index)) (Err error)
+  pub answered_err : (refused : Option ℕ × Fault K) (error : SetError) → error.index ≡ refused.0 → refusal_of error.reason ≡ wrapped of_any (reason_of version refused.1) → length version.printed ≤ most_metrics → IsAnswered version IsIt IsReason (Err refused) → IsAnsweredBy (IsOf wrap IsIt) (λ index. IsReasonOf of_any (IsReason index)) (Err error)
   answered_err refused error at says most is = record {
     accepted = tt;
     accepts = λ cvss of. absurd (let no = is.accepts of.own of.holds in cc);
@@ -44,7 +45,7 @@ module _ {V K : Type 0} {version : Version V K} {IsIt : V → Type 0} {IsReason 
     refuses = λ other reason of.
         let same = is.refuses other of.own of.first in
         (at ∙ same.0, says ∙ ap (wrapped of_any) same.1 ∙ sym of.is);
-    bound = subst (λ each. IfSome each (λ i. i ≤ 32)) (sym at) (fewer refused.0 (length version.printed) most is.bound);
+    bound = subst (λ each. IfSome each (λ i. i ≤ most_metrics)) (sym at) (fewer refused.0 (length version.printed) most is.bound);
   }
 
 -- a vector that has a score keeps one

@@ -2,6 +2,7 @@
 //! takes no memory: an error borrows the part of the text that it names.
 
 ghost use Rattle.std.specs.Prelude.{◌≡◌, ◌≤◌, ℕ, IfOk, IfErr, IfSome, IsErrAnd, Ok, Option, length};
+ghost use Rattle.cvss_base.specs.V4Types.{most_metrics};
 ghost use Rattle.cvss_base.specs.Refusal as spec;
 ghost use Rattle.cvss_base.specs.Text.{pieces};
 ghost use Rattle.cvss_text.specs.Setting.{IsBuildReason, IsBuilt, IsSet, IsSetReason, components_in};
@@ -75,7 +76,7 @@ impl Cvss {
         ensures refuses { (index : Option ℕ) (reason : spec.Refusal MetricType)
             → IsWithReason self.now metrics.now index reason → IsErrAnd result (λ error.
             (error.index ≡ index) × (refusal_of error.reason ≡ reason)) }
-        ensures bound { IfErr result (λ error. IfSome error.index (λ index. index ≤ 32)) }
+        ensures bound { IfErr result (λ error. IfSome error.index (λ index. index ≤ most_metrics)) }
     {
         with_by_version(self, metrics)
     }
@@ -101,7 +102,7 @@ impl Cvss {
         ensures refuses { (index : Option ℕ) (reason : spec.Refusal MetricType)
             → IsBuiltReason version metrics.now index reason → IsErrAnd result (λ error.
             (error.index ≡ index) × (refusal_of error.reason ≡ reason)) }
-        ensures bound { IfErr result (λ error. IfSome error.index (λ index. index ≤ 32)) }
+        ensures bound { IfErr result (λ error. IfSome error.index (λ index. index ≤ most_metrics)) }
     {
         build_by_version(version, metrics)
     }
@@ -127,7 +128,7 @@ fn with_version<'a, V: OneVersion>(
     metrics: &'a str,
 ) -> Result<Cvss, SetError<'a>>
     requires own { V.version.front vector.now ≡ V.front own }
-    requires few { length V.version.printed ≤ 32 }
+    requires few { length V.version.printed ≤ most_metrics }
     ensures { IsAnsweredBy
         (IsOf (V.joined said) (IsSet V.version vector.now (components_in metrics.now)))
         (λ index. IsReasonOf V.wrap (IsSetReason V.version (components_in metrics.now) index))
@@ -152,7 +153,7 @@ fn build_by_version(version: Version, metrics: &str) -> Result<Cvss, SetError<'_
 }
 
 fn build_version<V: OneVersion>(minor_version: usize, metrics: &str) -> Result<Cvss, SetError<'_>>
-    requires { length V.version.printed ≤ 32 }
+    requires { length V.version.printed ≤ most_metrics }
     ensures { IsAnsweredBy
         (IsOf (V.joined minor_version) (IsBuilt V.version (V.front minor_version) (pieces metrics.now)))
         (λ index. IsReasonOf V.wrap (IsBuildReason V.version (pieces metrics.now) index))

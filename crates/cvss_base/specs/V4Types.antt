@@ -11,6 +11,10 @@ use Rattle.cvss_base.specs.declared.group.MetricGroup.TheVariants.{Base, Threat,
 use Rattle.cvss_base.specs.declared.v4.MetricType.{MetricType}
 use Rattle.cvss_base.specs.declared.v4.MetricType.TheVariants.{AC, AT, AV, PR, SA, SC, SI, UI, VA, VC, VI, E, AR, CR, IR, MAC, MAT, MAV, MPR, MSA, MSC, MSI, MUI, MVA, MVC, MVI, AU, R, RE, S, U, V}
 
+-- the number of metrics; no other version has as many
+abbrev pub most_metrics : ℕ
+most_metrics = 32
+
 -- the abbreviation that stands for a metric in a vector, its name in words, and the group to which it belongs
 abbrev pub row_of : MetricType → List ℕ × List ℕ × MetricGroup
 row_of AV = (codes "AV", codes "Attack Vector", Base)

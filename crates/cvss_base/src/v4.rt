@@ -13,7 +13,7 @@ use MetricType::*;
 use std::alloc::Global;
 use std::fmt;
 
-/// One of the thirty-two metrics of CVSS v4.0.
+/// A metric of CVSS v4.0.
 #[derive(Clone, Copy, Debug, PartialEq, Eq, PartialOrd, Ord)]
 pub enum MetricType {
     AC,
@@ -50,14 +50,17 @@ pub enum MetricType {
     V,
 }
 
+/// The number of metrics of CVSS v4.0. No other version has as many.
+pub const MOST_METRICS: usize = 32;
+
 /// The metric types as they are declared.
-const ALL: [MetricType; 32] = [
+const ALL: [MetricType; MOST_METRICS] = [
     AC, AT, AV, PR, SA, SC, SI, UI, VA, VC, VI, E, AR, CR, IR, MAC, MAT, MAV, MPR, MSA, MSC, MSI,
     MUI, MVA, MVC, MVI, AU, R, RE, S, U, V,
 ];
 
 /// The abbreviation of each metric type, its name in words and its group, as they are declared.
-const ROWS: [Row; 32] = [
+const ROWS: [Row; MOST_METRICS] = [
     row!(v4 Base AC "Attack Complexity"),
     row!(v4 Base AT "Attack Requirements"),
     row!(v4 Base AV "Attack Vector"),

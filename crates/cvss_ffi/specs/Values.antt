@@ -1,6 +1,7 @@
 -- The values of a vector's metrics as C sees them: a field of eight bytes for each metric.
 use Rattle.std.specs.Prelude.{◌≡◌, ℕ, pos, List, [], ◌∷◌, map, Option, unwrap_or}
 use Rattle.std.specs.List.{repeat}
+use Rattle.cvss_base.specs.V4Types.{most_metrics}
 use Rattle.cvss_any.specs.Answers.{IsScoreOf}
 use Rattle.cvss_any.specs.declared.vector.Cvss.{Cvss}
 use Rattle.cvss_any.specs.declared.vector.Cvss.TheVariants.{CvssV20, CvssV30, CvssV31, CvssV40}
@@ -21,11 +22,11 @@ field_of value = padded (unwrap_or value [])
 abbrev pub fields_in : {V K : Type 0} → Version V K → V → List (List ℕ)
 fields_in version v = map (λ kind. field_of (held version v kind)) version.printed
 
--- 32 fields, the first of which are those of the vector's metrics
+-- a field for each metric of v4.0, the first of which are those of the vector's metrics
 abbrev pub fields_of : Cvss → List (List ℕ)
-fields_of (CvssV20 vector) = begun (fields_in v2 vector) (repeat 32 (padded [] ∷ []))
-fields_of (CvssV30 vector) = begun (fields_in v3 vector) (repeat 32 (padded [] ∷ []))
-fields_of (CvssV31 vector) = begun (fields_in v3 vector) (repeat 32 (padded [] ∷ []))
+fields_of (CvssV20 vector) = begun (fields_in v2 vector) (repeat most_metrics (padded [] ∷ []))
+fields_of (CvssV30 vector) = begun (fields_in v3 vector) (repeat most_metrics (padded [] ∷ []))
+fields_of (CvssV31 vector) = begun (fields_in v3 vector) (repeat most_metrics (padded [] ∷ []))
 fields_of (CvssV40 vector) = fields_in v4 vector
 
 -- the version, the published score in tenths, the nomenclature, and the values of a vector

@@ -1,11 +1,13 @@
 //! The metrics of a vector, as C sees them.
 
 ghost use Rattle.std.specs.Prelude.{◌≡◌, ◌≤◌, length};
+ghost use Rattle.cvss_base.specs.V4Types.{most_metrics};
 ghost use Rattle.cvss_ffi.specs.Buffer.{IsWritten};
 ghost use Rattle.cvss_ffi.specs.Metrics.{metric_of, metrics_at, metrics_in_order, padded as padded_text};
 
 use crate::buffer::write;
 use cvss_any::Cvss;
+use cvss_base::v4::MOST_METRICS;
 use cvss_json_record::spelled;
 use cvss_text::print::Printed;
 
@@ -53,11 +55,11 @@ pub fn put_metrics(cvss: &Cvss, metrics: &mut [CvssMetric]) -> usize
 
 /// Writes the metrics that a vector of some version has, in printing order.
 fn write_metrics<V: Printed>(vector: &V, metrics: &mut [CvssMetric]) -> usize
-    requires { length V.version.printed ≤ 32 }
+    requires { length V.version.printed ≤ most_metrics }
     ensures { IsWritten (metrics_at V.version vector.now V.version.printed) metrics.old metrics.new
         result }
 {
-    let mut own = [CvssMetric::of(&[], &[]); 32];
+    let mut own = [CvssMetric::of(&[], &[]); MOST_METRICS];
     let mut count = 0;
     for kind in V::printed() {
         if let Some(value) = spelled(vector, *kind) {

@@ -3,6 +3,7 @@
 ghost use Rattle.std.specs.Prelude.{◌≡◌, ◌≤◌, [], ◌∷◌, length};
 ghost use Rattle.std.specs.List.{repeat};
 ghost use Rattle.cvss_any.specs.Answers.{HasScore};
+ghost use Rattle.cvss_base.specs.V4Types.{most_metrics};
 ghost use Rattle.cvss_base.specs.Version.{held};
 ghost use Rattle.cvss_v2.specs.Vector.{v2};
 ghost use Rattle.cvss_v3.specs.Vector.{v3};
@@ -18,7 +19,7 @@ use crate::{v2, v3, v4};
 use cvss_any::Cvss;
 use cvss_base::v2::MetricType as V2;
 use cvss_base::v3::MetricType as V3;
-use cvss_base::v4::MetricType as V4;
+use cvss_base::v4::{MOST_METRICS, MetricType as V4};
 use cvss_json_record::spelled;
 use cvss_text::print::Printed;
 
@@ -36,7 +37,7 @@ pub struct CvssValues {
     pub reserved: i32,
     /// How the value of each metric is spelled, filled up with bytes 0, the metrics in the order of
     /// canonical texts. A metric that the vector lacks has bytes 0.
-    pub fields: [[u8; 8]; 32],
+    pub fields: [[u8; 8]; MOST_METRICS],
 }
 
 impl CvssValues {
@@ -63,7 +64,7 @@ macro_rules! fields {
     };
 }
 
-fn fields_of(cvss: &Cvss) -> [[u8; 8]; 32]
+fn fields_of(cvss: &Cvss) -> [[u8; 8]; MOST_METRICS]
     ensures { result ≡ fields_of_cvss cvss.now }
 {
     match cvss {
@@ -74,11 +75,11 @@ fn fields_of(cvss: &Cvss) -> [[u8; 8]; 32]
 }
 
 /// These fields and, up to the number of metrics of CVSS v4.0, fields of bytes 0.
-fn filled_up(fields: &[[u8; 8]]) -> [[u8; 8]; 32]
-    requires { length fields.now ≤ 32 }
-    ensures { result ≡ begun fields.now (repeat 32 (padded_text [] ∷ [])) }
+fn filled_up(fields: &[[u8; 8]]) -> [[u8; 8]; MOST_METRICS]
+    requires { length fields.now ≤ most_metrics }
+    ensures { result ≡ begun fields.now (repeat most_metrics (padded_text [] ∷ [])) }
 {
-    let mut all = [[0; 8]; 32];
+    let mut all = [[0; 8]; MOST_METRICS];
     write(fields, &mut all);
     all
 }
@@ -95,7 +96,7 @@ fn fields_v3(vector: &v3::Vector) -> [[u8; 8]; 22]
     cvss_v3::each_metric!(fields!(vector, V3))
 }
 
-fn fields_v4(vector: &v4::Vector) -> [[u8; 8]; 32]
+fn fields_v4(vector: &v4::Vector) -> [[u8; 8]; MOST_METRICS]
     ensures { result ≡ fields_in v4 vector.now }
 {
     cvss_v4::each_metric!(fields!(vector, V4))

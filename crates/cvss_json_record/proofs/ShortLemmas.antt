@@ -1,9 +1,10 @@
--- No component is longer than nine bytes, so that 32 of them with their slashes take at most 320.
+-- No component is longer than nine bytes, so that each takes at most ten with its slash.
 use Rattle.std.proofs.Common.{◌≡◌, ◌≤◌, ◌*◌, List, [], ◌∷◌, length, Option, Some, None, unwrap_or, true, arith, rules, length-append, ap}
 use Rattle.std.specs.Option.{option_map}
 use Rattle.std.specs.Prelude.{leb}
 use Rattle.std.proofs.lemmas.Bool.Decides.{nat_tests}
 use Rattle.std.proofs.lemmas.List.{length-drop}
+use Rattle.cvss_base.specs.V4Types.{most_metrics}
 use Rattle.cvss_text.proofs.PrintLemmas.{joined_after_first}
 use Rattle.cvss_base.specs.declared.v2.MetricType.TheVariants as metric_v2
 use Rattle.cvss_base.specs.declared.v3.MetricType.TheVariants as metric_v3
@@ -42,10 +43,10 @@ module _ {V K : Type 0} (version : Version V K) (short : AreShort version) where
   texts-short v (kind ∷ kinds) =
       omega (arith, text-short kind (version.value_of v kind), texts-short v kinds, length-append (text_with_slash version v kind) (texts_with_slash version v kinds))
 
-  pub fits : (v : V) → length version.printed ≤ 32 → length (texts_with_slash version v version.printed) ≤ 320
+  pub fits : (v : V) → length version.printed ≤ most_metrics → length (texts_with_slash version v version.printed) ≤ 10 * most_metrics
   fits v few = omega (arith, few, texts-short v version.printed)
 
-pub text_short : (v : Vector) → length (canonical_text v2 v) ≤ 320
+pub text_short : (v : Vector) → length (canonical_text v2 v) ≤ 10 * most_metrics
 text_short v =
     let kinds = v2.printed in
     omega (arith, ap length (joined_after_first v2 v kinds), length-drop 1 (texts_with_slash v2 v kinds), fits v2 short_v2 v (omega arith))

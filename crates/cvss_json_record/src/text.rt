@@ -3,6 +3,7 @@
 ghost use Rattle.std.specs.Prelude.{◌≡◌, ◌+◌, ◌≤◌, [], ◌∷◌, ◌++◌, length};
 ghost use Rattle.std.specs.Option.{option_copied};
 ghost use Rattle.cvss_any.specs.Answers.{text_of};
+ghost use Rattle.cvss_base.specs.V4Types.{most_metrics};
 ghost use Rattle.cvss_base.specs.Version.{canonical_text, held, numeral};
 ghost use Rattle.cvss_text.specs.private.Printing.{texts_with_slash};
 
@@ -31,7 +32,7 @@ pub fn put_vector(page: &mut Page, cvss: &Cvss)
 fn put_prefixed<V: Printed>(page: &mut Page, prefix: &str, minor: usize, vector: &V)
     requires prefix { V.version.front vector.now ≡ (prefix.now ++ numeral minor) ∷ [] }
     requires short { length prefix.now ≤ 10 }
-    requires fits { length (texts_with_slash V.version vector.now V.version.printed) ≤ 320 }
+    requires fits { length (texts_with_slash V.version vector.now V.version.printed) ≤ 10 * most_metrics }
     requires room { length page.old + 350 ≤ 4096 }
     ensures text { page.new ≡ page.old ++ canonical_text V.version vector.now }
     ensures room { length page.new ≤ length page.old + 350 }

@@ -5,15 +5,13 @@ use crate::cut;
 use crate::lists::number;
 use crate::texts::{canonical, reason};
 use cvss_any::Cvss;
+use cvss_base::v4::MOST_METRICS;
 use cvss_ffi::metrics::put_metrics;
 use cvss_ffi::numbers::{NOTHING, rating_number, version_number};
 use cvss_ffi::refusal::{kind_of, put_reported_kind};
 use cvss_ffi::scores::scores_by;
 use cvss_ffi::{CvssMetric, CvssScores, CvssScoresBy, put};
 use std::io;
-
-/// No vector has more metrics.
-const MOST_METRICS: usize = 32;
 
 const RATINGS: [&str; 5] = ["none", "low", "medium", "high", "critical"];
 

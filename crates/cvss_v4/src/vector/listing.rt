@@ -9,7 +9,7 @@ use crate::vector::Vector;
 use cvss_text::metrics::{self, Listed};
 use cvss_v4_metric::MetricType;
 
-/// The metrics that a vector has, each with the spelling of its value; at most 32.
+/// The metrics that a vector has, each with the spelling of its value.
 pub type Metrics = metrics::Metrics<Vector>;
 
 impl Listed for Vector {
