@@ -1,21 +1,18 @@
 //! The answer to one line as text for people.
 
-ghost use Rattle.std.specs.Prelude.{◌≡◌, ◌≤◌, ◌++◌, ℕ, IfOk, OnOk};
-ghost use Rattle.cvss_any.specs.Answers.{HasScore, text_of, vector_answer};
+ghost use Rattle.std.specs.Prelude.{ℕ, IfOk, OnOk};
+ghost use Rattle.cvss_any.specs.Answers.{HasScore};
 ghost use Rattle.cvss_explain_answers.specs.Text.{IsAnswer, Shows};
 ghost use Rattle.cvss_explain_answers.specs.Explanation.{AreLines};
 ghost use Rattle.cvss_explain_answers.specs.private.Writing.{Writes};
-ghost use Rattle.cvss_lines.specs.Answers.{WritesAnswer, written_text};
+ghost use Rattle.cvss_lines.specs.Answers.{WritesAnswer};
 
 use crate::what_if::write_table;
 use crate::{v2, v3, v4};
-use cvss_answer::write_error;
+use cvss_answer::{write_error, write_vector};
 use cvss_any::Cvss;
-use cvss_base::TENTH;
-use cvss_base::tenths::text_of as text_of_tenths;
 use cvss_lines::OutputBuffer;
 use std::alloc::{AllocError, Global};
-use std::fmt::Write;
 
 /// Answers a line by the explanation of its vector's score, or with `what_if` by the scores that other
 /// values of its metrics would give; or by why the line is rejected: a vector of CVSS v3 that lacks base
@@ -48,8 +45,8 @@ pub fn answer_explained(
     }
 }
 
-/// Writes the heading of a vector, and after it why it has its score, or the scores that other values
-/// would give.
+/// Writes the answer of a vector as a heading, and after it why the vector has its score, or the scores
+/// that other values would give.
 fn write_shown(
     alloc: Global,
     cvss: &Cvss,
@@ -60,38 +57,12 @@ fn write_shown(
     ensures { OnOk result (Writes (Shows what_if cvss.now)
         answers.old.bytes.items answers.new.bytes.items) }
 {
-    let tenths = cvss.tenths();
-    write_heading(cvss, tenths, answers)?;
+    let published = cvss.published();
+    write_vector(cvss, published, answers)?;
     if what_if {
         write_table(alloc, cvss, answers)
     } else {
-        write_lines(cvss, tenths, answers)
-    }
-}
-
-/// Writes the heading: the vector's text, its score of so many tenths, and the score's rating.
-fn write_heading(cvss: &Cvss, tenths: u8, answers: &mut OutputBuffer) -> Result<(), AllocError>
-    requires { tenths ≤ 100 }
-    ensures { OnOk result (answers.new.bytes.items
-        ≡ answers.old.bytes.items ++ written_text (vector_answer cvss.now tenths)) }
-{
-    write_text(cvss, answers)?;
-    answers.push(b" ")?;
-    answers.push(text_of_tenths(tenths).as_bytes())?;
-    answers.push(b" ")?;
-    let severity = cvss.severity_of(i128::from(tenths) * TENTH);
-    answers.push(severity.as_str().as_bytes())?;
-    answers.push(b"\n")
-}
-
-/// Writes a vector's text.
-fn write_text(cvss: &Cvss, answers: &mut OutputBuffer) -> Result<(), AllocError>
-    ensures { OnOk result
-        (answers.new.bytes.items ≡ answers.old.bytes.items ++ text_of cvss.now) }
-{
-    match write!(answers, "{cvss}") {
-        Ok(()) => Ok(()),
-        Err(_) => Err(AllocError),
+        write_lines(cvss, published.tenths, answers)
     }
 }
 

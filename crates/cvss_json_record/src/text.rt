@@ -9,7 +9,6 @@ ghost use Rattle.cvss_text.specs.private.Printing.{texts_with_slash};
 
 use cvss_any::{Cvss, TextBuffer};
 use cvss_json_write::Page;
-use cvss_text::metrics;
 use cvss_text::print::Printed;
 
 /// Writes a vector's canonical text.
@@ -48,5 +47,7 @@ fn put_prefixed<V: Printed>(page: &mut Page, prefix: &str, minor: usize, vector:
 pub fn spelled<V: Printed>(vector: &V, kind: V::Kind) -> Option<&'static [u8]>
     ensures { option_copied result ≡ held V.version vector.now kind }
 {
-    Some(metrics::spelled(vector, kind)?.as_bytes())
+    let component = vector.with_slash(kind)?;
+    // after a slash, the name and a colon
+    Some(&component.as_bytes()[V::name(kind).len() + 2..])
 }

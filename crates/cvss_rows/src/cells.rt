@@ -5,11 +5,9 @@ ghost use Rattle.cvss_any.specs.Answers.{HasScore, text_of};
 ghost use Rattle.cvss_any.specs.Reasons.{error_message};
 ghost use Rattle.cvss_rows.specs.Rows.{AreFields, AreScores, AreScoresV2, AreScoresV3, nomenclature_cell, rejected_fields, score_cell};
 ghost use Rattle.cvss_rows.specs.private.Views.{cell_view, field_view};
-ghost use Rattle.cvss_score.specs.v4.Nomenclature.{text_of as name_of};
 
 use cvss_any::{Cvss, ReadError};
 use cvss_base::tenths;
-use cvss_score::v4::Nomenclature;
 use cvss_v2 as v2;
 use cvss_v3 as v3;
 
@@ -126,18 +124,7 @@ fn nomenclature_of(cvss: &Cvss) -> Cell<'static>
     ensures { cell_view result ≡ nomenclature_cell cvss.now }
 {
     match cvss {
-        Cvss::CvssV40(vector) => Cell::Words(name_of(vector.nomenclature())),
+        Cvss::CvssV40(vector) => Cell::Words(vector.nomenclature().as_str()),
         _ => Cell::Nothing,
-    }
-}
-
-fn name_of(nomenclature: Nomenclature) -> &'static str
-    ensures { result.now ≡ name_of nomenclature }
-{
-    match nomenclature {
-        Nomenclature::CvssB => "CVSS-B",
-        Nomenclature::CvssBE => "CVSS-BE",
-        Nomenclature::CvssBT => "CVSS-BT",
-        Nomenclature::CvssBTE => "CVSS-BTE",
     }
 }
