@@ -1,6 +1,6 @@
 //! The canonical text of a vector, written without memory.
 
-ghost use Rattle.std.specs.Prelude.{◌≡◌, ◌+◌, ◌≤◌, [], ◌∷◌, ◌++◌, length};
+ghost use Rattle.std.specs.Prelude.{◌≡◌, ◌+◌, ◌≤◌, [], ◌∷◌, ◌++◌, length, ◌*◌};
 ghost use Rattle.std.specs.Option.{option_copied};
 ghost use Rattle.cvss_any.specs.Answers.{text_of};
 ghost use Rattle.cvss_base.specs.V4Types.{most_metrics};
