@@ -1,4 +1,4 @@
-use Rattle.std.proofs.Common.{◌≡◌, ◌∙◌, ◌<◌, ℕ, List, [], ◌∷◌, None, ap, length, refl, sym, subst, arith, length-append, get_or}
+use Rattle.std.proofs.Common.{◌≡◌, ◌∙◌, ◌<◌, ℕ, List, [], ◌∷◌, ap, length, refl, sym, subst, arith, length-append, get_or}
 use Rattle.std.proofs.lemmas.Bool.Decides.{nat_tests}
 use Rattle.std.proofs.lemmas.List.{get_or_default}
 use Rattle.std.proofs.lemmas.Iterator.Consumers.{YieldsList-end, YieldsList-turn}
@@ -8,7 +8,7 @@ use Rattle.cvss_base.specs.Text.{pieces}
 use Rattle.cvss_text.proofs.SettingLemmas.{components_in-none, components_in-some}
 use Rattle.cvss_v4.proofs.OverridingLemmas.{AreOverrides-all, HasReadOverrides-more, HasReadOverrides-none, IsFirstObjection-at, no_objection_held}
 use Rattle.cvss_v4.specs.Overriding.{AreOverrides, IsFirstObjection}
-use Rattle.cvss_v4.specs.private.VectorLaws.{one_minor_version, vector_of}
+use Rattle.cvss_v4.specs.private.VectorLaws.{one_minor_version}
 use Rattle.cvss_v4.specs.private.OverridingSteps.{HasReadOverrides, objection_of}
 use Rattle.cvss_ffi.proofs.overriding.overrides_of.Goals as goal
 
@@ -20,11 +20,11 @@ piece_here parts index yielded bytes piece at is within here =
 
 pub returns-then-is_empty-clause-accepted : goal.returns-then-is_empty-clause-accepted
 returns-then-is_empty-clause-accepted c =
-    let none = HasReadOverrides-none [] c.without_metrics-overrides.result (one_minor_version c.without_metrics-overrides.result (vector_of 0 (λ _. None)) c.without_metrics-overrides.ensures.front) (record { none = c.without_metrics-overrides.ensures.valueless }) in
+    let none = HasReadOverrides-none [] c.without_metrics-overrides.result (one_minor_version c.without_metrics-overrides.result (record c.without_metrics-overrides.result { minor_version = 0 }) c.without_metrics-overrides.ensures.front) (record { none = c.without_metrics-overrides.ensures.valueless }) in
     subst (λ texts. AreOverrides texts c.without_metrics-overrides.result) (sym (components_in-none c.args.text.now (grind (arith, nat_tests)))) (AreOverrides-all [] c.without_metrics-overrides.result none)
 
 pub loop-piece-init : goal.loop-piece-init
-loop-piece-init c = (refl, HasReadOverrides-none (pieces c.args.text.now) c.without_metrics-overrides.result (one_minor_version c.without_metrics-overrides.result (vector_of 0 (λ _. None)) c.without_metrics-overrides.ensures.front) (record { none = c.without_metrics-overrides.ensures.valueless }))
+loop-piece-init c = (refl, HasReadOverrides-none (pieces c.args.text.now) c.without_metrics-overrides.result (one_minor_version c.without_metrics-overrides.result (record c.without_metrics-overrides.result { minor_version = 0 }) c.without_metrics-overrides.ensures.front) (record { none = c.without_metrics-overrides.ensures.valueless }))
 
 pub loop-piece-preserved : goal.loop-piece-preserved
 loop-piece-preserved c =
