@@ -1,5 +1,6 @@
 //! What the subcommands do with a line.
 
+ghost use Rattle.std.specs.Prelude.{false, true};
 ghost use Rattle.cvss_answer.specs.Answers.{score_rule};
 ghost use Rattle.cvss_answer.specs.Setting.{set_rule};
 ghost use Rattle.cvss_lines.specs.Prefixed.{is_one_text};
