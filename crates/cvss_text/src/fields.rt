@@ -28,3 +28,21 @@ macro_rules! write_each {
         $($write::<$vectors, _>($vector.$field, $buffer);)*
     }};
 }
+
+/// Fills the field of the metric that is asked for. What the vector held is for the law alone.
+#[macro_export]
+macro_rules! fill_at {
+    (($kind:ident: $kinds:ident, $filled:ident($vector:ident: $vectors:ident, $value:ident, $old:ident))
+     $($name:ident $field:ident $values:ty,)*) => {
+        match $kind {
+            $($kinds::$name => $filled(
+                $kind,
+                $kinds::$name,
+                &$old,
+                $value,
+                cvss_text::values::fill::<$vectors, _>(&mut $vector.$field, $value),
+                $vector,
+            ),)*
+        }
+    };
+}

@@ -115,11 +115,9 @@ fn copy_value<V: Printed>(own: &V, kind: V::Kind, left_out: Option<&[u8]>, vecto
     ensures { IsCopied V.version kind (kept V.version (option_copied left_out.entry) own.now kind)
         vector.old vector.new }
 {
-    if spelled(vector, kind).is_some() {
-        return;
-    }
     match spelled(own, kind) {
-        Some(spelling) if Some(spelling.as_bytes()) != left_out => {
+        Some(spelling)
+            if Some(spelling.as_bytes()) != left_out && spelled(vector, kind).is_none() => {
             // The metric has this value, and the vector has none.
             let _ = vector.put(kind, spelling.as_bytes());
         }

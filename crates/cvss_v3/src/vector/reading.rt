@@ -14,27 +14,13 @@ use super::in_order::{begun_in_order, whole_in_order};
 use crate::each_metric;
 use crate::vector::Vector;
 use cvss_text::front::Prefixed;
-use cvss_text::kinds;
-use cvss_text::values::{Spells, fill};
+use cvss_text::values::Spells;
 use cvss_text::walk::{ComponentError, Components};
+use cvss_text::{fill_at, kinds};
 use cvss_v3_metric::{MetricType, MetricValue, reported_kind};
 
 /// The metrics in printing order (v3.1 specification, section 6).
 const PRINTED: &[MetricType] = &each_metric!(kinds!(MetricType));
-
-/// Fills the field of the metric that is asked for.
-macro_rules! fill_at {
-    (($vector:ident, $kind:ident, $value:ident, $old:ident)
-     $($name:ident $field:ident $values:ty,)*) => {
-        match $kind {
-            $(MetricType::$name => {
-                let answer = fill::<Vector, _>(&mut $vector.$field, $value);
-                fills_one($kind, MetricType::$name, &$old, $value, &answer, $vector);
-                answer
-            })*
-        }
-    };
-}
 
 impl Components for Vector {
     type Kind = MetricType;
@@ -78,9 +64,8 @@ impl Components for Vector {
 
     #[inline(always)]
     fn put(&mut self, kind: MetricType, value: &[u8]) -> Result<(), ComponentError> {
-        // What it held is for the law alone.
         let old = *self;
-        each_metric!(fill_at!(self, kind, value, old))
+        each_metric!(fill_at!(kind: MetricType, filled(self: Vector, value, old)))
     }
 
     fn first_missing(&self) -> Option<MetricType> {
@@ -147,19 +132,22 @@ impl<M: MetricValue> Spells<M> for Vector {
     }
 }
 
-/// A law: where the place of a metric is filled and all else is kept, its value is put into a vector.
-#[inline(always)]
-fn fills_one(
+/// What filling the place of a metric answered. A law: where all else is kept, the value is put into
+/// the vector.
+#[tactic(auto, using(cvss_text::proofs::PutLemmas::put_at, crate::specs::private::VectorLaws::v3_laws))]
+fn filled(
     kind: MetricType,
     here: MetricType,
     old: &Vector,
     value: &[u8],
-    answer: &Result<(), ComponentError>,
+    answer: Result<(), ComponentError>,
     new: &Vector,
-)
+) -> Result<(), ComponentError>
     requires here { kind ≡ here }
-    requires filled { IsFilled (reading v3 here) (value_at old.now here) (read v3 value.now)
-        answer.now (value_at new.now here) }
+    requires filled { IsFilled (reading v3 here) (value_at old.now here) (read v3 value.now) answer
+        (value_at new.now here) }
     requires kept { elsewhere v3 here new.now ≡ elsewhere v3 here old.now }
-    ensures { IsPut v3 old.now kind (read v3 value.now) answer.now new.now }
-{}
+    ensures { IsPut v3 old.now kind (read v3 value.now) result new.now }
+{
+    answer
+}

@@ -1,7 +1,0 @@
-use Rattle.cvss_text.proofs.PutLemmas.{put_at}
-use Rattle.cvss_v4.specs.Vector.{v4}
-use Rattle.cvss_v4.specs.private.VectorLaws.{v4_laws}
-use Rattle.cvss_v4.proofs.vector.reading.fills_one.Goals as goal
-
-pub returns : goal.returns
-returns c = put_at v4 v4_laws c.requires.here c.requires.filled c.requires.kept
