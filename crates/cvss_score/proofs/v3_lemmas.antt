@@ -1,3 +1,4 @@
+pub mod BoundLemmas
 pub mod CapLemmas
 pub mod CountLemmas
 pub mod EqualLemmas

@@ -2,12 +2,15 @@
 
 mod counts;
 mod equations;
+pub mod laws;
 mod power;
 pub mod rounding;
 mod rules;
+pub mod score;
 mod scoring;
 pub mod weighing;
 mod weights;
 
 pub use rules::{Exponent, Rules};
+pub use score::Score;
 pub use weights::Weights;

@@ -2,8 +2,7 @@
 #![tactic(auto)]
 
 pub mod laws;
-mod score;
 mod vector;
 
-pub use score::Score;
+pub use cvss_score::v3::Score;
 pub use vector::{Metrics, Vector};

@@ -1,10 +1,9 @@
 //! What the values of metrics weigh, in hundredths, and which value counts.
 
-ghost use Rattle.std.specs.Prelude.{◌≡◌, ◌≤◌, ℕ};
+ghost use Rattle.std.specs.Prelude.{◌≡◌};
 ghost use Rattle.cvss_v3_metric.specs.Modified.{weight_or};
 ghost use Rattle.cvss_v3_metric.specs.Table.{weight_of};
 ghost use Rattle.cvss_score.specs.v3.Weighing.{effective, effective_scope, is_changed as is_scope_changed, privileges_weight};
-ghost use Rattle.cvss_score.specs.v3.private.Weights.{WeighsAtMost};
 
 use cvss_v3_metric::MetricValue;
 use cvss_v3_metric::base::{PrivilegesRequired, Scope};
@@ -13,8 +12,7 @@ use cvss_v3_metric::environmental::{Modified, ModifiedScope};
 /// The weight of a value in hundredths, or another where the metric is absent.
 #[inline(always)]
 pub fn weight<M: MetricValue>(value: Option<M>, absent: u64) -> u64
-    ensures value { result ≡ weight_or (λ metric. weight_of M.KIND (M.value metric)) value absent }
-    ensures bound { (most : ℕ) → WeighsAtMost most M.KIND → absent ≤ most → result ≤ most }
+    ensures { result ≡ weight_or (λ metric. weight_of M.KIND (M.value metric)) value absent }
 {
     match value {
         Some(metric) => metric.hundredths().unwrap_or(0),
@@ -25,8 +23,7 @@ pub fn weight<M: MetricValue>(value: Option<M>, absent: u64) -> u64
 /// The weight of the privileges required in hundredths by the scope, or 0 where there is none.
 #[inline(always)]
 pub fn scoped_weight(value: Option<PrivilegesRequired>, changed: bool) -> u64
-    ensures value { result ≡ privileges_weight changed value }
-    ensures bound { result ≤ 100 }
+    ensures { result ≡ privileges_weight changed value }
 {
     match value {
         Some(privileges) => privileges.scoped_hundredths(changed),
@@ -42,9 +39,8 @@ pub fn modified_privileges(
     modified_scope: Option<ModifiedScope>,
     scope: Option<Scope>,
 ) -> u64
-    ensures value { result ≡ privileges_weight
+    ensures { result ≡ privileges_weight
         (is_scope_changed (effective_scope modified_scope scope)) (effective modified base) }
-    ensures bound { result ≤ 100 }
 {
     scoped_weight(
         effective(modified, base),

@@ -8,8 +8,9 @@ ghost use Rattle.cvss_score.specs.v3.Scores.{impact, miss, modified_impact, modi
 ghost use Rattle.cvss_score.specs.v3.Weighing.{weight_in};
 ghost use Rattle.cvss_v3.specs.VectorWeights.{weights_of};
 
-use crate::score::Score;
 use crate::vector::Vector;
+use cvss_score::v3::Score;
+use cvss_score::v3::score::of_tenths;
 use cvss_v3_metric::MetricType;
 
 /// A hundredth, in counts of 10^-24.
@@ -114,7 +115,7 @@ impl Vector {
             (environmental_number self.now.minor_version (weights_of self.now))) result }
         ensures range { IsInTenths IsFromZeroToTen result }
     {
-        Score::of_tenths(u64::from(self.environmental_first_tenths()))
+        of_tenths(u64::from(self.environmental_first_tenths()))
     }
 
     /// The inner rounding of the environmental score in tenths, from 0 to 100 (v3.1 specification,

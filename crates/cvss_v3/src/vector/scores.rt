@@ -8,10 +8,11 @@ ghost use Rattle.cvss_score.specs.v3.Scores.{iss, impact, modified_impact, explo
 ghost use Rattle.cvss_v3.specs.VectorWeights.{weights_of};
 ghost use Rattle.cvss_base.specs.Rating.{rating_of_score};
 
-use crate::score::Score;
 use crate::vector::Vector;
 use cvss_base::Severity;
+use cvss_score::v3::Score;
 use cvss_score::v3::rounding::is_certain;
+use cvss_score::v3::score::of_tenths;
 
 impl Vector {
     /// The base score (v3.1 specification, section 7.1; v3.0 specification, section 8.1).
@@ -27,7 +28,7 @@ impl Vector {
         ensures value { IsBaseScore self.now.minor_version (weights_of self.now) result }
         ensures range { IsInTenths IsFromZeroToTen result }
     {
-        Score::of_tenths(u64::from(self.tenths()))
+        of_tenths(u64::from(self.tenths()))
     }
 
     /// The base score in tenths, from 0 to 100 (v3.1 specification, section 7.1; v3.0 specification,
@@ -46,7 +47,7 @@ impl Vector {
         ensures value { IsTemporalScore self.now.minor_version (weights_of self.now) result }
         ensures range { IsInTenths IsFromZeroToTen result }
     {
-        Score::of_tenths(u64::from(self.temporal_tenths()))
+        of_tenths(u64::from(self.temporal_tenths()))
     }
 
     /// The temporal score in tenths, from 0 to 100 (v3.1 specification, section 7.2; v3.0
@@ -56,7 +57,7 @@ impl Vector {
             (pos result *ℤ pos (10 ^ 23)) }
         ensures to_ten { result ≤ 100 }
     {
-        let weights = self.shared_weights();
+        let weights = self.weights();
         weights.times_temporal(weights.base(self.minor_version), self.minor_version) as u8
     }
 
@@ -65,7 +66,7 @@ impl Vector {
         ensures value { IsEnvironmentalScore self.now.minor_version (weights_of self.now) result }
         ensures range { IsInTenths IsFromZeroToTen result }
     {
-        Score::of_tenths(u64::from(self.environmental_tenths()))
+        of_tenths(u64::from(self.environmental_tenths()))
     }
 
     /// The environmental score in tenths, from 0 to 100 (v3.1 specification, section 7.3; v3.0
@@ -75,7 +76,7 @@ impl Vector {
             (pos result *ℤ pos (10 ^ 23)) }
         ensures to_ten { result ≤ 100 }
     {
-        let weights = self.shared_weights();
+        let weights = self.weights();
         let first = weights.environmental_first(self.minor_version);
         weights.times_temporal(first, self.minor_version) as u8
     }

@@ -23,8 +23,7 @@ impl Vector {
 
     #[inline(always)]
     fn weighed(&self) -> Weights
-        ensures value { result ≡ weights_of self.now }
-        ensures bounded { AreBounded result }
+        ensures { result ≡ weights_of self.now }
     {
         let changed = self.is_scope_changed();
         Weights {

@@ -1,7 +1,7 @@
 -- The weights that the metrics of a vector can have, in hundredths: v3.0 specification, 8.4; v3.1 specification, 7.4. The
 -- contracts of calls that `cvss` has no path to cite these.
-use Rattle.std.specs.Prelude.{◌≡◌, ◌≤◌, ℕ, nat_le, Bool, true, false, List, ◌∷◌, map, unwrap_or}
-use Rattle.std.specs.List.{list_all, Contains}
+use Rattle.std.specs.Prelude.{◌≤◌, ℕ, Bool, true, false, List, ◌∷◌, map, unwrap_or}
+use Rattle.std.specs.List.{Contains}
 use Rattle.cvss_base.specs.declared.v3.MetricType.{MetricType}
 use Rattle.cvss_base.specs.declared.v3.MetricType.TheVariants.{AC, AV, C, PR, UI, E, RL, RC, CR}
 use Rattle.cvss_v3_metric.specs.Table.{rows_of, changed_privileges}
@@ -43,10 +43,6 @@ report_confidences = weights_in RC
 -- of the Confidentiality, Integrity and Availability Requirement
 abbrev pub requirements : List ℕ
 requirements = weights_in CR
-
--- none of a metric's weights is above so many hundredths
-abbrev pub WeighsAtMost : ℕ → MetricType → Type 0
-WeighsAtMost most kind = list_all (λ weight. nat_le weight most) (weights_in kind) ≡ true
 
 -- each weight is one that its metric can have, of the privileges by the scope or the modified scope
 pub record AreOfTables (w : Weights) : Type 0 where

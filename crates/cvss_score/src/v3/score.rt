@@ -6,9 +6,9 @@ ghost use Rattle.cvss_base.specs.Rating.{rating_of_score};
 ghost use Rattle.cvss_base.specs.Tenths.{score_text, IsInTenths, IsFromZeroToTen};
 ghost use Rattle.cvss_score.specs.v3.Scores.{IsRounded};
 
+use crate::v3::rounding::round_count;
+use crate::v3::rules::Rules;
 use cvss_base::{OneDecimal, Severity, TENTH, severity_of_score};
-use cvss_score::v3::Rules;
-use cvss_score::v3::rounding::round_count;
 use std::fmt;
 use std::marker::Model;
 
@@ -32,15 +32,6 @@ impl Score {
         ensures { result ≡ count }
     {
         Score(count)
-    }
-
-    /// The score of so many tenths.
-    pub(crate) fn of_tenths(tenths: u64) -> Self
-        requires { tenths ≤ 100 }
-        ensures value { result ≡ pos tenths *ℤ pos (10 ^ 23) }
-        ensures range { IsInTenths IsFromZeroToTen result }
-    {
-        Score(tenths as i128 * TENTH)
     }
 
     /// The rounding to tenths of v3.1 (Appendix A).
@@ -76,6 +67,15 @@ impl Score {
     {
         self.0
     }
+}
+
+/// The score of so many tenths.
+pub fn of_tenths(tenths: u64) -> Score
+    requires { tenths ≤ 100 }
+    ensures value { result ≡ pos tenths *ℤ pos (10 ^ 23) }
+    ensures range { IsInTenths IsFromZeroToTen result }
+{
+    Score(tenths as i128 * TENTH)
 }
 
 impl fmt::Display for Score {
