@@ -34,11 +34,6 @@ use Rattle.cvss_any.specs.private.Versions.{IsRoutedV3, route_v3}
 use Rattle.cvss_any.specs.declared.vector.Cvss.{Cvss}
 use Rattle.cvss_any.specs.declared.vector.Cvss.TheVariants.{CvssV20, CvssV30, CvssV31, CvssV40}
 
--- the pieces of a text that denotes a vector of CVSS v3
-v3_pieces : (text : List ℕ) (vector : vector_v3.Vector) (denotes : Denotes v3 text vector) → pieces text ≡ version_piece (codes "3." ++ numeral vector.minor_version) ∷ denotes.parts
-v3_pieces text vector denotes =
-    pieces_denoted_after v3 v3_laws v3_front_laws text vector denotes (codes "3." ++ numeral vector.minor_version) refl (numeral-plain vector.minor_version)
-
 -- two pieces, the first of which says a version
 two_pieces : (reported : List ℕ) (parts : List (List ℕ)) (to : Route) → parts ≢ [] → ((next : List ℕ) (more : List (List ℕ)) → route_of_pieces (version_piece reported ∷ next ∷ more) ≡ to) → route_of_pieces (version_piece reported ∷ parts) ≡ to
 two_pieces reported [] to some routed = absurd (some refl)
@@ -92,9 +87,6 @@ first_held_routed [] kind spelling some undotted is = absurd (omega (arith, some
 first_held_routed (piece ∷ []) kind spelling some undotted is = absurd (omega (arith, some))
 first_held_routed (piece ∷ next ∷ more) kind spelling some undotted is = ap (λ each. route_of_pieces (each ∷ next ∷ more)) is ∙ held_routed kind spelling next more undotted
 
-two_at_least : (more : ℕ) → 1 < suc (suc more)
-two_at_least more = omega arith
-
 -- a vector of CVSS v2 with all base metrics has two components
 pub v2_parts : (text : List ℕ) (vector : vector_v2.Vector) (denotes : DenotesV2 text vector) → 1 < length denotes.denoted.parts
 v2_parts text vector denotes =
@@ -103,7 +95,7 @@ v2_parts text vector denotes =
     let same = length_permutation (map (read v2) components) (map (read v2) parts) denotes.denoted.components.each_once in
     let av = value_from (v2.value_of vector kind_v2.AV) (denotes.complete.present kind_v2.AV (0, lit< tt, refl)) in
     let ac = value_from (v2.value_of vector kind_v2.AC) (denotes.complete.present kind_v2.AC (1, lit< tt, refl)) in
-    let two : 1 < length components = rw (av.1, ac.1) (two_at_least _) in
+    let two : 1 < length components = rw (av.1, ac.1) (omega arith) in
     omega (arith, two, same, length-map parts (read v2), length-map components (read v2))
 
 v20_routed : (text : List ℕ) (vector : vector_v2.Vector) → DenotesV2 text vector → route_of text ≡ ToV20
@@ -123,7 +115,7 @@ pub v3_denoted : (text components : List ℕ) (minor : ℕ) (vector : vector_v3.
 v3_denoted text components minor vector is denotes formed alone = record {
   denoted = denotes;
   well_formed = formed;
-  version = same_minor vector.minor_version minor denotes.parts (pieces components) (sym (v3_pieces text vector denotes) ∙ is.cut);
+  version = same_minor vector.minor_version minor denotes.parts (pieces components) (sym (pieces_denoted_after v3 v3_laws v3_front_laws text vector denotes (codes "3." ++ numeral vector.minor_version) refl (numeral-plain vector.minor_version)) ∙ is.cut);
   more = λ same. alone (ap route_of (sym same) ∙ is.routed);
 }
 
