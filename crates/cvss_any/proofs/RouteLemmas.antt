@@ -66,14 +66,11 @@ v4_parts text vector denotes none =
     let stands = held_stands v4 v4_laws vector denotes.denoted.parts kind_v4.AC value.0 denotes.denoted.components value.1 in
     omega (arith, stands.within, ap length none)
 
--- the piece that says the version of a well formed vector of CVSS v4.0
-pub v4_front : (vector : vector_v4.Vector) → IsWellFormed v4 vector → v4.front vector ≡ version_piece (codes "4.0") ∷ []
-v4_front vector formed =
-    formed.supported.front_is ∙ ap (λ each. version_piece each ∷ []) (only_one formed.supported.reported (codes "4.0") formed.supported.supported)
-
 v40_routed : (text : List ℕ) (vector : vector_v4.Vector) → DenotesV4 text vector → route_of text ≡ ToV40
 v40_routed text vector denotes =
-    routed_after v4 v4_laws v4_front_laws text vector denotes.denoted (codes "4.0") ToV40 (v4_front vector denotes.well_formed) refl (v4_parts text vector denotes) (λ next more. refl)
+    let said = denotes.well_formed.supported in
+    let front = said.front_is ∙ ap (λ each. version_piece each ∷ []) (only_one said.reported (codes "4.0") said.supported) in
+    routed_after v4 v4_laws v4_front_laws text vector denotes.denoted (codes "4.0") ToV40 front refl (v4_parts text vector denotes) (λ next more. refl)
 
 -- a first piece that is a component of CVSS v2 says no version
 held_routed : (kind : type_v2.MetricType) (spelling next : List ℕ) (more : List (List ℕ)) → has dot spelling ≡ false → route_of_pieces (component (name_of kind) spelling ∷ next ∷ more) ≡ ToV20

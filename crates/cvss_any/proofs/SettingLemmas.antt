@@ -37,14 +37,11 @@ fewer : (index : Option ℕ) (n : ℕ) → n ≤ most_metrics → IfSome index (
 fewer None n most bound = tt
 fewer (Some i) n most bound = omega arith
 
-ok_same : {X E : Type 0} (x y : X) → ◌≡◌ {A = Result X E} (Ok x) (Ok y) → x ≡ y
-ok_same x y same = cc
-
 module _ {V K : Type 0} {version : base.Version V K} {IsIt : V → Type 0} {IsReason : Option ℕ → Refusal K → Type 0} (wrap : V → Cvss) (of_any : K → MetricType) where
   pub answered_ok : (v : V) → IsAnswered version IsIt IsReason (Ok v) → IsAnsweredBy (IsOf wrap IsIt) (λ index. IsReasonOf of_any (IsReason index)) (Ok (wrap v))
   answered_ok v is = record {
     accepted = record { own = v; holds = is.accepted; is = refl };
-    accepts = λ cvss of. ap (λ own. Ok (wrap own)) (ok_same v of.own (is.accepts of.own of.holds)) ∙ ap Ok (sym of.is);
+    accepts = λ cvss of. let same = is.accepts of.own of.holds in cc;
     refused = tt;
     refuses = λ index reason of. is.refuses index of.own of.first;
     bound = tt;
