@@ -148,7 +148,7 @@ fn publish_rest<V: OneVersion, P: Publishing>(
     if let Err(fault) = read_text(components, &mut vector) {
         return reject::<P>(text, allow_incomplete, Refusal::of(V::reported(fault)), out);
     }
-    if let Some(metric) = vector.missing_by(allow_incomplete) {
+    if let Some(metric) = vector.join(minor_version).missing_by(allow_incomplete) {
         return reject::<P>(text, allow_incomplete, Refusal::Missing(metric), out);
     }
     let mut buffer = TextBuffer::new();

@@ -10,6 +10,6 @@ returns g c =
       canonical = c.canonical-canonical.result.now;
       published = c.published_as.result;
       is = IsPublishedBy-read c.args.allow_incomplete (rules.read (Ok c.in_default.field-0) vector c.in_default.ensures)
-          (c.canonical-canonical.ensures ∙ sym (rules.text vector)) c.published_as.ensures (sym (c.missing_by.ensures c.args.minor_version) ∙ c.in_default-missing_by.is);
+          (c.canonical-canonical.ensures ∙ sym (rules.text vector)) c.published_as.ensures (rw c.join.ensures at (sym c.missing_by.ensures ∙ c.in_default-missing_by.is));
       appended = c.in_ok-accept.ensures;
     }
