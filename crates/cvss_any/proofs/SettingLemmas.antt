@@ -1,6 +1,6 @@
 -- What is answered of a vector of any version, from what its version answers, where metrics are set; and a vector that is
 -- built is what the text of its version and its components denotes.
-use Rattle.std.proofs.Common.{◌≡◌, ℕ, ◌≤◌, List, Option, Some, None, IfSome, Result, Ok, Err, length, refl, sym, ap, ◌∙◌, subst, arith, ◌≢◌, false, [], ◌∷◌, ◌++◌, codes, length-append, lit<, Contains}
+use Rattle.std.proofs.Common.{◌≡◌, ℕ, ◌≤◌, List, Option, Some, None, IfSome, Ok, Err, length, refl, sym, ap, ◌∙◌, subst, arith, ◌≢◌, false, [], ◌∷◌, ◌++◌, codes, length-append, lit<, Contains}
 use Rattle.cvss_base.specs.V4Types.{most_metrics}
 use Rattle.cvss_base.specs.Refusal.{Refusal}
 use Rattle.cvss_base.specs.Version.{numeral, version_piece}
@@ -15,7 +15,7 @@ use Rattle.cvss_any.specs.private.SettingSteps.{IsAnsweredBy}
 use Rattle.cvss_any.specs.declared.metric_type.MetricType.{MetricType}
 use Rattle.cvss_any.specs.declared.setting.SetError.{SetError}
 use Rattle.cvss_any.specs.declared.vector.Cvss.{Cvss}
-use Rattle.cvss_any.specs.declared.vector.Cvss.TheVariants.{CvssV20, CvssV30, CvssV31, CvssV40}
+use Rattle.cvss_any.specs.declared.vector.Cvss.TheVariants.{CvssV40}
 use Rattle.cvss_text.specs.Setting.{components_in, IsBuilt}
 use Rattle.cvss_text.proofs.SettingLemmas.{IsComplete-set}
 use Rattle.cvss_v4.specs.Vector.{v4}
