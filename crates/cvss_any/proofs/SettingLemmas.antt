@@ -1,6 +1,7 @@
 -- What is answered of a vector of any version, from what its version answers, where metrics are set; and a vector that is
 -- built is what the text of its version and its components denotes.
-use Rattle.std.proofs.Common.{◌≡◌, ℕ, ◌≤◌, List, Option, Some, None, IfSome, Ok, Err, length, refl, sym, ap, ◌∙◌, subst, arith, ◌≢◌, false, [], ◌∷◌, ◌++◌, codes, length-append, lit<, Contains}
+use Rattle.std.proofs.Common.{◌≡◌, ℕ, ◌≤◌, List, Option, IfSome, Ok, Err, length, refl, sym, ap, ◌∙◌, subst, arith, ◌≢◌, false, [], ◌∷◌, ◌++◌, codes, length-append, lit<, Contains}
+use Rattle.std.proofs.lemmas.Option.{IfSome_then}
 use Rattle.cvss_base.specs.V4Types.{most_metrics}
 use Rattle.cvss_base.specs.Refusal.{Refusal}
 use Rattle.cvss_base.specs.Version.{numeral, version_piece}
@@ -33,10 +34,6 @@ use Rattle.cvss_v2.specs.Vector.{v2}
 use Rattle.cvss_v3.specs.Vector.{v3}
 use Rattle.cvss_v3.specs.declared.vector.Vector as vector_v3
 
-fewer : (index : Option ℕ) (n : ℕ) → n ≤ most_metrics → IfSome index (λ i. i ≤ n) → IfSome index (λ i. i ≤ most_metrics)
-fewer None n most bound = tt
-fewer (Some i) n most bound = omega arith
-
 module _ {V K : Type 0} {version : base.Version V K} {IsIt : V → Type 0} {IsReason : Option ℕ → Refusal K → Type 0} (wrap : V → Cvss) (of_any : K → MetricType) where
   pub answered_ok : (v : V) → IsAnswered version IsIt IsReason (Ok v) → IsAnsweredBy (IsOf wrap IsIt) (λ index. IsReasonOf of_any (IsReason index)) (Ok (wrap v))
   answered_ok v is = record {
@@ -55,7 +52,7 @@ module _ {V K : Type 0} {version : base.Version V K} {IsIt : V → Type 0} {IsRe
     refuses = λ other reason of.
         let same = is.refuses other of.own of.first in
         (at ∙ same.0, says ∙ ap (wrapped of_any) same.1 ∙ sym of.is);
-    bound = subst (λ each. IfSome each (λ i. i ≤ most_metrics)) (sym at) (fewer refused.0 (length version.printed) most is.bound);
+    bound = IfSome_then error.index (subst (λ each. IfSome each (λ i. i ≤ length version.printed)) (sym at) is.bound) (λ i within. omega (arith, within, most));
   }
 
 -- a vector that has a score keeps one
