@@ -1,6 +1,6 @@
 -- The groups of metrics with levels, and what holds of the level sums of each class.
 use Rattle.std.proofs.Common.{◌≡◌, ℕ, ◌+◌, ◌-◌, ◌*◌, ◌/◌, ◌<◌, ◌≤◌, min, Bool, true, ◌&&◌, ◌==◌, leb, ltb, slice_index, refl, arith, ℤ, pos, ◌-ℤ◌}
-use Rattle.std.proofs.lemmas.Bool.{and_parts, eqb-true, leb-true}
+use Rattle.std.proofs.lemmas.Bool.{and_parts}
 use Rattle.std.proofs.lemmas.Bool.Decides.{nat_tests}
 use denote.Enum.Declared.{tag_of}
 use Rattle.cvss_v4_metric.specs.contracts.base.attack as attack
@@ -47,16 +47,12 @@ tabled_is : (least constant part depth : ℕ)
     → ((least == constant) && ((part == 840 / depth) && ((840 / part == depth) && ((depth * part == 840) && leb 84 part)))) ≡ true
     → IsTabled least constant part depth
 tabled_is least constant part depth h =
-    let one = and_parts (least == constant) _ h in
-    let two = and_parts (part == 840 / depth) _ one.1 in
-    let three = and_parts (840 / part == depth) _ two.1 in
-    let four = and_parts (depth * part == 840) _ three.1 in
     record {
-      is_least = eqb-true _ _ one.0;
-      is_part = eqb-true _ _ two.0;
-      is_depth = eqb-true _ _ three.0;
-      divides = eqb-true _ _ four.0;
-      some = leb-true _ _ four.1;
+      is_least = grind (arith, nat_tests);
+      is_part = grind (arith, nat_tests);
+      is_depth = grind (arith, nat_tests);
+      divides = grind (arith, nat_tests);
+      some = grind (arith, nat_tests);
     }
 
 -- so it is of all values and all classes
