@@ -1,6 +1,4 @@
-mod BuiltLemmas
 pub mod ErrorLemmas
-mod ReadLemmas
+pub mod ReadLemmas
 pub mod RouteLemmas
 mod SettingLemmas
-pub mod UniqueLemmas

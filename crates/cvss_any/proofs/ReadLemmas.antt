@@ -1,11 +1,15 @@
--- What reading a text answers, from what the rules of its version read.
-use Rattle.std.proofs.Common.{◌≡◌, ◌++◌, arith, List, ℕ, zero, suc, Result, Ok, Err, refl, sym, ap, ◌∙◌, subst, IsUtf8, codes, lit<}
-use Rattle.cvss_base.specs.Refusal.{Refusal}
+-- A text denotes at most one vector and has at most one first refusal; what reading it answers follows from what the
+-- rules of its version read. And a vector has one score.
+use Rattle.std.proofs.Common.{◌≡◌, ◌++◌, arith, Bool, None, List, ℕ, zero, suc, Result, Ok, Err, refl, sym, ap, ◌∙◌, subst, IsUtf8, codes, lit<}
+use Rattle.cvss_base.specs.Refusal.{Refusal, BadPiecesFirst}
 use Rattle.cvss_base.specs.Text.{pieces}
 use Rattle.cvss_base.specs.Version.{Version, Denotes, IsComplete}
-use Rattle.cvss_any.specs.Answers.{HasScore}
-use Rattle.cvss_text.specs.Route.{NoVersion, Route, ToV40, ToNoVersion, route_of}
-use Rattle.cvss_any.specs.Dispatch.{DenotesCvss, IsFirstRefusalCvss, IsFirstReasonAt, without_version}
+use Rattle.cvss_any.specs.Answers.{HasScore, IsScoreOf, text_of}
+use Rattle.cvss_any.specs.Complete.{IsPublishedBy, missing_by}
+use Rattle.cvss_any.specs.Published.{IsPublished}
+use Rattle.cvss_any.specs.declared.published.Published.{Published}
+use Rattle.cvss_text.specs.Route.{NoVersion, Route, ToV40, ToNoVersion, route_of, ToV20, ToV30, ToV31}
+use Rattle.cvss_any.specs.Dispatch.{DenotesCvss, IsFirstRefusalCvss, IsFirstReasonAt, without_version, IsReasonOf, wrapped}
 use Rattle.cvss_any.specs.private.Steps.{IsRead, IsPrintableFault, read_as, reason_read}
 use Rattle.cvss_any.specs.private.Versions.{IsRoutedV3, front_of, route_v3, wrapped_v3}
 use Rattle.cvss_any.specs.declared.reading.ReadFault.{ReadFault}
@@ -14,7 +18,7 @@ use Rattle.cvss_any.specs.declared.vector.Cvss.{Cvss}
 use Rattle.cvss_any.specs.declared.vector.Cvss.TheVariants.{CvssV20, CvssV30, CvssV31, CvssV40}
 use Rattle.cvss_text.specs.private.Walk.{IsFirstOfPieces, IsPrintable, IsReadLeft, reason_of}
 use Rattle.cvss_text.specs.declared.walk.Fault.{Fault}
-use Rattle.cvss_text.proofs.FrontLemmas.{Denotes-pieces, IsUtf8-left, decided_after, decided_bare, reason_after}
+use Rattle.cvss_text.proofs.FrontLemmas.{IsDecided, Denotes-pieces, IsUtf8-left, decided_after, decided_bare, reason_after, denoted_once_after}
 use Rattle.cvss_v2.specs.private.VectorLaws.{v2_laws}
 use Rattle.cvss_v2.specs.Vector.{v2}
 use Rattle.cvss_v3.specs.private.VectorLaws.{v3_laws, v3_front_laws}
@@ -24,30 +28,64 @@ use Rattle.cvss_v4.specs.private.VectorLaws.{v4_laws, v4_front_laws}
 use Rattle.cvss_v4.specs.Vector.{v4}
 use Rattle.cvss_v4.specs.declared.vector.Vector as vector_v4
 use Rattle.cvss_any.proofs.RouteLemmas.{denoted_routed, route_for, v3_denoted}
-use Rattle.cvss_any.proofs.UniqueLemmas.{one_refusal, one_vector}
+use Rattle.cvss_text.proofs.CanonicalLemmas.{denoted_once}
+use Rattle.cvss_base.proofs.TenthsLemmas.{in_tenths_once}
+use Rattle.cvss_base.specs.laws.Rounding.{IsOneCount}
+use Rattle.cvss_score.proofs.v2_lemmas.UniqueLemmas.{base_score_once}
+use Rattle.cvss_v2.specs.Weights.{weights_of}
+use Rattle.cvss_score.proofs.v3_lemmas.LawLemmas as law_v3
+use Rattle.cvss_v3.specs.VectorWeights as weights_v3
+use Rattle.cvss_score.proofs.v4_lemmas.ScoreLawLemmas.{one_score}
+use Rattle.cvss_v4.specs.Merging.{effective_of}
+use Rattle.cvss_score.specs.v4.Scores.{IsScore}
+use Rattle.cvss_any.specs.declared.metric_type.MetricType.{MetricType}
+use Rattle.cvss_any.specs.declared.metric_type.MetricType.TheVariants.{V2, V3, V4}
+
+pub one_vector : (text : List ℕ) (left right : Cvss) → DenotesCvss text left → DenotesCvss text right → left ≡ right
+one_vector text (CvssV20 v) (CvssV20 w) left right = ap CvssV20 (denoted_once v2 v2_laws v w text refl left.denoted right.denoted)
+one_vector text (CvssV30 v) (CvssV30 w) left right = ap CvssV30 (denoted_once_after v3 v3_laws v3_front_laws text v w left.denoted right.denoted)
+one_vector text (CvssV31 v) (CvssV31 w) left right = ap CvssV31 (denoted_once_after v3 v3_laws v3_front_laws text v w left.denoted right.denoted)
+one_vector text (CvssV40 v) (CvssV40 w) left right = ap CvssV40 (denoted_once_after v4 v4_laws v4_front_laws text v w left.denoted right.denoted)
+one_vector text v w left right = let no : route_for v ≡ route_for w = sym (denoted_routed text v left) ∙ denoted_routed text w right in absurd cc
+
+-- what a version decides of a text, of vectors and reasons as those of any version
+module _ {V K : Type 0} {version : Version V K} {IsFormed : V → Type 0} {IsReason : Refusal K → Type 0} {text : List ℕ} (wrap : K → MetricType) (is : IsDecided version IsFormed IsReason text) where
+  own_vector : (v : V) → Denotes version text v → IsFormed v → IsUtf8 text × ((reason : Refusal MetricType) → IsReasonOf wrap (BadPiecesFirst IsReason (pieces text)) reason → ⊥)
+  own_vector v denotes formed = (is.utf8 v denotes formed, λ reason of. is.none v denotes formed of.own of.first)
+
+  own_reason : (one other : Refusal MetricType) → IsReasonOf wrap (BadPiecesFirst IsReason (pieces text)) one → IsReasonOf wrap (BadPiecesFirst IsReason (pieces text)) other → one ≡ other
+  own_reason one other first second =
+      first.is ∙ (ap (wrapped wrap) (is.one_reason first.own second.own first.first second.first) ∙ sym second.is)
+
+one_at : (route : Route) (text : List ℕ) (one other : Refusal MetricType) → IsFirstReasonAt route text one → IsFirstReasonAt route text other → one ≡ other
+one_at ToV20 text = own_reason V2 (decided_bare v2 v2_laws text)
+one_at ToV30 text = own_reason V3 (decided_after v3 v3_laws v3_front_laws text)
+one_at ToV31 text = own_reason V3 (decided_after v3 v3_laws v3_front_laws text)
+one_at ToV40 text = own_reason V4 (decided_after v4 v4_laws v4_front_laws text)
+one_at (ToNoVersion why) text = λ one other first second. first ∙ sym second
+
+pub one_refusal : (text : List ℕ) (one other : Refusal MetricType) → IsFirstRefusalCvss text one → IsFirstRefusalCvss text other → one ≡ other
+one_refusal text = one_at (route_of text) text
+
+pub score_once : (cvss : Cvss) → IsOneCount (IsScoreOf cvss)
+score_once (CvssV20 v) = base_score_once (weights_of v)
+score_once (CvssV30 v) = law_v3.base_score_once v.minor_version (weights_v3.weights_of v)
+score_once (CvssV31 v) = law_v3.base_score_once v.minor_version (weights_v3.weights_of v)
+score_once (CvssV40 v) = in_tenths_once (IsScore (effective_of v)) (one_score (effective_of v))
 
 module _ (text : List ℕ) where
-  -- a text that denotes a vector is UTF-8 and has no reason to be refused; and the vector has a score
-  utf8 : (cvss : Cvss) → DenotesCvss text cvss → IsUtf8 text
-  utf8 (CvssV20 v) denotes = (decided_bare v2 v2_laws text).utf8 v denotes.denoted (record { frontless = refl; complete = denotes.complete })
-  utf8 (CvssV30 v) denotes = (decided_after v3 v3_laws v3_front_laws text).utf8 v denotes.denoted denotes.well_formed
-  utf8 (CvssV31 v) denotes = (decided_after v3 v3_laws v3_front_laws text).utf8 v denotes.denoted denotes.well_formed
-  utf8 (CvssV40 v) denotes = (decided_after v4 v4_laws v4_front_laws text).utf8 v denotes.denoted denotes.well_formed
+  decided : (cvss : Cvss) → DenotesCvss text cvss → IsUtf8 text × ((reason : Refusal MetricType) → IsFirstReasonAt (route_for cvss) text reason → ⊥)
+  decided (CvssV20 v) is = own_vector V2 (decided_bare v2 v2_laws text) v is.denoted (record { frontless = refl; complete = is.complete })
+  decided (CvssV30 v) is = own_vector V3 (decided_after v3 v3_laws v3_front_laws text) v is.denoted is.well_formed
+  decided (CvssV31 v) is = own_vector V3 (decided_after v3 v3_laws v3_front_laws text) v is.denoted is.well_formed
+  decided (CvssV40 v) is = own_vector V4 (decided_after v4 v4_laws v4_front_laws text) v is.denoted is.well_formed
 
-  none_at : (cvss : Cvss) → DenotesCvss text cvss → (reason : Refusal _) → IsFirstReasonAt (route_for cvss) text reason → ⊥
-  none_at (CvssV20 v) denotes reason of = (decided_bare v2 v2_laws text).none v denotes.denoted (record { frontless = refl; complete = denotes.complete }) of.own of.first
-  none_at (CvssV30 v) denotes reason of = (decided_after v3 v3_laws v3_front_laws text).none v denotes.denoted denotes.well_formed of.own of.first
-  none_at (CvssV31 v) denotes reason of = (decided_after v3 v3_laws v3_front_laws text).none v denotes.denoted denotes.well_formed of.own of.first
-  none_at (CvssV40 v) denotes reason of = (decided_after v4 v4_laws v4_front_laws text).none v denotes.denoted denotes.well_formed of.own of.first
-
-  none : (cvss : Cvss) → DenotesCvss text cvss → (reason : Refusal _) → IsFirstRefusalCvss text reason → ⊥
-  none cvss denotes reason first = none_at cvss denotes reason (subst (λ route. IsFirstReasonAt route text reason) (denoted_routed text cvss denotes) first)
+  none : (cvss : Cvss) → DenotesCvss text cvss → (reason : Refusal MetricType) → IsFirstRefusalCvss text reason → ⊥
+  none cvss denotes reason first = (decided cvss denotes).1 reason (subst (λ route. IsFirstReasonAt route text reason) (denoted_routed text cvss denotes) first)
 
   pub scored : (cvss : Cvss) → DenotesCvss text cvss → HasScore cvss
   scored (CvssV40 v) denotes = denotes.well_formed.complete
-  scored (CvssV20 v) denotes = tt
-  scored (CvssV30 v) denotes = tt
-  scored (CvssV31 v) denotes = tt
+  scored _ denotes = tt
 
   -- so an answer is right that is such a vector or such a reason
   read_ok : (cvss : Cvss) → DenotesCvss text cvss → IsRead text (Ok cvss)
@@ -55,7 +93,7 @@ module _ (text : List ℕ) where
     denoted = denotes;
     accepts = λ other also. ap Ok (one_vector text cvss other denotes also);
     scored = scored cvss denotes;
-    utf8 = utf8 cvss denotes;
+    utf8 = (decided cvss denotes).0;
     refused = tt;
     refuses = λ reason first. absurd (none cvss denotes reason first);
     printable = λ is. tt;
@@ -113,3 +151,9 @@ module _ (text : List ℕ) where
         (λ fault first. record { own = reason_of v4 fault; first = reason_after v4 v4_laws v4_front_laws text (codes "4.0") (0, lit< tt, refl) (pieces components) cut (reason_of v4 fault) first; is = refl })
         (λ fault printable. printable)
     read_v4 (suc minor) known routed cut = absurd (omega (arith, known))
+
+-- what is published of a vector that was read, whose canonical text is given; it lacks no base metric, unless it may
+pub IsPublishedBy-read : {text canonical : List ℕ} {cvss : Cvss} {published : Published} (allow_incomplete : Bool) → IsRead text (Ok cvss)
+    → canonical ≡ text_of cvss → IsPublished cvss published → missing_by allow_incomplete cvss ≡ None → IsPublishedBy allow_incomplete text canonical published
+IsPublishedBy-read {cvss = cvss} allow_incomplete read canonical_is is complete =
+    record { of = record { cvss = cvss; canonical_is = canonical_is; denoted = read.denoted; utf8 = read.utf8; is = is }; complete = complete }

@@ -34,11 +34,6 @@ use Rattle.cvss_any.specs.private.Versions.{IsRoutedV3, route_v3}
 use Rattle.cvss_any.specs.declared.vector.Cvss.{Cvss}
 use Rattle.cvss_any.specs.declared.vector.Cvss.TheVariants.{CvssV20, CvssV30, CvssV31, CvssV40}
 
--- the pieces of a text that denotes a vector of CVSS v3
-v3_pieces : (text : List ℕ) (vector : vector_v3.Vector) (denotes : Denotes v3 text vector) → pieces text ≡ version_piece (codes "3." ++ numeral vector.minor_version) ∷ denotes.parts
-v3_pieces text vector denotes =
-    pieces_denoted_after v3 v3_laws v3_front_laws text vector denotes (codes "3." ++ numeral vector.minor_version) refl (numeral-plain vector.minor_version)
-
 -- two pieces, the first of which says a version
 two_pieces : (reported : List ℕ) (parts : List (List ℕ)) (to : Route) → parts ≢ [] → ((next : List ℕ) (more : List (List ℕ)) → route_of_pieces (version_piece reported ∷ next ∷ more) ≡ to) → route_of_pieces (version_piece reported ∷ parts) ≡ to
 two_pieces reported [] to some routed = absurd (some refl)
@@ -71,14 +66,11 @@ v4_parts text vector denotes none =
     let stands = held_stands v4 v4_laws vector denotes.denoted.parts kind_v4.AC value.0 denotes.denoted.components value.1 in
     omega (arith, stands.within, ap length none)
 
--- the piece that says the version of a well formed vector of CVSS v4.0
-pub v4_front : (vector : vector_v4.Vector) → IsWellFormed v4 vector → v4.front vector ≡ version_piece (codes "4.0") ∷ []
-v4_front vector formed =
-    formed.supported.front_is ∙ ap (λ each. version_piece each ∷ []) (only_one formed.supported.reported (codes "4.0") formed.supported.supported)
-
 v40_routed : (text : List ℕ) (vector : vector_v4.Vector) → DenotesV4 text vector → route_of text ≡ ToV40
 v40_routed text vector denotes =
-    routed_after v4 v4_laws v4_front_laws text vector denotes.denoted (codes "4.0") ToV40 (v4_front vector denotes.well_formed) refl (v4_parts text vector denotes) (λ next more. refl)
+    let said = denotes.well_formed.supported in
+    let front = said.front_is ∙ ap (λ each. version_piece each ∷ []) (only_one said.reported (codes "4.0") said.supported) in
+    routed_after v4 v4_laws v4_front_laws text vector denotes.denoted (codes "4.0") ToV40 front refl (v4_parts text vector denotes) (λ next more. refl)
 
 -- a first piece that is a component of CVSS v2 says no version
 held_routed : (kind : type_v2.MetricType) (spelling next : List ℕ) (more : List (List ℕ)) → has dot spelling ≡ false → route_of_pieces (component (name_of kind) spelling ∷ next ∷ more) ≡ ToV20
@@ -92,9 +84,6 @@ first_held_routed [] kind spelling some undotted is = absurd (omega (arith, some
 first_held_routed (piece ∷ []) kind spelling some undotted is = absurd (omega (arith, some))
 first_held_routed (piece ∷ next ∷ more) kind spelling some undotted is = ap (λ each. route_of_pieces (each ∷ next ∷ more)) is ∙ held_routed kind spelling next more undotted
 
-two_at_least : (more : ℕ) → 1 < suc (suc more)
-two_at_least more = omega arith
-
 -- a vector of CVSS v2 with all base metrics has two components
 pub v2_parts : (text : List ℕ) (vector : vector_v2.Vector) (denotes : DenotesV2 text vector) → 1 < length denotes.denoted.parts
 v2_parts text vector denotes =
@@ -103,7 +92,7 @@ v2_parts text vector denotes =
     let same = length_permutation (map (read v2) components) (map (read v2) parts) denotes.denoted.components.each_once in
     let av = value_from (v2.value_of vector kind_v2.AV) (denotes.complete.present kind_v2.AV (0, lit< tt, refl)) in
     let ac = value_from (v2.value_of vector kind_v2.AC) (denotes.complete.present kind_v2.AC (1, lit< tt, refl)) in
-    let two : 1 < length components = rw (av.1, ac.1) (two_at_least _) in
+    let two : 1 < length components = rw (av.1, ac.1) (omega arith) in
     omega (arith, two, same, length-map parts (read v2), length-map components (read v2))
 
 v20_routed : (text : List ℕ) (vector : vector_v2.Vector) → DenotesV2 text vector → route_of text ≡ ToV20
@@ -123,7 +112,7 @@ pub v3_denoted : (text components : List ℕ) (minor : ℕ) (vector : vector_v3.
 v3_denoted text components minor vector is denotes formed alone = record {
   denoted = denotes;
   well_formed = formed;
-  version = same_minor vector.minor_version minor denotes.parts (pieces components) (sym (v3_pieces text vector denotes) ∙ is.cut);
+  version = same_minor vector.minor_version minor denotes.parts (pieces components) (sym (pieces_denoted_after v3 v3_laws v3_front_laws text vector denotes (codes "3." ++ numeral vector.minor_version) refl (numeral-plain vector.minor_version)) ∙ is.cut);
   more = λ same. alone (ap route_of (sym same) ∙ is.routed);
 }
 

@@ -1,37 +1,44 @@
--- What is answered of a vector of any version, from what its version answers.
-use Rattle.std.proofs.Common.{◌≡◌, ℕ, ◌≤◌, List, Option, Some, None, IfSome, Result, Ok, Err, length, refl, sym, ap, ◌∙◌, subst, arith}
+-- What is answered of a vector of any version, from what its version answers, where metrics are set; and a vector that is
+-- built is what the text of its version and its components denotes.
+use Rattle.std.proofs.Common.{◌≡◌, ℕ, ◌≤◌, List, Option, IfSome, Ok, Err, length, refl, sym, ap, ◌∙◌, subst, arith, ◌≢◌, false, [], ◌∷◌, ◌++◌, codes, length-append, lit<, Contains}
+use Rattle.std.proofs.lemmas.Option.{IfSome_then}
 use Rattle.cvss_base.specs.V4Types.{most_metrics}
 use Rattle.cvss_base.specs.Refusal.{Refusal}
-use Rattle.cvss_base.specs.Version.{Version}
+use Rattle.cvss_base.specs.Version.{numeral, version_piece}
 use Rattle.cvss_text.specs.private.SettingSteps.{IsAnswered}
 use Rattle.cvss_text.specs.private.Walk.{reason_of}
 use Rattle.cvss_text.specs.declared.walk.Fault.{Fault}
-use Rattle.cvss_any.specs.Dispatch.{IsReasonOf, wrapped}
+use Rattle.cvss_any.specs.Dispatch.{IsReasonOf, wrapped, DenotesCvss, DenotesV3}
 use Rattle.cvss_any.specs.Refusals.{refusal_of}
 use Rattle.cvss_any.specs.Answers.{HasScore}
-use Rattle.cvss_any.specs.Setting.{IsOf, IsWith}
+use Rattle.cvss_any.specs.Setting.{IsOf, IsWith, IsBuiltAs, text_with}
 use Rattle.cvss_any.specs.private.SettingSteps.{IsAnsweredBy}
 use Rattle.cvss_any.specs.declared.metric_type.MetricType.{MetricType}
 use Rattle.cvss_any.specs.declared.setting.SetError.{SetError}
 use Rattle.cvss_any.specs.declared.vector.Cvss.{Cvss}
-use Rattle.cvss_any.specs.declared.vector.Cvss.TheVariants.{CvssV20, CvssV30, CvssV31, CvssV40}
-use Rattle.cvss_text.specs.Setting.{components_in}
+use Rattle.cvss_any.specs.declared.vector.Cvss.TheVariants.{CvssV40}
+use Rattle.cvss_text.specs.Setting.{components_in, IsBuilt}
 use Rattle.cvss_text.proofs.SettingLemmas.{IsComplete-set}
 use Rattle.cvss_v4.specs.Vector.{v4}
 use Rattle.cvss_v4.specs.private.VectorLaws.{v4_laws}
+use Rattle.cvss_base.specs.Text.{has, pieces, slash}
+use Rattle.cvss_base.specs.Version as base
+use Rattle.cvss_any.specs.private.Versions.{front_of}
+use Rattle.cvss_any.specs.declared.setting.Version.{Version}
+use Rattle.cvss_any.specs.declared.setting.Version.TheVariants.{V20, V30, V31, V40}
+use Rattle.cvss_any.proofs.ReadLemmas.{scored}
+use Rattle.cvss_any.proofs.RouteLemmas.{same_minor}
+use Rattle.cvss_text.proofs.PieceLemmas.{pieces_after}
+use Rattle.cvss_text.proofs.FrontLemmas.{Denotes-pieces}
+use Rattle.cvss_v2.specs.Vector.{v2}
+use Rattle.cvss_v3.specs.Vector.{v3}
+use Rattle.cvss_v3.specs.declared.vector.Vector as vector_v3
 
-fewer : (index : Option ℕ) (n : ℕ) → n ≤ most_metrics → IfSome index (λ i. i ≤ n) → IfSome index (λ i. i ≤ most_metrics)
-fewer None n most bound = tt
-fewer (Some i) n most bound = omega arith
-
-ok_same : {X E : Type 0} (x y : X) → ◌≡◌ {A = Result X E} (Ok x) (Ok y) → x ≡ y
-ok_same x y same = cc
-
-module _ {V K : Type 0} {version : Version V K} {IsIt : V → Type 0} {IsReason : Option ℕ → Refusal K → Type 0} (wrap : V → Cvss) (of_any : K → MetricType) where
+module _ {V K : Type 0} {version : base.Version V K} {IsIt : V → Type 0} {IsReason : Option ℕ → Refusal K → Type 0} (wrap : V → Cvss) (of_any : K → MetricType) where
   pub answered_ok : (v : V) → IsAnswered version IsIt IsReason (Ok v) → IsAnsweredBy (IsOf wrap IsIt) (λ index. IsReasonOf of_any (IsReason index)) (Ok (wrap v))
   answered_ok v is = record {
     accepted = record { own = v; holds = is.accepted; is = refl };
-    accepts = λ cvss of. ap (λ own. Ok (wrap own)) (ok_same v of.own (is.accepts of.own of.holds)) ∙ ap Ok (sym of.is);
+    accepts = λ cvss of. let same = is.accepts of.own of.holds in cc;
     refused = tt;
     refuses = λ index reason of. is.refuses index of.own of.first;
     bound = tt;
@@ -45,12 +52,39 @@ module _ {V K : Type 0} {version : Version V K} {IsIt : V → Type 0} {IsReason 
     refuses = λ other reason of.
         let same = is.refuses other of.own of.first in
         (at ∙ same.0, says ∙ ap (wrapped of_any) same.1 ∙ sym of.is);
-    bound = subst (λ each. IfSome each (λ i. i ≤ most_metrics)) (sym at) (fewer refused.0 (length version.printed) most is.bound);
+    bound = IfSome_then error.index (subst (λ each. IfSome each (λ i. i ≤ length version.printed)) (sym at) is.bound) (λ i within. omega (arith, within, most));
   }
 
 -- a vector that has a score keeps one
 pub scored_with : (cvss new : Cvss) (metrics : List ℕ) → IsWith cvss metrics new → HasScore cvss → HasScore new
-scored_with (CvssV20 v) new metrics is scored = subst HasScore (sym is.is) tt
-scored_with (CvssV30 v) new metrics is scored = subst HasScore (sym is.is) tt
-scored_with (CvssV31 v) new metrics is scored = subst HasScore (sym is.is) tt
 scored_with (CvssV40 v) new metrics is scored = subst HasScore (sym is.is) (IsComplete-set v4 v4_laws v (components_in metrics) is.own is.holds scored)
+scored_with _ new metrics is scored = subst HasScore (sym is.is) tt
+
+-- a text is denoted after the piece that says its version
+denoted_after : {V K : Type 0} (version : base.Version V K) (text : List ℕ) (v : V) (reported : List ℕ) → has slash (version_piece reported) ≡ false → IsBuilt version (version_piece reported ∷ []) (pieces text) v → base.Denotes version (version_piece reported ++ slash ∷ text) v
+denoted_after version text v reported plain built =
+    Denotes-pieces version (version_piece reported ++ slash ∷ text) (version_piece reported ∷ []) (pieces text) (pieces_after (version_piece reported) text plain) v built.front_is built.components
+
+longer : (piece text : List ℕ) → piece ++ slash ∷ text ≢ piece
+longer piece text same = omega (arith, ap length same, length-append piece (slash ∷ text))
+
+built_v3 : (minor : ℕ) (text : List ℕ) (v : vector_v3.Vector) → Contains v3.supported (codes "3." ++ numeral minor) → has slash (version_piece (codes "3." ++ numeral minor)) ≡ false → IsBuilt v3 (front_of (codes "3.") minor) (pieces text) v → DenotesV3 (version_piece (codes "3." ++ numeral minor) ++ slash ∷ text) (version_piece (codes "3." ++ numeral minor)) minor v
+built_v3 minor text v supported plain built = record {
+  denoted = denoted_after v3 text v (codes "3." ++ numeral minor) plain built;
+  well_formed = record { complete = built.complete; supported = record { reported = codes "3." ++ numeral minor; front_is = built.front_is; supported = supported } };
+  version = same_minor v.minor_version minor [] [] built.front_is;
+  more = longer (version_piece (codes "3." ++ numeral minor)) text;
+}
+
+pub denoted_built : (version : Version) (new : Cvss) (text : List ℕ) → IsBuiltAs version text new → DenotesCvss (text_with version text) new
+denoted_built V20 new text is = rw is.is (record { denoted = Denotes-pieces v2 text [] (pieces text) refl is.own is.holds.front_is is.holds.components; complete = is.holds.complete })
+denoted_built V30 new text is = rw is.is (built_v3 0 text is.own (0, lit< tt, refl) refl is.holds)
+denoted_built V31 new text is = rw is.is (built_v3 1 text is.own (1, lit< tt, refl) refl is.holds)
+denoted_built V40 new text is = rw is.is (record {
+  denoted = denoted_after v4 text is.own (codes "4.0") refl is.holds;
+  well_formed = record { complete = is.holds.complete; supported = record { reported = codes "4.0"; front_is = is.holds.front_is; supported = (0, lit< tt, refl) } };
+})
+
+-- so it has a score
+pub scored_built : (version : Version) (new : Cvss) (text : List ℕ) → IsBuiltAs version text new → HasScore new
+scored_built version new text is = scored (text_with version text) new (denoted_built version new text is)

@@ -33,10 +33,8 @@ text_of (CvssV40 vector) = canonical_text v4 vector
 
 -- the vector has a score: of CVSS v4.0, each that has all base metrics
 abbrev pub HasScore : Cvss → Type 0
-HasScore (CvssV20 vector) = ⊤
-HasScore (CvssV30 vector) = ⊤
-HasScore (CvssV31 vector) = ⊤
 HasScore (CvssV40 vector) = IsComplete v4 vector
+HasScore _ = ⊤
 
 -- the score that is published of the vector: in CVSS v2 and v3 the base score
 abbrev pub IsScoreOf : Cvss → ℤ → Type 0
@@ -48,9 +46,7 @@ IsScoreOf (CvssV40 vector) = IsInTenths (IsScore (effective_of vector))
 -- the rating of the vector's score, a count of 10^-24
 abbrev pub rating_by : Cvss → ℤ → Severity
 rating_by (CvssV20 vector) = rating_of
-rating_by (CvssV30 vector) = rating_of_score
-rating_by (CvssV31 vector) = rating_of_score
-rating_by (CvssV40 vector) = rating_of_score
+rating_by _ = rating_of_score
 
 -- a score of so many tenths, as a count of 10^-24
 abbrev pub score_of_tenths : ℕ → ℤ

@@ -12,14 +12,13 @@ use Rattle.cvss_any.specs.declared.metric_type.MetricType.TheVariants.{V3}
 use Rattle.cvss_any.specs.declared.published.Published.{Published}
 use Rattle.cvss_any.specs.declared.refusal.ReadError.{ReadError}
 use Rattle.cvss_any.specs.declared.vector.Cvss.{Cvss}
-use Rattle.cvss_any.specs.declared.vector.Cvss.TheVariants.{CvssV20, CvssV30, CvssV31, CvssV40}
+use Rattle.cvss_any.specs.declared.vector.Cvss.TheVariants.{CvssV30, CvssV31}
 
 -- the first base metric that a vector lacks that was read from a text
 abbrev pub first_missing : Cvss → Option MetricType
-first_missing (CvssV20 _) = None
 first_missing (CvssV30 vector) = option_map V3 (first_missing_base vector)
 first_missing (CvssV31 vector) = option_map V3 (first_missing_base vector)
-first_missing (CvssV40 _) = None
+first_missing _ = None
 
 -- the first base metric that a vector lacks, unless it may lack some
 abbrev pub missing_by : Bool → Cvss → Option MetricType

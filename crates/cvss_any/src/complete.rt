@@ -1,12 +1,9 @@
 //! Which base metrics a vector lacks. Only a vector of CVSS v3 that was read from a text may lack some.
 
-ghost use Rattle.std.specs.Prelude.{◌≡◌, option_map};
+ghost use Rattle.std.specs.Prelude.{◌≡◌};
 ghost use Rattle.cvss_any.specs.Complete.{first_missing, missing_by};
-ghost use Rattle.cvss_v3.specs.Complete.{first_missing_base};
-ghost use Rattle.cvss_any.specs.declared.metric_type.MetricType.TheVariants.{V3};
 
 use crate::metric_type::MetricType;
-use crate::v3;
 use crate::vector::Cvss;
 use cvss_base::v3::MetricType::{A, AC, AV, C, I, PR, S, UI};
 
@@ -20,7 +17,27 @@ impl Cvss {
     {
         match self {
             Cvss::CvssV20(_) | Cvss::CvssV40(_) => None,
-            Cvss::CvssV30(vector) | Cvss::CvssV31(vector) => missing_of_v3(vector),
+            Cvss::CvssV30(vector) | Cvss::CvssV31(vector) => {
+                if vector.av.is_none() {
+                    Some(MetricType::V3(AV))
+                } else if vector.ac.is_none() {
+                    Some(MetricType::V3(AC))
+                } else if vector.pr.is_none() {
+                    Some(MetricType::V3(PR))
+                } else if vector.ui.is_none() {
+                    Some(MetricType::V3(UI))
+                } else if vector.s.is_none() {
+                    Some(MetricType::V3(S))
+                } else if vector.c.is_none() {
+                    Some(MetricType::V3(C))
+                } else if vector.i.is_none() {
+                    Some(MetricType::V3(I))
+                } else if vector.a.is_none() {
+                    Some(MetricType::V3(A))
+                } else {
+                    None
+                }
+            }
         }
     }
 
@@ -34,31 +51,5 @@ impl Cvss {
         } else {
             self.first_missing()
         }
-    }
-}
-
-/// The first base metric that a vector of CVSS v3 lacks, as one of any version.
-#[inline(always)]
-pub(crate) fn missing_of_v3(vector: &v3::Vector) -> Option<MetricType>
-    ensures { result ≡ option_map V3 (first_missing_base vector.now) }
-{
-    if vector.av.is_none() {
-        Some(MetricType::V3(AV))
-    } else if vector.ac.is_none() {
-        Some(MetricType::V3(AC))
-    } else if vector.pr.is_none() {
-        Some(MetricType::V3(PR))
-    } else if vector.ui.is_none() {
-        Some(MetricType::V3(UI))
-    } else if vector.s.is_none() {
-        Some(MetricType::V3(S))
-    } else if vector.c.is_none() {
-        Some(MetricType::V3(C))
-    } else if vector.i.is_none() {
-        Some(MetricType::V3(I))
-    } else if vector.a.is_none() {
-        Some(MetricType::V3(A))
-    } else {
-        None
     }
 }

@@ -19,7 +19,6 @@ ghost use Rattle.cvss_any.specs.declared.vector.Cvss.TheVariants as wrapped;
 ghost use Rattle.cvss_any.specs.private.Steps.{IsRead, read_as};
 ghost use Rattle.cvss_any.specs.private.Versions.{IsRouted, route_v3, wrapped_v3};
 
-use crate::complete::missing_of_v3;
 use crate::metric_type::MetricType;
 use crate::published::{Bounds, Published};
 use crate::reading::ReadFault;
@@ -66,10 +65,6 @@ pub(crate) trait OneVersion: Versioned {
         ensures complete { (allow_incomplete : Bool) (v : Self) → Self.has_base v
             → missing_by allow_incomplete (joined minor_version v) ≡ None };
 
-    /// The first base metric that the vector lacks, unless it may lack some.
-    fn missing_by(&self, allow_incomplete: bool) -> Option<MetricType>
-        ensures { (minor : ℕ) → result ≡ missing_by allow_incomplete (joined minor self.now) };
-
     /// What is published of a vector of the minor version that is said.
     fn published_as(&self, minor_version: usize) -> Published
         requires { HasScore (joined minor_version self.now) }
@@ -111,11 +106,6 @@ impl OneVersion for v2::Vector {
 
     #[inline(always)]
     fn reads_by_its_rules(_text: &[u8], _components: &[u8], _minor: usize, _empty: v2::Vector) {}
-
-    #[inline(always)]
-    fn missing_by(&self, _allow_incomplete: bool) -> Option<MetricType> {
-        None
-    }
 
     #[inline(always)]
     fn published_as(&self, _minor_version: usize) -> Published {
@@ -165,15 +155,6 @@ impl OneVersion for v3::Vector {
     fn reads_by_its_rules(_text: &[u8], _components: &[u8], _minor: usize, _empty: v3::Vector) {}
 
     #[inline(always)]
-    fn missing_by(&self, allow_incomplete: bool) -> Option<MetricType> {
-        if allow_incomplete {
-            None
-        } else {
-            missing_of_v3(self)
-        }
-    }
-
-    #[inline(always)]
     fn published_as(&self, _minor_version: usize) -> Published {
         Published {
             tenths: self.tenths(),
@@ -218,11 +199,6 @@ impl OneVersion for v4::Vector {
 
     #[inline(always)]
     fn reads_by_its_rules(_text: &[u8], _components: &[u8], _minor: usize, _empty: v4::Vector) {}
-
-    #[inline(always)]
-    fn missing_by(&self, _allow_incomplete: bool) -> Option<MetricType> {
-        None
-    }
 
     #[inline(always)]
     fn published_as(&self, _minor_version: usize) -> Published {

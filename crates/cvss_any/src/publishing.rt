@@ -1,10 +1,10 @@
 //! How a text is published: its vector's canonical text with the score, or why it is rejected, goes where
 //! the caller writes both.
 
-ghost use Rattle.std.specs.Prelude.{◌≡◌, ◌≤◌, ◌++◌, ℕ, Bool, List, IfOk, IfSome, IsUtf8, OnOk};
+ghost use Rattle.std.specs.Prelude.{◌≡◌, ◌≤◌, ◌++◌, ℕ, Bool, List, IfOk, IfSome, OnOk};
 ghost use Rattle.cvss_base.specs.Text.{pieces};
 ghost use Rattle.cvss_text.specs.Route.{route_of};
-ghost use Rattle.cvss_text.specs.private.Routing.{IsAfterVersion, IsPrintableRoute, as_route};
+ghost use Rattle.cvss_text.specs.private.Routing.{IsAfterVersion, as_route};
 ghost use Rattle.cvss_any.specs.Complete.{IsPublishedBy, IsPublishedOfComplete, IsPublishedTo};
 ghost use Rattle.cvss_any.specs.declared.published.Published.{Published};
 ghost use Rattle.cvss_any.specs.declared.refusal.ReadError.{ReadError};
@@ -60,12 +60,24 @@ impl Cvss {
     {
         let route = route_of_text(text);
         // The text is copied at one place for all versions, so that the compiler can inline it.
-        match published_by(text, &route) {
-            Some(published) => {
-                P::accept(text, published, out)?;
-                Ok(true)
+        if let Some(published) = published_by(text, &route) {
+            P::accept(text, published, out)?;
+            return Ok(true);
+        }
+        match route {
+            Route::V20 => publish_rest::<v2::Vector, P>(text, text, 0, allow_incomplete, out),
+            Route::V30(components) => {
+                publish_rest::<v3::Vector, P>(text, components, 0, allow_incomplete, out)
             }
-            None => publish_by::<P>(text, route, allow_incomplete, out),
+            Route::V31(components) => {
+                publish_rest::<v3::Vector, P>(text, components, 1, allow_incomplete, out)
+            }
+            Route::V40(components) => {
+                publish_rest::<v4::Vector, P>(text, components, 0, allow_incomplete, out)
+            }
+            Route::Unversioned(why) => {
+                reject::<P>(text, allow_incomplete, Refusal::of(unread(text, why)), out)
+            }
         }
     }
 
@@ -94,37 +106,6 @@ fn published_by(text: &[u8], route: &Route<'_>) -> Option<Published>
         Route::V31(components) => published_whole::<v3::Vector>(text, components, 1),
         Route::V40(components) => published_whole::<v4::Vector>(text, components, 0),
         Route::Unversioned(_) => None,
-    }
-}
-
-/// Publishes what a text denotes that is read so, and is not seen to be canonical.
-#[inline(always)]
-fn publish_by<P: Publishing>(
-    text: &[u8],
-    route: Route<'_>,
-    allow_incomplete: bool,
-    out: &mut Vec<u8>,
-) -> Result<bool, AllocError>
-    requires route { as_route route ≡ route_of text.now }
-    requires after { IsAfterVersion (pieces text.now) route }
-    requires printable { IsUtf8 text.now → IsPrintableRoute route }
-    ensures { IfOk result (λ is. IsPublishedTo P.accepted P.rejected allow_incomplete text.now
-        out.old.items is out.new.items) }
-{
-    match route {
-        Route::V20 => publish_rest::<v2::Vector, P>(text, text, 0, allow_incomplete, out),
-        Route::V30(components) => {
-            publish_rest::<v3::Vector, P>(text, components, 0, allow_incomplete, out)
-        }
-        Route::V31(components) => {
-            publish_rest::<v3::Vector, P>(text, components, 1, allow_incomplete, out)
-        }
-        Route::V40(components) => {
-            publish_rest::<v4::Vector, P>(text, components, 0, allow_incomplete, out)
-        }
-        Route::Unversioned(why) => {
-            reject::<P>(text, allow_incomplete, Refusal::of(unread(text, why)), out)
-        }
     }
 }
 
@@ -167,7 +148,7 @@ fn publish_rest<V: OneVersion, P: Publishing>(
     if let Err(fault) = read_text(components, &mut vector) {
         return reject::<P>(text, allow_incomplete, Refusal::of(V::reported(fault)), out);
     }
-    if let Some(metric) = vector.missing_by(allow_incomplete) {
+    if let Some(metric) = vector.join(minor_version).missing_by(allow_incomplete) {
         return reject::<P>(text, allow_incomplete, Refusal::Missing(metric), out);
     }
     let mut buffer = TextBuffer::new();

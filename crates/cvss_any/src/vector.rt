@@ -1,6 +1,6 @@
 //! A vector of any version.
 
-ghost use Rattle.std.specs.Prelude.{◌≡◌, ◌≤◌, ◌↔◌, IsTrue, IfSome, IsSome, IfOk, OnOk, IfErr, IsErrAnd, Some, Ok, Err, [], ℤ};
+ghost use Rattle.std.specs.Prelude.{◌≡◌, ◌≤◌, ◌↔◌, IsTrue, IfSome, IsSome, IfOk, OnOk, IfErr, IsErrAnd, Some, Ok, Err, ℤ};
 ghost use Rattle.cvss_any.specs.Answers.{text_of};
 
 use crate::bytes_error::BytesError;

@@ -12,25 +12,17 @@ pub index-now : (texts : List (Bor (List ℕ))) (place : ℕ) (none : Bor (List 
     → (slice_index_or texts place none).now ≡ slice_index_or (map (λ text. text.now) texts) place none.now
 index-now texts place none = sym (get_or-map (λ text. text.now) texts place none)
 
--- whether each number below the count has its text at its place
-abbrev Reports : (ℕ → List ℕ) → List (List ℕ) → ℕ → Type 0
-Reports text_of texts count = all_below (λ number. bytes_eq (slice_index_or texts number []) (text_of number)) count ≡ true
-
-text_reported : (text_of : ℕ → List ℕ) (texts : List (List ℕ)) (count number : ℕ) → Reports text_of texts count
+-- each number below a count has its text at its place, if a test says so
+text_reported : (text_of : ℕ → List ℕ) (texts : List (List ℕ)) (count number : ℕ)
+    → all_below (λ n. bytes_eq (slice_index_or texts n []) (text_of n)) count ≡ true
     → number < count → slice_index_or texts number [] ≡ text_of number
 text_reported text_of texts count number all below =
-    (bytes_eq-Decides _ _).0 (below_passes (λ number. bytes_eq (slice_index_or texts number []) (text_of number)) count number all below)
-
-each_digit : Reports decimal (map (λ text. text.now) DIGITS) 11
-unfolding all_below digits
-each_digit = refl
+    (bytes_eq-Decides _ _).0 (below_passes (λ n. bytes_eq (slice_index_or texts n []) (text_of n)) count number all below)
 
 pub digit_reported : (number : ℕ) → number < 11 → slice_index_or (map (λ text. text.now) DIGITS) number [] ≡ decimal number
-digit_reported number = text_reported decimal (map (λ text. text.now) DIGITS) 11 number each_digit
-
-each_tenth : Reports tenths_text (map (λ text. text.now) TEXTS) 101
 unfolding all_below digits
-each_tenth = refl
+digit_reported number = text_reported decimal (map (λ text. text.now) DIGITS) 11 number refl
 
 pub tenth_reported : (tenths : ℕ) → tenths < 101 → slice_index_or (map (λ text. text.now) TEXTS) tenths [] ≡ tenths_text tenths
-tenth_reported tenths = text_reported tenths_text (map (λ text. text.now) TEXTS) 101 tenths each_tenth
+unfolding all_below digits
+tenth_reported tenths = text_reported tenths_text (map (λ text. text.now) TEXTS) 101 tenths refl

@@ -1,5 +1,5 @@
 -- The tenth that is printed of a score is nearest to it, and of two equally near the even one.
-use Rattle.std.proofs.Common.{◌≡◌, ℕ, zero, suc, ◌*◌, ◌+◌, ◌^◌, ◌%◌, ◌≤◌, ℤ, pos, negsuc, neg_ℤ, int_lt, unsigned_abs, false, refl, arith}
+use Rattle.std.proofs.Common.{◌≡◌, ℕ, suc, ◌*◌, ◌+◌, ◌^◌, ◌%◌, ◌≤◌, ℤ, pos, negsuc, neg_ℤ, int_lt, unsigned_abs, false, arith}
 use Rattle.std.proofs.lemmas.Bool.Decides.{nat_tests}
 use Rattle.std.proofs.lemmas.Int.{ints}
 use Rattle.cvss_base.specs.Exact.{of_count}
@@ -32,8 +32,7 @@ upward count tenths near = record {
 }
 
 magnitude-neg : (n : ℕ) → unsigned_abs (neg_ℤ (pos n)) ≡ n
-magnitude-neg zero = refl
-magnitude-neg (suc n) = refl
+magnitude-neg n = omega (arith, ints)
 
 downward : (count tenths : ℕ) → IsNear count tenths → IsNearestEven (of_count (neg_ℤ (pos count))) (neg_ℤ (pos tenths))
 downward count tenths near = record {

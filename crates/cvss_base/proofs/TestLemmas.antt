@@ -1,10 +1,10 @@
 -- What tests that compute say of exact numbers and of the members of a list.
 use Rattle.std.specs.List.{list_all, list_any, Contains}
-use Rattle.std.proofs.Common.{◌≡◌, ℕ, zero, suc, ◌<◌, ◌≤◌, pos, ◌*ℤ◌, List, Bool, true, eqb, ◌&&◌, inl, inr, arith, subst, sym, slice_index_or, eq-or-lt_of_le, T}
-use Rattle.std.proofs.lemmas.Bool.{and_parts, eqb-true}
+use Rattle.std.proofs.Common.{◌≡◌, ℕ, ◌<◌, pos, ◌*ℤ◌, List, Bool, true, eqb, subst, sym, T}
+use Rattle.std.proofs.lemmas.Bool.{agree_below, agree_below_at, eqb-true}
 use Rattle.std.proofs.lemmas.List.Elements.{All-contains}
 use Rattle.std.proofs.lemmas.List.Sums.{AllPass-from_list_all}
-use Rattle.std.proofs.lemmas.List.Folds.{Any-from_list_any}
+use Rattle.std.proofs.lemmas.Map.Views.{Contains-from_any}
 use lib.Signed.{lt_z, le_z, lt_z_yes, le_z_yes}
 use Rattle.cvss_base.specs.Exact.{Exact, ◌⊑◌, ◌⊏◌}
 
@@ -42,23 +42,12 @@ abbrev pub is_listed : List ℕ → ℕ → Bool
 is_listed xs x = list_any (λ y. eqb y x) xs
 
 pub listed_if : (xs : List ℕ) (x : ℕ) → is_listed xs x ≡ true → Contains xs x
-listed_if xs x holds =
-    let at = Any-from_list_any (λ y. eqb y x) xs holds in
-    let same = eqb-true at.1 x at.4 in
-    (at.0, at.2, subst (λ z. slice_index_or xs at.0 z ≡ z) same at.3)
+listed_if xs x holds = Contains-from_any {eq = λ q y. eqb y q} (λ q y same. sym (eqb-true y q same)) x xs holds
 
 -- whether each number below n passes
 unfoldable pub all_below : (ℕ → Bool) → ℕ → Bool
-all_below test zero = true
-all_below test (suc n) = test n && all_below test n
+all_below test n = agree_below test (λ _. true) n
 
 pub below_passes : (test : ℕ → Bool) (n k : ℕ) → all_below test n ≡ true → k < n → test k ≡ true
 unfolding all_below
-below_passes test zero k all less = absurd (omega arith)
-below_passes test (suc n) k all less =
-    let parts = and_parts (test n) (all_below test n) all in
-    let at_most : k ≤ n = omega arith in
-    elim (eq-or-lt_of_le at_most) [
-      | inl same ↦ subst (λ m. test m ≡ true) (sym same) parts.0
-      | inr before ↦ below_passes test n k parts.1 before
-    ]
+below_passes test = agree_below_at test (λ _. true)

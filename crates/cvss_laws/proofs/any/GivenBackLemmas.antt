@@ -2,7 +2,7 @@
 use Rattle.std.proofs.Common.{◌≡◌, ◌≢◌, ◌↔◌, ℕ, List, [], ◌∷◌, ◌++◌, codes, length, refl, sym, ap, ◌∙◌, arith, lit<}
 use Rattle.std.specs.List.{Contains}
 use Rattle.std.proofs.lemmas.List.{length-append}
-use Rattle.cvss_base.specs.Version.{numeral, components_of, version_piece, IsWellFormed}
+use Rattle.cvss_base.specs.Version.{numeral, components_of, version_piece}
 use Rattle.cvss_base.specs.Text.{slash, joined}
 use Rattle.cvss_text.proofs.CanonicalLemmas.{canonical_text-denotes}
 use Rattle.cvss_v2.specs.Vector.{v2}
@@ -23,21 +23,14 @@ longer : (piece : List ℕ) (parts : List (List ℕ)) → parts ≢ [] → joine
 longer piece [] some same = some refl
 longer piece (part ∷ parts) some same = omega (arith, ap length same, length-append piece (slash ∷ joined (part ∷ parts)))
 
--- a vector of a supported minor version is well formed
-formed : (minor : ℕ) (vector : Vector) → vector.minor_version ≡ minor → Contains v3.supported (codes "3." ++ numeral minor) → IsWellFormed v3 vector
-formed minor vector version supported = record {
-  complete = record { present = λ kind none. absurd (omega (arith, none.1)) };
-  supported = record {
-    reported = codes "3." ++ numeral minor;
-    front_is = ap (λ each. version_piece (codes "3." ++ numeral each) ∷ []) version;
-    supported = supported;
-  };
-}
-
+-- a vector of a supported minor version that has a metric is denoted by its own text
 given : (minor : ℕ) (vector : Vector) → Contains v3.supported (codes "3." ++ numeral minor) → HasVersionAndMetric minor vector → DenotesV3 (text_of (CvssV30 vector)) (version_piece (codes "3." ++ numeral minor)) minor vector
 given minor vector supported has = record {
   denoted = canonical_text-denotes v3 v3_laws vector;
-  well_formed = formed minor vector has.version supported;
+  well_formed = record {
+    complete = record { present = λ kind none. absurd (omega (arith, none.1)) };
+    supported = record { reported = codes "3." ++ numeral minor; front_is = ap (λ each. version_piece (codes "3." ++ numeral each) ∷ []) has.version; supported = supported };
+  };
   version = has.version;
   more = λ same. longer (version_piece (codes "3." ++ numeral vector.minor_version)) (components_of v3 vector) has.metric (same ∙ ap (λ each. version_piece (codes "3." ++ numeral each)) (sym has.version));
 }

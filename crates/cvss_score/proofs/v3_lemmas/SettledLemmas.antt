@@ -104,16 +104,12 @@ is_settled changed n x =
 
 settled_if : (changed : Bool) (n x : Exact) → is_settled changed n x ≡ true → IsSettled changed n x
 unfolding is_settled
-settled_if changed n x settled =
-    let parts = and_parts (is_settled_at n (tenth_above n) (jump_above n)) _ settled in
-    let itself = and_parts (is_within n n) _ parts.1 in
-    let rest = and_parts (is_within n x) _ itself.1 in
-    record {
-      at = settled_at n (tenth_above n) (jump_above n) parts.0;
-      itself = within_if n n itself.0;
-      within = within_if n x rest.0;
-      near = near_if changed x n rest.1;
-    }
+settled_if changed n x settled = record {
+  at = settled_at n (tenth_above n) (jump_above n) (search rules);
+  itself = within_if n n (search rules);
+  within = within_if n x (search rules);
+  near = near_if changed x n (search rules);
+}
 
 -- the tenths to which a settled number is rounded by a minor version
 abbrev pub settled_tenths : ℕ → Exact → ℤ

@@ -1,6 +1,6 @@
 -- The groups of metrics with levels, and what holds of the level sums of each class.
 use Rattle.std.proofs.Common.{◌≡◌, ℕ, ◌+◌, ◌-◌, ◌*◌, ◌/◌, ◌<◌, ◌≤◌, min, Bool, true, ◌&&◌, ◌==◌, leb, ltb, slice_index, refl, arith, ℤ, pos, ◌-ℤ◌}
-use Rattle.std.proofs.lemmas.Bool.{and_parts, eqb-true}
+use Rattle.std.proofs.lemmas.Bool.{and_parts}
 use Rattle.std.proofs.lemmas.Bool.Decides.{nat_tests}
 use denote.Enum.Declared.{tag_of}
 use Rattle.cvss_v4_metric.specs.contracts.base.attack as attack
@@ -10,7 +10,7 @@ use Rattle.cvss_score.specs.declared.v4.scoring.shares.TheConstants.{EQ1_LEAST, 
 use Rattle.cvss_score.specs.v4.Classes.{eq1, eq2, eq3, eq4, eq5, eq6, Eq1Values, Eq2Values, Eq3Eq6Values, Eq4Values}
 use Rattle.cvss_score.specs.v4.Distance.{eq1_sum, eq1_least, eq2_sum, eq2_least, eq3_eq6_sum, eq3_eq6_least, eq4_sum, eq4_least}
 use Rattle.cvss_score.specs.v4.Gap.{eq1_depth, eq2_depth, eq3_eq6_depth, eq4_depth}
-use Rattle.cvss_score.proofs.v4_lemmas.TestLemmas.{Finite, each_eq1, each_eq2, each_eq3_eq6, each_eq4, each_exploit_maturity, Classes, at_least, up_to, numbers, IsPairOf, pairs}
+use Rattle.cvss_score.proofs.v4_lemmas.TestLemmas.{Finite, each_eq1, each_eq2, each_eq3_eq6, each_eq4, each_exploit_maturity, Classes, up_to, numbers, IsPairOf, pairs}
 
 -- what a group says of its values and of its classes: the class and the level sum of values, and the least sum of a
 -- class and its depth; and what the code has in their place: the sum by the places of the values, the least sum, and
@@ -47,16 +47,12 @@ tabled_is : (least constant part depth : ℕ)
     → ((least == constant) && ((part == 840 / depth) && ((840 / part == depth) && ((depth * part == 840) && leb 84 part)))) ≡ true
     → IsTabled least constant part depth
 tabled_is least constant part depth h =
-    let one = and_parts (least == constant) _ h in
-    let two = and_parts (part == 840 / depth) _ one.1 in
-    let three = and_parts (840 / part == depth) _ two.1 in
-    let four = and_parts (depth * part == 840) _ three.1 in
     record {
-      is_least = eqb-true _ _ one.0;
-      is_part = eqb-true _ _ two.0;
-      is_depth = eqb-true _ _ three.0;
-      divides = eqb-true _ _ four.0;
-      some = at_least _ _ four.1;
+      is_least = grind (arith, nat_tests);
+      is_part = grind (arith, nat_tests);
+      is_depth = grind (arith, nat_tests);
+      divides = grind (arith, nat_tests);
+      some = grind (arith, nat_tests);
     }
 
 -- so it is of all values and all classes

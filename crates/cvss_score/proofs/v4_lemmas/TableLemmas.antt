@@ -1,6 +1,5 @@
 -- The values of the code are those of the table, and no class has a smaller value than its next lower ones.
 use Rattle.std.proofs.Common.{◌≡◌, ℕ, ◌≤◌, Bool, true, false, ◌&&◌, ◌==◌, leb, slice_index, Option, Some, None, refl, arith, ap}
-use Rattle.std.proofs.lemmas.Bool.{and_parts}
 use Rattle.std.specs.Option.{option_and_then}
 use Rattle.std.proofs.lemmas.Bool.Decides.{nat_tests}
 use Rattle.cvss_score.specs.v4.Classes.{IsMacroVector}
@@ -39,8 +38,6 @@ is_listed (Some listed) value = (listed == value) && (leb 1 value && leb value 1
 listed : (o : Option ℕ) (value : ℕ) → is_listed o value ≡ true → IsListed o value
 listed None value h = cc
 listed (Some v) value h =
-    let outer = and_parts (v == value) (leb 1 value && leb value 100) h in
-    let inner = and_parts (leb 1 value) (leb value 100) outer.1 in
     let same : v ≡ value = grind (arith, nat_tests) in
     record { is_value = ap Some same; from_one = grind (arith, nat_tests); to_hundred = grind (arith, nat_tests) }
 
@@ -72,7 +69,6 @@ falling : (here next : Option ℕ) (value lower : ℕ) → falls here next ≡ t
 falling here None value lower h is_value is_lower = cc
 falling None (Some l) value lower h is_value is_lower = cc
 falling (Some v) (Some l) value lower h is_value is_lower =
-    let parts = and_parts (leb 1 l) (leb l v) h in
     let same_value : v ≡ value = cc in
     let same_lower : l ≡ lower = cc in
     record { from_one = grind (arith, nat_tests); to_value = grind (arith, nat_tests) }

@@ -1,21 +1,16 @@
 -- A test that computes to true for all values of a type, or all numbers below a limit, holds of each.
-use Rattle.std.proofs.Common.{◌≡◌, ℕ, zero, suc, ◌-◌, ◌<◌, ◌≤◌, Bool, true, not, ◌&&◌, ◌||◌, ◌==◌, leb, List, [], ◌∷◌, Some, slice_get, refl, arith, ap, sym, ◌∙◌, inl, inr}
+use Rattle.std.proofs.Common.{◌≡◌, ℕ, suc, ◌-◌, ◌≤◌, Bool, true, not, ◌&&◌, ◌||◌, ◌==◌, leb, List, Some, slice_get, refl, arith}
 use Rattle.std.specs.List.{list_all}
-use Rattle.std.proofs.lemmas.Bool.{and_parts, cases_eq}
+use Rattle.std.proofs.lemmas.Bool.{agree_below, agree_below_at, and_parts, leb-true}
 use Rattle.std.proofs.lemmas.Bool.Decides.{nat_tests}
+use Rattle.std.proofs.lemmas.List.Elements.{All-contains}
+use Rattle.std.proofs.lemmas.List.Sums.{AllPass-from_list_all}
+use Rattle.std.proofs.lemmas.Option.{get_or_from_slice_get, slice_get_within}
 use Rattle.cvss_score.specs.v4.Effective.{attack_vectors, privileges, user_interactions, attack_complexities, all_attack_requirements, vulnerable_impacts, subsequent_impacts, safety_impacts, requirements, exploit_maturities, values}
 use Rattle.cvss_score.specs.v4.Levels.{attack_vector_level, privileges_level, interaction_level, complexity_level, requirements_level, vulnerable_level, subsequent_level, safety_level, requirement_level}
 use Rattle.cvss_score.specs.v4.Classes.{eq5, IsPair, Eq1Values, Eq2Values, Eq3Eq6Values, Eq4Values}
 use Rattle.cvss_v4_metric.specs.declared.base.attack as attack
 use Rattle.cvss_score.specs.declared.v4.scoring.effective as effective
-
--- a test that is true for all of a list is true for each
-pub at_place : {A : Type 0} (p : A → Bool) (xs : List A) (x : A) (k : ℕ) → list_all p xs ≡ true → slice_get xs k ≡ Some x
-    → p x ≡ true
-at_place p [] x zero all here = cc
-at_place p [] x (suc k) all here = cc
-at_place p (y ∷ ys) x zero all here = let same : y ≡ x = cc in ap p (sym same) ∙ (and_parts (p y) (list_all p ys) all).0
-at_place p (y ∷ ys) x (suc k) all here = at_place p ys x k (and_parts (p y) (list_all p ys) all).1 here
 
 -- a type of few values: a test of all of them, and that it holds of each
 pub record Finite (A : Type 0) : Type 0 where
@@ -26,7 +21,8 @@ pub record Finite (A : Type 0) : Type 0 where
 abbrev listed : {A : Type 0} (xs : List A) (place : A → ℕ) → ((x : A) → slice_get xs (place x) ≡ Some x) → Finite A
 listed xs place here = record {
   every = λ p. list_all p xs;
-  each = λ p h x. at_place p xs x (place x) h (here x);
+  each = λ p h x. All-contains (λ y. p y ≡ true) xs x (AllPass-from_list_all p xs h)
+      (place x, slice_get_within xs (place x) x (here x), get_or_from_slice_get xs (place x) x x (here x));
 }
 
 -- two, three and six values together
@@ -92,20 +88,6 @@ each_eq3_eq6 = six each_vulnerable_impact each_requirement
 abbrev pub each_eq4 : Finite Eq4Values
 each_eq4 = three each_subsequent_impact each_safety_impact each_safety_impact
 
--- each number below a limit passes
-abbrev pub below : (ℕ → Bool) → ℕ → Bool
-below p zero = true
-below p (suc n) = p n && below p n
-
-pub each_below : (p : ℕ → Bool) (n k : ℕ) → k < n → below p n ≡ true → p k ≡ true
-each_below p zero k h all = absurd (omega arith)
-each_below p (suc n) k h all =
-    let parts = and_parts (p n) (below p n) all in
-    elim (cases_eq k n) as (λ _. p k ≡ true) [
-      | inl same ↦ ap p same ∙ parts.0
-      | inr other ↦ each_below p n k (omega arith) parts.1
-    ]
-
 -- the classes of a group: which numbers are one, and tests of that and of all of them
 pub record Classes {C : Type 0} (IsClass : C → Type 0) : Type 0 where
   pub every : (C → Bool) → Bool
@@ -122,19 +104,16 @@ both a b = record {
   reports = λ v h. let parts = and_parts (a.is_class v.0) (b.is_class v.1) h in (a.reports v.0 parts.0, b.reports v.1 parts.1);
 }
 
-pub at_least : (limit number : ℕ) → leb limit number ≡ true → limit ≤ number
-at_least limit number h = grind (arith, nat_tests)
-
 -- a class is a number up to a limit
 abbrev pub up_to : ℕ → ℕ → Type 0
 up_to limit class = class ≤ limit
 
 abbrev pub numbers : (limit : ℕ) → Classes (up_to limit)
 numbers limit = record {
-  every = λ p. below p (suc limit);
-  each = λ p h class is. each_below p (suc limit) class (omega (arith, is)) h;
+  every = λ p. agree_below p (λ _. true) (suc limit);
+  each = λ p h class is. agree_below_at p (λ _. true) (suc limit) class h (omega (arith, is));
   is_class = λ class. leb class limit;
-  reports = λ class h. at_least class limit h;
+  reports = λ class h. leb-true class limit h;
 }
 
 -- the pairs of EQ3 and EQ6, of which 2,0 is none

@@ -1,6 +1,7 @@
 use Rattle.std.proofs.Common.{Ok, ap, refl, sym, ◌++◌, ◌∙◌}
 use Rattle.cvss_base.specs.Text.{pieces}
 use Rattle.cvss_text.proofs.InOrderLemmas.{IsReadLeft-whole, canonical_whole}
+use Rattle.cvss_any.proofs.ReadLemmas.{IsPublishedBy-read}
 use Rattle.cvss_any.proofs.publishing.published_whole.Goals as goal
 
 pub published_as-requires-after_bounds : goal.published_as-requires-after_bounds
@@ -16,17 +17,8 @@ returns g c = λ allow_incomplete.
     let components = c.args.components.now in
     let empty = c.without_metrics-empty in
     let vector = c.in_ok-vector.vector in
-    let minor = c.args.minor_version in
     let whole = c.in_ok-vector.ensures.whole in
-    let read = rules.read (Ok tt) vector (IsReadLeft-whole version version_laws vector components _ whole empty.result refl) in
     let cut = c.requires.cut ∙ ap (λ front. front ++ pieces components) (sym empty.ensures.front) in
-    record {
-      of = record {
-        cvss = g.V.OneVersion.joined minor vector;
-        canonical_is = canonical_whole version version_laws vector components _ whole c.args.text.now cut ∙ sym (rules.text vector);
-        denoted = read.denoted;
-        utf8 = read.utf8;
-        is = c.published_as.ensures;
-      };
-      complete = rules.complete allow_incomplete vector c.in_ok-vector.ensures.base;
-    }
+    IsPublishedBy-read allow_incomplete (rules.read (Ok tt) vector (IsReadLeft-whole version version_laws vector components _ whole empty.result refl))
+    (canonical_whole version version_laws vector components _ whole c.args.text.now cut ∙ sym (rules.text vector)) c.published_as.ensures
+    (rules.complete allow_incomplete vector c.in_ok-vector.ensures.base)

@@ -4,7 +4,7 @@ use Rattle.cvss_v3.specs.Vector.{v3}
 use Rattle.cvss_v3.specs.private.VectorLaws.{v3_laws}
 use Rattle.cvss_v4.specs.Vector.{v4}
 use Rattle.cvss_v4.specs.private.VectorLaws.{v4_laws}
-use Rattle.cvss_any.proofs.UniqueLemmas.{one_refusal as one_refusal_of_any}
+use Rattle.cvss_any.proofs.ReadLemmas.{one_refusal as one_refusal_of_any}
 use Rattle.cvss_text.proofs.RefusalLemmas.{one_refusal, one_refusal_after}
 use Rattle.cvss_laws.proofs.any.texts_have_one_first_refusal.Goals as goal
 

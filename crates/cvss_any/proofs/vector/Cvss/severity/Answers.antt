@@ -1,7 +1,7 @@
 use Rattle.std.proofs.Common.{rules, ap, ◌∙◌}
 use Rattle.std.proofs.lemmas.Int.{to_z-of_z}
 use Rattle.std.specs.Int.{w128}
-use Rattle.cvss_any.proofs.UniqueLemmas.{score_once}
+use Rattle.cvss_any.proofs.ReadLemmas.{score_once}
 use Rattle.cvss_any.specs.Answers.{rating_by}
 use Rattle.cvss_any.proofs.vector.Cvss.severity.Goals as goal
 

@@ -8,6 +8,3 @@ returns-clause-possible c =
     let w = c.args.self.now in
     let is : record { sub_score = c.min.result; exploitability = c.exploitability.result; changed = w.modified_changed } ≡ parts_of_first w = cc in
     subst ArePossible (sym is) (possible (modified_parts w c.requires.tables))
-
-pub returns-clause-value : goal.returns-clause-value
-returns-clause-value c = cc
