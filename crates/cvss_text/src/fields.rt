@@ -9,13 +9,13 @@ macro_rules! kinds {
     };
 }
 
-/// A call of the vector's with the metric that is asked for and its field.
+/// A call with the metric that is asked for, under its two names, and its field.
 #[macro_export]
 macro_rules! show_at {
-    (($kind:ident: $kinds:ident, $vector:ident.$show:ident())
+    (($kind:ident: $kinds:ident, $show:ident::<$vectors:ident>($vector:ident))
      $($name:ident $field:ident $values:ty,)*) => {
         match $kind {
-            $($kinds::$name => $vector.$show($kind, $vector.$field),)*
+            $($kinds::$name => $show::<$vectors, _>($vector, $kind, $kinds::$name, $vector.$field),)*
         }
     };
 }

@@ -1,25 +1,22 @@
 //! How a vector is printed.
 
-ghost use Rattle.std.specs.Prelude.{◌≡◌, ◌++◌, Some, codes, option_map};
+ghost use Rattle.std.specs.Prelude.{◌≡◌, ◌++◌, Some, codes};
 ghost use Rattle.std.specs.Fmt.{WritesOnOk};
-ghost use Rattle.std.specs.Option.{option_copied};
-ghost use Rattle.cvss_base.specs.Version.{numeral, canonical_text, component_of, held, version_piece};
-ghost use Rattle.cvss_text.specs.private.Printing.{with_slash};
-ghost use Rattle.cvss_v3_metric.specs.Table.{spelling_of};
+ghost use Rattle.cvss_base.specs.Version.{numeral, canonical_text, version_piece};
 ghost use Rattle.cvss_v3.specs.Vector.{v3};
 
 use crate::each_metric;
 use crate::vector::Vector;
 use cvss_text::buffer::TextBuffer;
 use cvss_text::print::{Printed, write_text};
-use cvss_text::values::write_value;
+use cvss_text::values::{shown_at, write_value};
 use cvss_text::{show_at, write_each};
-use cvss_v3_metric::{MetricType, MetricValue};
+use cvss_v3_metric::MetricType;
 use std::fmt;
 
 impl Printed for Vector {
     fn with_slash(&self, kind: MetricType) -> Option<&'static str> {
-        each_metric!(show_at!(kind: MetricType, self.with_slash_at()))
+        each_metric!(show_at!(kind: MetricType, shown_at::<Vector>(self)))
     }
 
     fn write_each(&self, buffer: &mut TextBuffer) {
@@ -28,20 +25,6 @@ impl Printed for Vector {
 }
 
 impl Vector {
-    /// A slash and the component of the value that the vector has for a metric.
-    fn with_slash_at<M: MetricValue>(
-        &self,
-        kind: MetricType,
-        value: Option<M>,
-    ) -> Option<&'static str>
-        requires kind { kind ≡ M.KIND }
-        requires value { held v3 self.now M.KIND
-            ≡ option_map (λ metric. spelling_of M.KIND (M.value metric)) value }
-        ensures { option_copied result ≡ with_slash (component_of v3 self.now kind) }
-    {
-        Some(value?.with_slash())
-    }
-
     /// Writes the piece that says the version.
     #[tactic(auto, using(cvss_text::proofs::NumeralLemmas::decimal_numeral))]
     fn write_version<W: fmt::Write>(&self, f: &mut fmt::Formatter<W>) -> fmt::Result
