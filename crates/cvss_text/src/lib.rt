@@ -9,6 +9,7 @@ pub mod cutting;
 pub mod fast_path;
 mod fields;
 pub mod front;
+pub mod in_order;
 pub mod metrics;
 pub mod pieces;
 pub mod print;

@@ -57,3 +57,17 @@ pub fn write_text<W: fmt::Write>(text: &[u8], f: &mut fmt::Formatter<W>) -> fmt:
         Err(_) => Err(fmt::Error),
     }
 }
+
+/// Writes all components of a vector in printing order, each with a slash before it.
+#[inline(always)]
+pub fn write_components<V: Printed, W: fmt::Write>(
+    vector: &V,
+    f: &mut fmt::Formatter<W>,
+) -> fmt::Result
+    ensures { WritesOnOk W.write_str_gives f.old result
+        (texts_with_slash V.version vector.now V.version.printed) f.new }
+{
+    let mut buffer = TextBuffer::new();
+    vector.write_metrics(&mut buffer);
+    write_text(buffer.text(), f)
+}

@@ -2,21 +2,21 @@
 //! through once, with no cutting and no searching. From where it is in another order on it is read
 //! by the walk over its components, for which `reading` puts them one by one.
 
-ghost use Rattle.std.specs.Prelude.{◌≡◌, ℕ, List, IfSome, None, [], ◌∷◌, ◌++◌, drop, take, Some};
-ghost use Rattle.cvss_text.specs.private.Printing.{texts_with_slash};
-ghost use Rattle.cvss_text.specs.private.Walk.{HasNoValue, IsInOrderTo, IsWhole, first_missing};
+ghost use Rattle.std.specs.Prelude.{◌≡◌, IfSome, ◌∷◌, ◌++◌, ⊤};
+ghost use Rattle.cvss_text.specs.private.Walk.{HasNoValue, IsInOrderTo, IsWhole};
 ghost use Rattle.cvss_base.specs.Text.{slash};
 ghost use Rattle.cvss_base.specs.V2Types.{name_of};
 ghost use Rattle.cvss_text.specs.private.Values.{shown};
 ghost use Rattle.cvss_base.specs.declared.v2.MetricType.TheVariants.{AC, AV, Au};
-ghost use Rattle.cvss_v2_metric.specs.Table.{spelling_of, metric_component, printed};
+ghost use Rattle.cvss_v2_metric.specs.Table.{metric_component, spelling_of};
 ghost use Rattle.cvss_v2.specs.Vector.{v2};
 
 use crate::vector::Vector;
 use cvss_text::fast_path::{after_three, put_read, rest_after_name};
+use cvss_text::in_order::{InOrder, whole, with_others};
 use cvss_text::values::{letter_in_order, three_in_order, two_in_order};
-use cvss_v2_metric::MetricValue;
 use cvss_v2_metric::base::{AccessComplexity, AccessVector, Authentication};
+use cvss_v2_metric::{MetricType, MetricValue};
 
 /// The vector whose components, in printing order, are the whole text, from one without metrics.
 #[inline(always)]
@@ -70,56 +70,27 @@ pub(super) fn begun_in_order<'a>(empty: Vector, text: &'a [u8]) -> Option<(Vecto
     Some(with_others(base, text))
 }
 
-/// The vector of the base metrics, if the rest of the text is nothing or optional ones.
-#[inline(always)]
-fn whole(base: Vector, text: &[u8]) -> Option<Vector>
-    requires present { first_missing v2 base ≡ None }
-    requires bare { texts_with_slash v2 base (drop 6 printed) ≡ [] }
-    ensures { (front : List (List ℕ)) (begun : List ℕ) → IsInOrderTo v2 front begun base text.now
-        → IfSome result (IsWhole v2 front begun) }
-{
-    let [_, ..] = text else {
-        return Some(base);
-    };
-    let (vector, rest) = with_others(base, text);
-    match rest {
-        [] => Some(vector),
-        _ => None,
+impl InOrder for Vector {
+    type Kind = MetricType;
+
+    ghost version = { v2 };
+
+    ghost has_base = { λ _. ⊤ };
+
+    ghost base_count = { 6 };
+
+    // A call of its own keeps the vector in memory, where each metric is stored once.
+    #[inline(never)]
+    fn put_others<'a>(&mut self, text: &'a [u8]) -> &'a [u8] {
+        let text = put_value(&mut self.e, text);
+        let text = put_value(&mut self.rl, text);
+        let text = put_value(&mut self.rc, text);
+        let text = put_value(&mut self.cdp, text);
+        let text = put_value(&mut self.td, text);
+        let text = put_value(&mut self.cr, text);
+        let text = put_value(&mut self.ir, text);
+        put_value(&mut self.ar, text)
     }
-}
-
-/// The vector of the base metrics with the optional ones with which the text after them begins, and what
-/// follows these.
-#[inline(always)]
-fn with_others<'a>(base: Vector, text: &'a [u8]) -> (Vector, &'a [u8])
-    requires { texts_with_slash v2 base (drop 6 printed) ≡ [] }
-    ensures text { (front : List (List ℕ)) (begun : List ℕ) → IsInOrderTo v2 front begun base text.now
-        → IsInOrderTo v2 front begun result.0 result.1.now }
-    ensures missing { first_missing v2 result.0 ≡ first_missing v2 base }
-{
-    let mut vector = base;
-    let rest = put_others(&mut vector, text);
-    (vector, rest)
-}
-
-/// Puts the optional metrics with which a text begins into the vector, and gives what follows
-/// them.
-// A call of its own keeps the vector in memory, where each metric is stored once.
-#[inline(never)]
-fn put_others<'a>(vector: &mut Vector, text: &'a [u8]) -> &'a [u8]
-    ensures text { text.now ≡ texts_with_slash v2 vector.new (drop 6 printed) ++ result.now }
-    ensures base { texts_with_slash v2 vector.new (take 6 printed)
-        ≡ texts_with_slash v2 vector.old (take 6 printed) }
-    ensures missing { first_missing v2 vector.new ≡ first_missing v2 vector.old }
-{
-    let text = put_value(&mut vector.e, text);
-    let text = put_value(&mut vector.rl, text);
-    let text = put_value(&mut vector.rc, text);
-    let text = put_value(&mut vector.cdp, text);
-    let text = put_value(&mut vector.td, text);
-    let text = put_value(&mut vector.cr, text);
-    let text = put_value(&mut vector.ir, text);
-    put_value(&mut vector.ar, text)
 }
 
 /// Puts the value of a metric into its place, if a text begins with a slash and its component, and

@@ -2,18 +2,19 @@
 //! through once, with no cutting and no searching. From where it is in another order or case on it
 //! is read by the walk over its components, for which `reading` puts them one by one.
 
-ghost use Rattle.std.specs.Prelude.{◌≡◌, ℕ, List, IfSome, [], ◌∷◌, ◌++◌, drop, take, Some, None};
+ghost use Rattle.std.specs.Prelude.{◌≡◌, IfSome, ◌∷◌, ◌++◌, None};
 ghost use Rattle.cvss_base.specs.Text.{slash};
 ghost use Rattle.cvss_base.specs.declared.v3.MetricType.TheVariants.{AC, AV, PR, UI};
-ghost use Rattle.cvss_text.specs.private.Printing.{texts_with_slash};
 ghost use Rattle.cvss_text.specs.private.Walk.{HasNoValue, IsInOrderTo, IsWhole};
-ghost use Rattle.cvss_v3_metric.specs.Table.{metric_component, printed, spelling_of};
+ghost use Rattle.cvss_v3_metric.specs.Table.{metric_component, spelling_of};
 ghost use Rattle.cvss_v3.specs.Complete.{first_missing_base};
 ghost use Rattle.cvss_v3.specs.Vector.{v3};
 
 use crate::vector::Vector;
 use cvss_text::fast_path::after_three;
+use cvss_text::in_order::{InOrder, whole, with_others};
 use cvss_text::values::{four_in_order, letter_in_order, put_value, three_in_order};
+use cvss_v3_metric::MetricType;
 use cvss_v3_metric::base::{AttackComplexity, AttackVector, PrivilegesRequired, UserInteraction};
 
 /// The vector whose components, in printing order, are the whole text, from one without metrics.
@@ -73,64 +74,33 @@ pub(super) fn begun_in_order<'a>(empty: Vector, text: &'a [u8]) -> Option<(Vecto
     Some(with_others(base, text))
 }
 
-/// The vector of the base metrics, if the rest of the text is nothing or optional ones.
-#[inline(always)]
-fn whole(base: Vector, text: &[u8]) -> Option<Vector>
-    requires present { first_missing_base base ≡ None }
-    requires bare { texts_with_slash v3 base (drop 8 printed) ≡ [] }
-    ensures whole { (front : List (List ℕ)) (begun : List ℕ) → IsInOrderTo v3 front begun base text.now
-        → IfSome result (IsWhole v3 front begun) }
-    ensures base { IfSome result (λ vector. first_missing_base vector ≡ None) }
-{
-    let [_, ..] = text else {
-        return Some(base);
-    };
-    let (vector, rest) = with_others(base, text);
-    match rest {
-        [] => Some(vector),
-        _ => None,
+impl InOrder for Vector {
+    type Kind = MetricType;
+
+    ghost version = { v3 };
+
+    ghost has_base = { λ vector. first_missing_base vector ≡ None };
+
+    ghost base_count = { 8 };
+
+    // A call of its own keeps the vector in memory, where each metric is stored once.
+    #[inline(never)]
+    fn put_others<'a>(&mut self, text: &'a [u8]) -> &'a [u8] {
+        let text = put_value::<Vector, _>(&mut self.e, text);
+        let text = put_value::<Vector, _>(&mut self.rl, text);
+        let text = put_value::<Vector, _>(&mut self.rc, text);
+        let text = put_value::<Vector, _>(&mut self.cr, text);
+        let text = put_value::<Vector, _>(&mut self.ir, text);
+        let text = put_value::<Vector, _>(&mut self.ar, text);
+        let text = put_value::<Vector, _>(&mut self.mav, text);
+        let text = put_value::<Vector, _>(&mut self.mac, text);
+        let text = put_value::<Vector, _>(&mut self.mpr, text);
+        let text = put_value::<Vector, _>(&mut self.mui, text);
+        let text = put_value::<Vector, _>(&mut self.ms, text);
+        let text = put_value::<Vector, _>(&mut self.mc, text);
+        let text = put_value::<Vector, _>(&mut self.mi, text);
+        put_value::<Vector, _>(&mut self.ma, text)
     }
-}
-
-/// The vector of the base metrics with the optional ones with which the text after them begins, and what
-/// follows these.
-#[inline(always)]
-fn with_others<'a>(base: Vector, text: &'a [u8]) -> (Vector, &'a [u8])
-    requires { texts_with_slash v3 base (drop 8 printed) ≡ [] }
-    ensures text { (front : List (List ℕ)) (begun : List ℕ) → IsInOrderTo v3 front begun base text.now
-        → IsInOrderTo v3 front begun result.0 result.1.now }
-    ensures missing { first_missing_base result.0 ≡ first_missing_base base }
-{
-    let mut vector = base;
-    let rest = put_others(&mut vector, text);
-    (vector, rest)
-}
-
-/// Puts the optional metrics with which a text begins into the vector, and gives what follows
-/// them.
-// A call of its own keeps the vector in memory, where each metric is stored once.
-#[inline(never)]
-fn put_others<'a>(vector: &mut Vector, text: &'a [u8]) -> &'a [u8]
-    ensures text { text.now ≡ texts_with_slash v3 vector.new (drop 8 printed) ++ result.now }
-    ensures base { texts_with_slash v3 vector.new (take 8 printed)
-        ≡ texts_with_slash v3 vector.old (take 8 printed) }
-    ensures version { vector.new.minor_version ≡ vector.old.minor_version }
-    ensures missing { first_missing_base vector.new ≡ first_missing_base vector.old }
-{
-    let text = put_value::<Vector, _>(&mut vector.e, text);
-    let text = put_value::<Vector, _>(&mut vector.rl, text);
-    let text = put_value::<Vector, _>(&mut vector.rc, text);
-    let text = put_value::<Vector, _>(&mut vector.cr, text);
-    let text = put_value::<Vector, _>(&mut vector.ir, text);
-    let text = put_value::<Vector, _>(&mut vector.ar, text);
-    let text = put_value::<Vector, _>(&mut vector.mav, text);
-    let text = put_value::<Vector, _>(&mut vector.mac, text);
-    let text = put_value::<Vector, _>(&mut vector.mpr, text);
-    let text = put_value::<Vector, _>(&mut vector.mui, text);
-    let text = put_value::<Vector, _>(&mut vector.ms, text);
-    let text = put_value::<Vector, _>(&mut vector.mc, text);
-    let text = put_value::<Vector, _>(&mut vector.mi, text);
-    put_value::<Vector, _>(&mut vector.ma, text)
 }
 
 /// The values of the first four metrics, where a text begins with their components, and what

@@ -8,7 +8,7 @@ ghost use Rattle.cvss_v3.specs.Vector.{v3};
 use crate::each_metric;
 use crate::vector::Vector;
 use cvss_text::buffer::TextBuffer;
-use cvss_text::print::{Printed, write_text};
+use cvss_text::print::{Printed, write_components};
 use cvss_text::values::{shown_at, write_value};
 use cvss_text::{show_at, write_each};
 use cvss_v3_metric::MetricType;
@@ -44,8 +44,6 @@ impl fmt::Display for Vector {
 
     fn fmt<W: fmt::Write>(&self, f: &mut fmt::Formatter<W>) -> fmt::Result {
         self.write_version(f)?;
-        let mut buffer = TextBuffer::new();
-        self.write_metrics(&mut buffer);
-        write_text(buffer.text(), f)
+        write_components(self, f)
     }
 }

@@ -2,23 +2,23 @@
 //! through once, with no cutting and no searching. From where it is in another order or case on it
 //! is read by the walk over its components, for which `reading` puts them one by one.
 
-ghost use Rattle.std.specs.Prelude.{◌≡◌, ℕ, List, IfSome, None, [], ◌∷◌, ◌++◌, drop, take, Some};
-ghost use Rattle.cvss_text.specs.private.Printing.{texts_with_slash};
-ghost use Rattle.cvss_text.specs.private.Walk.{HasNoValue, IsInOrderTo, IsWhole, first_missing};
+ghost use Rattle.std.specs.Prelude.{◌≡◌, IfSome, ◌∷◌, ◌++◌, ⊤};
+ghost use Rattle.cvss_text.specs.private.Walk.{HasNoValue, IsInOrderTo, IsWhole};
 ghost use Rattle.cvss_base.specs.Text.{slash};
 ghost use Rattle.cvss_base.specs.declared.v4.MetricType.TheVariants.{AC, AT, AV, U};
-ghost use Rattle.cvss_v4_metric.specs.Table.{metric_component, printed, spelling_at};
+ghost use Rattle.cvss_v4_metric.specs.Table.{metric_component, spelling_at};
 ghost use Rattle.cvss_v4_metric.specs.Table as rank;
 ghost use Rattle.cvss_v4.specs.Vector.{v4};
 
 use crate::vector::Vector;
 use cvss_text::fast_path::{after_three, put_read};
+use cvss_text::in_order::{InOrder, whole, with_others};
 use cvss_text::values::{letter_in_order, put_value, three_in_order, two_in_order};
-use cvss_v4_metric::MetricValue;
 use cvss_v4_metric::base::{
     AttackComplexity, AttackRequirements, AttackVector, PrivilegesRequired, UserInteraction,
 };
 use cvss_v4_metric::supplemental::ProviderUrgency;
+use cvss_v4_metric::{MetricType, MetricValue};
 
 /// The vector whose components, in printing order, are the whole text, from one without metrics.
 #[inline(always)]
@@ -88,70 +88,40 @@ pub(super) fn begun_in_order<'a>(empty: Vector, text: &'a [u8]) -> Option<(Vecto
     Some(with_others(base, rest))
 }
 
-/// The vector of the base metrics, if the rest of the text is nothing or optional ones.
-#[inline(always)]
-fn whole(base: Vector, text: &[u8]) -> Option<Vector>
-    requires present { first_missing v4 base ≡ None }
-    requires bare { texts_with_slash v4 base (drop 11 printed) ≡ [] }
-    ensures { (front : List (List ℕ)) (begun : List ℕ) → IsInOrderTo v4 front begun base text.now
-        → IfSome result (IsWhole v4 front begun) }
-{
-    let [_, ..] = text else {
-        return Some(base);
-    };
-    let (vector, rest) = with_others(base, text);
-    match rest {
-        [] => Some(vector),
-        _ => None,
+impl InOrder for Vector {
+    type Kind = MetricType;
+
+    ghost version = { v4 };
+
+    ghost has_base = { λ _. ⊤ };
+
+    ghost base_count = { 11 };
+
+    // A call of its own keeps the vector in memory, where each metric is stored once.
+    #[inline(never)]
+    fn put_others<'a>(&mut self, text: &'a [u8]) -> &'a [u8] {
+        let text = put_value::<Vector, _>(&mut self.e, text);
+        let text = put_value::<Vector, _>(&mut self.cr, text);
+        let text = put_value::<Vector, _>(&mut self.ir, text);
+        let text = put_value::<Vector, _>(&mut self.ar, text);
+        let text = put_value::<Vector, _>(&mut self.mav, text);
+        let text = put_value::<Vector, _>(&mut self.mac, text);
+        let text = put_value::<Vector, _>(&mut self.mat, text);
+        let text = put_value::<Vector, _>(&mut self.mpr, text);
+        let text = put_value::<Vector, _>(&mut self.mui, text);
+        let text = put_value::<Vector, _>(&mut self.mvc, text);
+        let text = put_value::<Vector, _>(&mut self.mvi, text);
+        let text = put_value::<Vector, _>(&mut self.mva, text);
+        let text = put_value::<Vector, _>(&mut self.msc, text);
+        let text = put_value::<Vector, _>(&mut self.msi, text);
+        let text = put_value::<Vector, _>(&mut self.msa, text);
+        let text = put_value::<Vector, _>(&mut self.s, text);
+        let text = put_value::<Vector, _>(&mut self.au, text);
+        let text = put_value::<Vector, _>(&mut self.r, text);
+        let text = put_value::<Vector, _>(&mut self.v, text);
+        let text = put_value::<Vector, _>(&mut self.re, text);
+        put_read(&mut self.u, urgency_in_order(text), text)
     }
-}
-
-/// The vector of the base metrics with the optional ones with which the text after them begins, and what
-/// follows these.
-#[inline(always)]
-fn with_others<'a>(base: Vector, text: &'a [u8]) -> (Vector, &'a [u8])
-    requires { texts_with_slash v4 base (drop 11 printed) ≡ [] }
-    ensures text { (front : List (List ℕ)) (begun : List ℕ) → IsInOrderTo v4 front begun base text.now
-        → IsInOrderTo v4 front begun result.0 result.1.now }
-    ensures missing { first_missing v4 result.0 ≡ first_missing v4 base }
-{
-    let mut vector = base;
-    let rest = put_others(&mut vector, text);
-    (vector, rest)
-}
-
-/// Puts the optional metrics with which a text begins into the vector, and gives what follows
-/// them.
-// A call of its own keeps the vector in memory, where each metric is stored once.
-#[inline(never)]
-fn put_others<'a>(vector: &mut Vector, text: &'a [u8]) -> &'a [u8]
-    ensures text { text.now ≡ texts_with_slash v4 vector.new (drop 11 printed) ++ result.now }
-    ensures base { texts_with_slash v4 vector.new (take 11 printed)
-        ≡ texts_with_slash v4 vector.old (take 11 printed) }
-    ensures version { vector.new.minor_version ≡ vector.old.minor_version }
-    ensures missing { first_missing v4 vector.new ≡ first_missing v4 vector.old }
-{
-    let text = put_value::<Vector, _>(&mut vector.e, text);
-    let text = put_value::<Vector, _>(&mut vector.cr, text);
-    let text = put_value::<Vector, _>(&mut vector.ir, text);
-    let text = put_value::<Vector, _>(&mut vector.ar, text);
-    let text = put_value::<Vector, _>(&mut vector.mav, text);
-    let text = put_value::<Vector, _>(&mut vector.mac, text);
-    let text = put_value::<Vector, _>(&mut vector.mat, text);
-    let text = put_value::<Vector, _>(&mut vector.mpr, text);
-    let text = put_value::<Vector, _>(&mut vector.mui, text);
-    let text = put_value::<Vector, _>(&mut vector.mvc, text);
-    let text = put_value::<Vector, _>(&mut vector.mvi, text);
-    let text = put_value::<Vector, _>(&mut vector.mva, text);
-    let text = put_value::<Vector, _>(&mut vector.msc, text);
-    let text = put_value::<Vector, _>(&mut vector.msi, text);
-    let text = put_value::<Vector, _>(&mut vector.msa, text);
-    let text = put_value::<Vector, _>(&mut vector.s, text);
-    let text = put_value::<Vector, _>(&mut vector.au, text);
-    let text = put_value::<Vector, _>(&mut vector.r, text);
-    let text = put_value::<Vector, _>(&mut vector.v, text);
-    let text = put_value::<Vector, _>(&mut vector.re, text);
-    put_read(&mut vector.u, urgency_in_order(text), text)
 }
 
 /// The provider's urgency, if a slash and its component are the whole text, and nothing after it. Its

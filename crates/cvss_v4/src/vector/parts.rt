@@ -33,6 +33,13 @@ impl Vector {
         ensures own { nomenclature ≡ CvssBTE → result ≡ self.now }
         ensures complete { IsComplete v4 self.now → IsComplete v4 result }
     {
+        self.counted_by(nomenclature)
+    }
+
+    fn counted_by(&self, nomenclature: Nomenclature) -> Vector
+        ensures part { IsPart nomenclature self.now result }
+        ensures own { nomenclature ≡ CvssBTE → result ≡ self.now }
+    {
         match nomenclature {
             Nomenclature::CvssB => self.without_threat().without_environmental(),
             Nomenclature::CvssBE => self.without_threat(),

@@ -8,7 +8,7 @@ ghost use Rattle.cvss_v4.specs.Vector.{v4};
 use crate::each_metric;
 use crate::vector::Vector;
 use cvss_text::buffer::TextBuffer;
-use cvss_text::print::{Printed, write_text};
+use cvss_text::print::{Printed, write_components};
 use cvss_text::values::{shown_at, write_value};
 use cvss_text::{show_at, write_each};
 use cvss_v4_metric::MetricType;
@@ -43,8 +43,6 @@ impl fmt::Display for Vector {
 
     fn fmt<W: fmt::Write>(&self, f: &mut fmt::Formatter<W>) -> fmt::Result {
         self.write_version(f)?;
-        let mut buffer = TextBuffer::new();
-        self.write_metrics(&mut buffer);
-        write_text(buffer.text(), f)
+        write_components(self, f)
     }
 }

@@ -8,5 +8,5 @@ pub whole-requires-clause-bare : goal.whole-requires-clause-bare
 whole-requires-clause-bare c = rw (without_values c.args.empty c.requires) refl
 
 pub returns : goal.returns
-returns c = c.whole.ensures (v2.front c.args.empty) c.args.text.now
+returns c = c.whole.ensures.whole (v2.front c.args.empty) c.args.text.now
     (rw (without_values c.args.empty c.requires) (IsInOrderTo-turns v2 (rw (c.in_ok-av.ensures, c.in_ok-c.ensures) refl) refl))

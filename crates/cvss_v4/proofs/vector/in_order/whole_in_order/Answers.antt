@@ -10,5 +10,5 @@ whole-requires-clause-bare c = rw (without_values c.args.empty c.requires) refl
 pub returns : goal.returns
 returns c =
     let read = rw (c.in_ok-pr.ensures, c.in_ok-vc.ensures, c.in_ok-sc.ensures) at c.in_ok-av.ensures in
-    c.whole.ensures (v4.front c.args.empty) c.args.text.now
+    c.whole.ensures.whole (v4.front c.args.empty) c.args.text.now
     (rw (without_values c.args.empty c.requires) (IsInOrderTo-turns v4 (rw read refl) refl))
