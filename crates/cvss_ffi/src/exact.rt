@@ -13,6 +13,7 @@ use crate::{v2, v3};
 use cvss_any::{Cvss, Versioned};
 use cvss_base::TENTH;
 use cvss_text::setting::read_given;
+use cvss_text::texts::components_of;
 
 /// An exact number: a count of 10^-12 and a count of 10^-24, added.
 #[derive(Drop)]
@@ -121,10 +122,7 @@ fn partial<V: Versioned>(minor_version: usize, metrics: &[u8]) -> Option<V>
     let Ok(metrics) = str::from_utf8(metrics) else {
         return None;
     };
-    if metrics.is_empty() {
-        return Some(empty);
-    }
-    match read_given(metrics, empty) {
+    match read_given(components_of(metrics.as_bytes()), empty) {
         Ok(vector) => Some(vector),
         Err(_) => None,
     }

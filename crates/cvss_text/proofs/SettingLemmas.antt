@@ -7,25 +7,16 @@ use Rattle.std.proofs.lemmas.List.Sorted.{length_permutation}
 use Rattle.std.proofs.lemmas.Bool.{cases_lt}
 use Rattle.std.proofs.lemmas.Option.{same_Some, slice_get_within}
 use Rattle.cvss_base.specs.Refusal.{Refusal, BadComponent, Missing, piece_at}
-use Rattle.cvss_base.specs.Text.{IsComponent, pieces}
+use Rattle.cvss_base.specs.Text.{IsComponent}
 use Rattle.cvss_base.specs.Version.{Version, AreComponentsOf, IsComplete, component_of, components_of, read}
-use Rattle.cvss_text.specs.Setting.{AreRightBefore, IsBuildReason, IsBuilt, IsFirstWrong, IsSet, IsSetReason, IsWrongAt, components_in}
+use Rattle.cvss_text.specs.Setting.{AreRightBefore, IsBuildReason, IsBuilt, IsFirstWrong, IsSet, IsSetReason, IsWrongAt}
 use Rattle.cvss_text.specs.private.SettingSteps.{IsAnswered, IsCopied, IsWrongFor}
-use Rattle.cvss_text.specs.private.Walk.{HasNoValue, HasReadTo, VersionLaws, place_of, reason_of}
+use Rattle.cvss_text.specs.private.Walk.{HasReadTo, VersionLaws, place_of, reason_of}
 use Rattle.cvss_text.specs.declared.walk.Fault.{Fault}
 use Rattle.cvss_text.proofs.ComponentLemmas.{all_taken, piece_is_component}
 use Rattle.cvss_text.proofs.DenotesLemmas.{no_fault_before, no_reason, values_same, vectors_same}
 use Rattle.cvss_text.proofs.RefusalLemmas.{faults_same, reasons_same, same_place}
-use Rattle.cvss_text.proofs.WalkLemmas.{AreComponentsOf-none, fault_at, first_left, taken}
-
--- the components of a text that is not empty are its pieces
-pub components_in-some : (text : List ℕ) → 0 < length text → pieces text ≡ components_in text
-components_in-some [] some = absurd (omega (arith, some))
-components_in-some (byte ∷ bytes) some = refl
-
-pub components_in-none : (text : List ℕ) → length text ≤ 0 → components_in text ≡ []
-components_in-none [] none = refl
-components_in-none (byte ∷ bytes) none = absurd (omega (arith, none))
+use Rattle.cvss_text.proofs.WalkLemmas.{fault_at, first_left, taken}
 
 filter_map-most : {X Y : Type 0} (f : X → Option Y) (xs : List X) → length (filter_map f xs) ≤ length xs
 filter_map-most f [] = omega arith
@@ -124,7 +115,7 @@ module _ {V K : Type 0} (version : Version V K) (version_laws : VersionLaws vers
         )
 
   -- one thing is wrong with a component
-  wrongs_same : (parts : List (List ℕ)) (index : ℕ) (one other : Refusal K) → IsWrongAt version parts index one → IsWrongAt version parts index other → one ≡ other
+  pub wrongs_same : (parts : List (List ℕ)) (index : ℕ) (one other : Refusal K) → IsWrongAt version parts index one → IsWrongAt version parts index other → one ≡ other
   wrongs_same parts index (BadComponent _) (BadComponent _) a b = ap BadComponent (a.0 ∙ sym b.0)
   wrongs_same parts index (BadComponent _) other a b = absurd (a.1 b.0)
   wrongs_same parts index one (BadComponent _) a b = absurd (b.1 a.0)
@@ -154,15 +145,6 @@ module _ {V K : Type 0} (version : Version V K) (version_laws : VersionLaws vers
       reasons_same (Some i) (Some j) one other first second = first_wrongs_same parts i j one other first second
       reasons_same None j one other first second = absurd first
       reasons_same i None one other first second = absurd second
-
-    -- no component: the vector itself
-    pub IsSet-none : (empty : V) → HasNoValue version empty → parts ≡ [] → IsSet version v parts v
-    IsSet-none empty valueless none = record {
-      given = empty;
-      components = subst (λ each. AreComponentsOf version each empty) (sym none) (AreComponentsOf-none version version_laws empty valueless);
-      values = λ kind. sym (ap (λ each. option_or each (version.value_of v kind)) (valueless.none kind));
-      front_is = refl;
-    }
 
     -- a complete vector stays complete
     pub IsComplete-set : (new : V) → IsSet version v parts new → IsComplete version v → IsComplete version new

@@ -16,5 +16,6 @@ pub mod print;
 pub mod refusing;
 pub mod route;
 pub mod setting;
+pub mod texts;
 pub mod values;
 pub mod walk;

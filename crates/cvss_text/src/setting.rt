@@ -1,17 +1,18 @@
 //! How metrics are set in a vector, and how a vector is built from metrics alone, once for all
 //! versions. It takes no memory: a fault borrows the part of the text that it names.
 
-ghost use Rattle.std.specs.Prelude.{◌≡◌, ◌≤◌, IfOk, IfErr, OnOk, Some, length};
+ghost use Rattle.std.specs.Prelude.{◌≡◌, ◌≤◌, IfOk, IfErr, OnOk, Some, length, IsUtf8};
 ghost use Rattle.cvss_base.specs.Text.{pieces};
 ghost use Rattle.cvss_base.specs.Version.{AreComponentsOf};
 ghost use Rattle.cvss_text.specs.Setting.{IsBuildReason, IsBuilt, IsFirstWrong, IsSet, IsSetReason, components_in};
 ghost use Rattle.cvss_text.specs.private.SettingSteps.{IsAnswered, IsCopied, IsWrongFor, kept};
-ghost use Rattle.cvss_text.specs.private.Walk.{Adds, HasNoValue, reason_of};
+ghost use Rattle.cvss_text.specs.private.Walk.{Adds, HasNoValue, IsPrintable, reason_of};
 ghost use Rattle.std.specs.Option.{option_copied, option_or};
 
 use crate::metrics::spelled;
-use crate::pieces::{front_of, is_component, pieces_of};
+use crate::pieces::{is_component, pieces_of};
 use crate::print::Printed;
+use crate::texts::{Texts, components_of};
 use crate::walk::{Components, Fault, read_component};
 
 /// The vector with components set, which a text joins by slashes, in any order; or else the index of
@@ -27,10 +28,7 @@ pub fn set<'a, V: Printed>(
     ensures { IsAnswered V.version (IsSet V.version vector.now (components_in text.now))
         (IsSetReason V.version (components_in text.now)) result }
 {
-    if text.is_empty() {
-        return Ok(*vector);
-    }
-    match read_given(text, empty) {
+    match read_given(components_of(text.as_bytes()), empty) {
         Ok(given) => Ok(completed(given, vector, None)),
         Err((index, fault)) => Err((Some(index), fault)),
     }
@@ -47,7 +45,7 @@ pub fn build<'a, V: Components>(
     ensures { IsAnswered V.version (IsBuilt V.version (V.version.front empty) (pieces text.now))
         (IsBuildReason V.version (pieces text.now)) result }
 {
-    match read_given(text, empty) {
+    match read_given(pieces_of(text.as_bytes()), empty) {
         Ok(given) => match given.first_missing() {
             Some(kind) => Err((None, Fault::MissingMandatoryMetric(kind))),
             None => Ok(given),
@@ -56,29 +54,28 @@ pub fn build<'a, V: Components>(
     }
 }
 
-/// Reads components that a text joins by slashes into a vector without values; or else the index of
-/// the first with which something is wrong, and what.
-pub fn read_given<'a, V: Components>(
-    text: &'a str,
+/// Reads components into a vector without values; or else the index of the first with which something
+/// is wrong, and what.
+pub fn read_given<'a, V: Components, T: Texts<'a>>(
+    texts: T,
     empty: V,
 ) -> Result<V, (usize, Fault<'a, V::Kind>)>
     requires { HasNoValue V.version empty }
-    ensures components { IfOk result (AreComponentsOf V.version (pieces text.now)) }
+    ensures components { IfOk result (AreComponentsOf V.version (T.texts texts)) }
     ensures front { IfOk result (λ given. V.version.front given ≡ V.version.front empty) }
-    ensures refused { IfErr result (λ refused. IsFirstWrong V.version (pieces text.now) refused.0
+    ensures refused { IfErr result (λ refused. IsFirstWrong V.version (T.texts texts) refused.0
         (reason_of V.version refused.1)) }
     ensures bound { IfErr result (λ refused. refused.0 ≤ length V.version.printed) }
+    ensures printable { T.are_utf8 → IfErr result (λ refused. IsPrintable V.version refused.1) }
 {
     let mut given = empty;
-    let mut left = pieces_of(text.as_bytes());
-    let mut index = 0;
-    while let Some(rest) = left.text() {
-        let (piece, after) = front_of(rest);
-        if let Err(fault) = read_one(piece, &mut given) {
-            return Err((index, fault));
+    let mut left = texts;
+    while let Some(cut) = left.first_text() {
+        let (text, after) = cut;
+        if let Err(fault) = read_one(text, &mut given) {
+            return Err((texts.count() - left.count(), fault));
         }
         left = after;
-        index += 1;
     }
     Ok(given)
 }
@@ -88,6 +85,7 @@ fn read_one<'a, V: Components>(piece: &'a [u8], given: &mut V) -> Result<(), Fau
     ensures read { OnOk result (Adds V.version given.old piece.now given.new) }
     ensures refused { IfErr result
         (λ fault. IsWrongFor V.version given.old piece.now (reason_of V.version fault)) }
+    ensures printable { IsUtf8 piece.now → IfErr result (IsPrintable V.version) }
 {
     if !is_component(piece) {
         return Err(Fault::InvalidComponent(piece));

@@ -1,13 +1,9 @@
 -- A vector is complete where it lacks no mandatory metric.
-use Rattle.std.proofs.Common.{◌≡◌, ◌↔◌, Bool, true, false, not, Option, Some, None, is_none, is_some, IsSome, IsTrue, refl, sym}
+use Rattle.std.proofs.Common.{◌≡◌, ◌↔◌, Bool, true, false, not, Option, Some, None, is_none, is_some, IsTrue, refl, sym}
 use Rattle.cvss_base.proofs.FindLemmas.{found_passes}
 use Rattle.cvss_base.specs.Version.{Version, IsComplete}
 use Rattle.cvss_text.specs.private.Walk.{first_missing}
 use Rattle.cvss_text.proofs.WalkLemmas.{none_absent, IsComplete-from, Contains-missing}
-
-pub none_is_none : {X : Type 0} (o : Option X) → o ≡ None → IsSome o → ⊥
-none_is_none None is some = absurd cc
-none_is_none (Some x) is some = absurd cc
 
 module _ {V K : Type 0} (version : Version V K) (v : V) where
   complete_lacks_none : (kind : K) → IsComplete version v → first_missing version v ≡ Some kind → ⊥

@@ -1,87 +1,87 @@
 -- Overrides: the environmental metrics, and texts that are read one after another.
-use Rattle.std.proofs.Common.{◌≡◌, true, true≢false, inl, inr, ℕ, ◌+◌, ◌<◌, Option, List, [], ◌∷◌, ◌++◌, codes, length, take, IsSome, Contains, below_more, refl, sym, ap, ◌∙◌, subst, arith}
+use Rattle.std.proofs.Common.{◌≡◌, true, true≢false, ℕ, ◌+◌, ◌<◌, ◌≤◌, All, Option, List, [], ◌∷◌, ◌++◌, codes, length, IsSome, Contains, append_assoc, length-append, refl, sym, ap, ◌∙◌, subst, arith}
 use Rattle.std.specs.Option.{option_or}
-use Rattle.std.proofs.lemmas.List.{take_all, take_more}
-use Rattle.std.proofs.lemmas.List.Elements.{All-contains, filter_passes}
-use Rattle.cvss_base.specs.Refusal.{Refusal, BadComponent, Repeated, piece_at, name_at, FaultAt}
-use Rattle.cvss_base.specs.Text.{IsComponent, name_part}
+use Rattle.std.proofs.lemmas.List.{get_or-append-add, get_or_append_left}
+use Rattle.std.proofs.lemmas.List.Elements.{All-contains, All-get_or, All-nil, All-push, filter_passes}
+use Rattle.cvss_base.specs.Refusal.{Refusal, piece_at}
+use Rattle.cvss_base.specs.Text.{name_part}
 use Rattle.cvss_base.specs.Groups.{same_group}
 use Rattle.cvss_base.specs.V4Types.{name_of, group_of, declared}
 use Rattle.cvss_base.specs.Version.{AreComponentsOf, numeral, read, version_piece, IsComplete}
-use Rattle.cvss_text.specs.private.Walk.{Adds, HasNoValue, IsFaultOf}
 use Rattle.cvss_base.specs.declared.group.MetricGroup.{MetricGroup}
 use Rattle.cvss_base.specs.declared.group.MetricGroup.TheVariants.{Base, Environmental}
 use Rattle.cvss_base.specs.declared.v4.MetricType.{MetricType}
-use Rattle.cvss_text.proofs.ComponentLemmas.{adds_component, name_from, piece_held, piece_is_component}
-use Rattle.cvss_text.proofs.DenotesLemmas.{no_fault_before, no_fault_held, vectors_same}
+use Rattle.cvss_text.specs.Setting.{AreRightBefore, IsFirstWrong}
+use Rattle.cvss_text.proofs.ComponentLemmas.{held_stands, name_from, piece_held, piece_is_component, value_from}
+use Rattle.cvss_text.proofs.DenotesLemmas.{vectors_same}
 use Rattle.cvss_text.proofs.LawLemmas.{names_differ}
-use Rattle.cvss_text.proofs.RefusalLemmas.{same_place, faults_same}
-use Rattle.cvss_text.proofs.WalkLemmas.{AreComponentsOf-none, fault_at}
-use Rattle.cvss_v4.proofs.CompleteLemmas.{none_is_none}
+use Rattle.cvss_text.proofs.RefusalLemmas.{same_place}
+use Rattle.cvss_text.proofs.SettingLemmas.{right_held, wrongs_same}
 use Rattle.cvss_v4_metric.specs.Table.{mandatory}
-use Rattle.cvss_v4.specs.Overriding.{AreOverrides, IsOverridden, NamesOther, Objection, OfOtherGroup, OfText, ObjectionAt, IsFirstObjection}
-use Rattle.cvss_v4.specs.private.OverridingSteps.{AddsOverride, IsObjectionTo, HasReadOverrides}
+use Rattle.cvss_v4.specs.Overriding.{AreOverrides, HasNoObjectionBefore, IsFirstObjection, IsOfOtherGroup, IsOverridden, Objection, OfOtherGroup, OfText, ObjectionAt}
+use Rattle.cvss_v4.specs.private.OverridingSteps.{HasNoOtherBefore, IsFirstOther}
 use Rattle.cvss_v4.specs.Table.{Value, value_at}
 use Rattle.cvss_v4.specs.Vector.{v4}
-use Rattle.cvss_v4.specs.private.VectorLaws.{v4_laws, one_minor_version, with_values, vector_has}
+use Rattle.cvss_v4.specs.private.VectorLaws.{v4_laws, with_values, vector_has}
 use Rattle.cvss_v4.specs.declared.vector.Vector.{Vector}
 
--- a text that names an environmental metric names no other
-pub names_no_other : (kind : MetricType) (name : List ℕ) → name_of kind ≡ name → group_of kind ≡ Environmental → NamesOther name → ⊥
-names_no_other kind name named is other =
+-- a text that names an environmental metric is of no other group
+pub names_no_other : (kind : MetricType) (text : List ℕ) → name_of kind ≡ read v4 (name_part text) → group_of kind ≡ Environmental → IsOfOtherGroup text → ⊥
+names_no_other kind text named is other =
     other.other (subst (λ each. group_of each ≡ Environmental) (names_differ v4 v4_laws kind other.kind (named ∙ sym other.named)) is)
 
--- a component with a fault is no override
-pub component_objection : (v : Vector) (text : List ℕ) (reason : Refusal MetricType) → IsComponent text → (NamesOther (read v4 (name_part text)) → ⊥) → IsFaultOf v4 v text reason → IsObjectionTo v text (OfText reason)
-component_objection v text (BadComponent piece) is none fault = absurd fault
-component_objection v text reason is none fault = (is, none, fault)
+-- the texts before those that are left are of no other group
+pub record HasPassed (texts left : List (List ℕ)) : Type 0 where
+  pub before : List (List ℕ)
+  pub cut : texts ≡ before ++ left
+  pub none : All (λ text. ¬ (IsOfOtherGroup text)) before
 
--- nothing is wrong with a text whose name is that of an environmental metric, and which has no fault
-no_objection_at : (texts : List (List ℕ)) (place : ℕ) (kind : MetricType) → IsComponent (piece_at texts place) → name_of kind ≡ name_at v4 texts place → group_of kind ≡ Environmental → ((reason : Refusal MetricType) → FaultAt v4 texts place reason → ⊥) → (objection : Objection) → ObjectionAt texts place objection → ⊥
-no_objection_at texts place kind is named environment none OfOtherGroup at = names_no_other kind _ named environment at.1
-no_objection_at texts place kind is named environment none (OfText (BadComponent piece)) at = at.1 is
-no_objection_at texts place kind is named environment none (OfText reason) at = none reason at.2
+pub HasPassed-start : (texts : List (List ℕ)) → HasPassed texts texts
+HasPassed-start texts = record { before = []; cut = refl; none = All-nil (λ text. ¬ (IsOfOtherGroup text)) }
 
--- the start, a step and the end of the walk over overrides
-pub HasReadOverrides-none : (texts : List (List ℕ)) (v : Vector) → v.minor_version ≡ 0 → HasNoValue v4 v → HasReadOverrides texts 0 v
-HasReadOverrides-none texts v version empty = record {
-  version = version;
-  read = AreComponentsOf-none v4 v4_laws v empty;
-  environmental = record { each = λ kind some. absurd (none_is_none (value_at v kind) (empty.none kind) some) };
-  faultless = record { none = λ earlier objection below. absurd (omega arith) };
-}
-
-module _ (texts : List (List ℕ)) (place : ℕ) (within : place < length texts) (text : List ℕ) (here : text ≡ piece_at texts place) where
-  pub HasReadOverrides-more : (old new : Vector) → IsComponent text → AddsOverride old text new → HasReadOverrides texts place old → HasReadOverrides texts (place + 1) new
-  HasReadOverrides-more old new is added before =
-      let adds = added.adds in
-      let at_place = subst (λ piece. Adds v4 old piece new) here adds in
-      let all : AreComponentsOf v4 (take (place + 1) texts) new = rw (take_more texts place [] within) (adds_component v4 v4_laws old new (take place texts) (piece_at texts place) at_place before.read) in
-      let named : name_of adds.kind ≡ name_at v4 texts place = adds.named ∙ ap (λ each. read v4 (name_part each)) here in
-      let none = no_objection_at texts place adds.kind (subst IsComponent here is) named added.environmental (λ reason fault. (no_fault_before v4 v4_laws new texts (place + 1) (omega (arith, within)) all).none place reason (omega arith) fault) in
-      record {
-        version = one_minor_version new old adds.puts.front ∙ before.version;
-        read = all;
-        environmental = record { each = λ kind some. elim (adds.puts.others kind) [ inl same ↦ subst (λ each. group_of each ≡ Environmental) (sym same) added.environmental | inr same ↦ before.environmental.each kind (subst IsSome same some) ] };
-        faultless = record { none = λ earlier objection below. below_more (λ each. (other : Objection) → ObjectionAt texts each other → ⊥) place (λ each inside other. before.faultless.none each other inside) none earlier below objection };
-      }
-
-  objection_at : (v : Vector) → HasReadOverrides texts place v → (objection : Objection) → IsObjectionTo v (piece_at texts place) objection → ObjectionAt texts place objection
-  objection_at v before (OfText (Repeated kind)) (is, none, fault) = (is, none, fault_at v4 v4_laws v texts place (omega arith) before.read (Repeated kind) fault)
-  objection_at v before objection is = is
-
-  pub IsFirstObjection-at : (v : Vector) (objection : Objection) → IsObjectionTo v text objection → HasReadOverrides texts place v → IsFirstObjection texts place objection
-  IsFirstObjection-at v objection is before = record {
-    within = within;
-    is = objection_at v before objection (subst (λ each. IsObjectionTo v each objection) here is);
-    earlier = before.faultless;
+module _ (texts left : List (List ℕ)) (passed : HasPassed texts left) where
+  none_before : HasNoOtherBefore texts (length passed.before)
+  none_before = record {
+    none = λ earlier below. subst (λ text. ¬ (IsOfOtherGroup text)) (sym (ap (λ list. piece_at list earlier) passed.cut ∙ get_or_append_left passed.before left [] earlier below)) (All-get_or (λ text. ¬ (IsOfOtherGroup text)) passed.before earlier [] below passed.none);
   }
 
-pub AreOverrides-all : (texts : List (List ℕ)) (v : Vector) → HasReadOverrides texts (length texts) v → AreOverrides texts v
-AreOverrides-all texts v all = record {
-  components = rw (take_all (length texts) texts (omega arith)) at all.read;
-  environmental = all.environmental;
-}
+  pub none_at_all : left ≡ [] → HasNoOtherBefore texts (length texts)
+  none_at_all none = subst (HasNoOtherBefore texts) (omega (arith, ap length passed.cut, ap length none, length-append passed.before left)) none_before
+
+  module _ (text : List ℕ) (after : List (List ℕ)) (next : left ≡ text ∷ after) where
+    pub HasPassed-more : ¬ (IsOfOtherGroup text) → HasPassed texts after
+    HasPassed-more none = record {
+      before = passed.before ++ text ∷ [];
+      cut = passed.cut ∙ ap (λ rest. passed.before ++ rest) next ∙ sym (append_assoc passed.before (text ∷ []) after);
+      none = All-push (λ text. ¬ (IsOfOtherGroup text)) passed.before text passed.none none;
+    }
+
+    pub IsFirstOther-here : (place : ℕ) → place + length left ≡ length texts → IsOfOtherGroup text → IsFirstOther texts place
+    IsFirstOther-here place at is =
+        let here : length passed.before ≡ place = omega (arith, at, ap length passed.cut, length-append passed.before left) in
+        subst (IsFirstOther texts) here (record {
+          within = omega (arith, here, at, ap length next);
+          is = subst IsOfOtherGroup (sym (ap (λ list. piece_at list (length passed.before)) (passed.cut ∙ ap (λ rest. passed.before ++ rest) next) ∙ ap (piece_at (passed.before ++ text ∷ after)) (omega arith) ∙ get_or-append-add passed.before (text ∷ after) 0 [])) is;
+          earlier = none_before;
+        })
+
+-- a group that is no other is the environmental one
+environmental : (group : MetricGroup) → ¬ (¬ (group ≡ Environmental)) → group ≡ Environmental
+environmental = elim [ Environmental ↦ λ not. refl | _ ↦ λ not. absurd (not (λ same. absurd cc)) ]
+
+-- the components of a vector none of which is of another group are overrides
+pub AreOverrides-all : (texts : List (List ℕ)) (v : Vector) → AreComponentsOf v4 texts v → HasNoOtherBefore texts (length texts) → AreOverrides texts v
+AreOverrides-all texts v components none = record { components = components; environmental = record { each = each } } where
+  each : (kind : MetricType) → IsSome (value_at v kind) → group_of kind ≡ Environmental
+  each kind some =
+      let value = value_from (value_at v kind) some in
+      let at = held_stands v4 v4_laws v texts kind value.0 components value.1 in
+      environmental (group_of kind) (λ other. none.none at.place at.within (record {
+        component = piece_is_component v4 v4_laws v texts components at.place at.within;
+        kind = kind;
+        named = sym (name_from v4 v4_laws (piece_at texts at.place) kind _ at.is);
+        other = other;
+      }))
 
 -- texts are the overrides of one vector with minor version 0
 pub one_overrides : (texts : List (List ℕ)) (v w : Vector) → v.minor_version ≡ 0 → w.minor_version ≡ 0 → AreOverrides texts v → AreOverrides texts w → v ≡ w
@@ -91,23 +91,44 @@ one_overrides texts v w of_v of_w are_v are_w =
 
 -- nothing is wrong with overrides
 pub no_objection_held : (texts : List (List ℕ)) (v : Vector) (place : ℕ) → AreOverrides texts v → place < length texts → (objection : Objection) → ObjectionAt texts place objection → ⊥
-no_objection_held texts v place are within =
+no_objection_held texts v place are within OfOtherGroup is =
     let held = piece_held v4 v4_laws v texts place are.components within in
-    let named : name_of held.kind ≡ name_at v4 texts place = sym (name_from v4 v4_laws (piece_at texts place) held.kind _ held.is) in
-    no_objection_at texts place held.kind (piece_is_component v4 v4_laws v texts are.components place within) named (are.environmental.each held.kind (rw held.held)) (no_fault_held v4 v4_laws v texts place are.components within)
+    names_no_other held.kind (piece_at texts place) (sym (name_from v4 v4_laws (piece_at texts place) held.kind _ held.is)) (are.environmental.each held.kind (rw held.held)) is
+no_objection_held texts v place are within (OfText reason) is = right_held v4 v4_laws v texts place are.components within reason is.1
+
+pub no_overrides : (texts : List (List ℕ)) (place : ℕ) (objection : Objection) → IsFirstObjection texts place objection → (v : Vector) → ¬ (AreOverrides texts v)
+no_overrides texts place objection first v are = no_objection_held texts v place are first.within objection first.is
+
+module _ (texts : List (List ℕ)) (place : ℕ) where
+  -- nothing is wrong with texts that are right as components, none of which is of another group
+  pub HasNoObjectionBefore-both : HasNoOtherBefore texts place → AreRightBefore v4 texts place → HasNoObjectionBefore texts place
+  HasNoObjectionBefore-both none right = record { none = each } where
+    each : (earlier : ℕ) (objection : Objection) → earlier < place → ¬ (ObjectionAt texts earlier objection)
+    each earlier OfOtherGroup below is = none.none earlier below is
+    each earlier (OfText reason) below is = right.none earlier reason below is.1
+
+  -- the first text of another group, where nothing else is wrong before it
+  pub IsFirstObjection-other : (wrong : ℕ) → AreRightBefore v4 texts wrong → place ≤ wrong → IsFirstOther texts place → IsFirstObjection texts place OfOtherGroup
+  IsFirstObjection-other wrong right before first = record {
+    within = first.within;
+    is = first.is;
+    earlier = HasNoObjectionBefore-both first.earlier (record { none = λ earlier reason below. right.none earlier reason (omega (arith, below, before)) });
+  }
+
+  -- the first text with which something else is wrong, where none up to it is of another group
+  pub IsFirstObjection-wrong : (other : ℕ) (reason : Refusal MetricType) → HasNoOtherBefore texts other → place < other → IsFirstWrong v4 texts place reason → IsFirstObjection texts place (OfText reason)
+  IsFirstObjection-wrong other reason none below first = record {
+    within = first.within;
+    is = (none.none place below, first.is);
+    earlier = HasNoObjectionBefore-both (record { none = λ earlier before. none.none earlier (omega (arith, before, below)) }) first.earlier;
+  }
 
 -- one objection at a place
-objections_same : (texts : List (List ℕ)) (place : ℕ) (one other : Objection) → ObjectionAt texts place one
-    → ObjectionAt texts place other → one ≡ other
+objections_same : (texts : List (List ℕ)) (place : ℕ) (one other : Objection) → ObjectionAt texts place one → ObjectionAt texts place other → one ≡ other
 objections_same texts place OfOtherGroup OfOtherGroup a b = refl
-objections_same texts place OfOtherGroup (OfText (BadComponent _)) a b = absurd (b.1 a.0)
-objections_same texts place OfOtherGroup (OfText _) a b = absurd (b.1 a.1)
-objections_same texts place (OfText (BadComponent _)) OfOtherGroup a b = absurd (a.1 b.0)
-objections_same texts place (OfText (BadComponent _)) (OfText (BadComponent _)) a b = ap (λ piece. OfText (BadComponent piece)) (a.0 ∙ sym b.0)
-objections_same texts place (OfText (BadComponent _)) (OfText _) a b = absurd (a.1 b.0)
-objections_same texts place (OfText _) OfOtherGroup a b = absurd (a.1 b.1)
-objections_same texts place (OfText _) (OfText (BadComponent _)) a b = absurd (b.1 a.0)
-objections_same texts place (OfText one) (OfText other) a b = ap OfText (faults_same v4 v4_laws texts place one other a.2 b.2)
+objections_same texts place OfOtherGroup (OfText _) a b = absurd (b.0 a)
+objections_same texts place (OfText _) OfOtherGroup a b = absurd (a.0 b)
+objections_same texts place (OfText one) (OfText other) a b = ap OfText (wrongs_same v4 v4_laws texts place one other a.1 b.1)
 
 -- two first objections are one
 pub first_objections_same : (texts : List (List ℕ)) (p q : ℕ) (one other : Objection) → IsFirstObjection texts p one

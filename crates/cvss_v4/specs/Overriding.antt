@@ -3,14 +3,15 @@ use Rattle.std.specs.Prelude.{◌++◌, codes, ◌≡◌, ℕ, ◌<◌, List, le
 use Rattle.std.specs.Fmt.{decimal}
 use Rattle.std.specs.Option.{option_or}
 use Rattle.cvss_base.specs.ErrorText.{error_text}
-use Rattle.cvss_base.specs.Refusal.{Refusal, BadComponent, piece_at, name_at, FaultAt}
-use Rattle.cvss_base.specs.Text.{IsComponent}
+use Rattle.cvss_base.specs.Refusal.{Refusal, piece_at}
+use Rattle.cvss_base.specs.Text.{IsComponent, name_part}
 use Rattle.cvss_base.specs.Reported.{Reports}
 use Rattle.cvss_base.specs.V4Types.{v4_reason, name_of, group_of}
-use Rattle.cvss_base.specs.Version.{AreComponentsOf}
+use Rattle.cvss_base.specs.Version.{AreComponentsOf, read}
 use Rattle.cvss_base.specs.declared.error.Error.{Error}
 use Rattle.cvss_base.specs.declared.group.MetricGroup.TheVariants.{Environmental}
 use Rattle.cvss_base.specs.declared.v4.MetricType.{MetricType}
+use Rattle.cvss_text.specs.Setting.{IsWrongAt}
 use Rattle.cvss_v4.specs.Table.{value_at}
 use Rattle.cvss_v4.specs.Vector.{v4}
 use Rattle.cvss_v4.specs.declared.vector.Vector.{Vector}
@@ -32,10 +33,11 @@ pub record IsOverridden (v overrides new : Vector) : Type 0 where
   pub kept : (kind : MetricType) → ¬ (group_of kind ≡ Environmental) → value_at new kind ≡ value_at v kind
   pub minor_version : new.minor_version ≡ v.minor_version
 
--- a metric of another group has the name
-pub record NamesOther (name : List ℕ) : Type 0 where
+-- the text is a component of a metric of another group
+pub record IsOfOtherGroup (text : List ℕ) : Type 0 where
+  pub component : IsComponent text
   pub kind : MetricType
-  pub named : name_of kind ≡ name
+  pub named : name_of kind ≡ read v4 (name_part text)
   pub other : ¬ (group_of kind ≡ Environmental)
 
 -- why a text is no override: its metric is of another group, or it is refused as a component is
@@ -43,16 +45,11 @@ pub data Objection : Type 0 where
   OfOtherGroup : Objection
   OfText : Refusal MetricType → Objection
 
--- what is wrong with the text at a place: it is no component; or else no metric has its name; or else
--- its metric is of another group; or else the metric has no such value; or else an earlier text has
--- the same name
+-- what is wrong with the text at a place: its metric is of another group; or else what is wrong with it as a component of a
+-- vector (cvss_text, Setting)
 abbrev pub ObjectionAt : List (List ℕ) → ℕ → Objection → Type 0
-ObjectionAt texts place OfOtherGroup =
-    IsComponent (piece_at texts place) × NamesOther (name_at v4 texts place)
-ObjectionAt texts place (OfText (BadComponent piece)) =
-    (piece ≡ piece_at texts place) × ¬ (IsComponent (piece_at texts place))
-ObjectionAt texts place (OfText reason) =
-    IsComponent (piece_at texts place) × ¬ (NamesOther (name_at v4 texts place)) × FaultAt v4 texts place reason
+ObjectionAt texts place OfOtherGroup = IsOfOtherGroup (piece_at texts place)
+ObjectionAt texts place (OfText reason) = ¬ (IsOfOtherGroup (piece_at texts place)) × IsWrongAt v4 texts place reason
 
 -- nothing is wrong with the texts before this place
 pub record HasNoObjectionBefore (texts : List (List ℕ)) (place : ℕ) : Type 0 where

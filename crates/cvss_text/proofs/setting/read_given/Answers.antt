@@ -1,43 +1,33 @@
-use Rattle.std.proofs.Common.{◌∙◌, ap, length, refl, arith}
-use Rattle.std.proofs.lemmas.List.Splits.{length-slice_split}
-use Rattle.std.proofs.lemmas.List.Sums.{count_by-le-length}
-use Rattle.cvss_base.specs.Text.{pieces}
+use Rattle.std.proofs.Common.{◌≡◌, ℕ, ◌+◌, ◌-◌, ◌∙◌, List, ◌++◌, ap, length, length-append, refl, arith}
 use Rattle.cvss_text.specs.private.Walk.{reason_of}
 use Rattle.cvss_text.proofs.SettingLemmas.{HasReadTo-most, IsFirstWrong-at}
-use Rattle.cvss_text.proofs.TextLemmas.{is_slash}
-use Rattle.cvss_text.proofs.WalkLemmas.{HasReadTo-all, HasReadTo-more, HasReadTo-start}
+use Rattle.cvss_text.proofs.WalkLemmas.{HasReadTo-more, HasReadTo-start}
 use Rattle.cvss_text.proofs.setting.read_given.Goals as goal
 
-pub loop-rest-init : goal.loop-rest-init
-loop-rest-init g c =
-    rw (c.pieces_of-left.ensures, c.as_bytes.ensures.value)
-    (HasReadTo-start g.V.Components.version g.met.V.Components.version_laws (pieces c.args.text.now) c.args.empty c.requires, omega arith, refl)
+pub loop-cut-init : goal.loop-cut-init
+loop-cut-init g c = (HasReadTo-start g.V.Components.version g.met.V.Components.version_laws (g.T.Texts.texts c.args.texts) c.args.empty c.requires, refl)
 
-pub loop-rest-preserved : goal.loop-rest-preserved
-loop-rest-preserved g c =
-    let before = c.loop-rest.invariant in
-    let adds = c.in_default-read_one.ensures.read in
-    let first = c.in-Some.ensures ∙ c.front_of.ensures in (
-      HasReadTo-more g.V.Components.version g.met.V.Components.version_laws (pieces c.args.text.now) _ c.loop-rest.given before.0 c.read_one.new.given c.front_of.result.0.now _ first adds,
-      omega (arith, before.1, ap length first),
-      adds.puts.front ∙ before.2,
+pub loop-cut-preserved : goal.loop-cut-preserved
+loop-cut-preserved g c =
+    let before = c.loop-cut.invariant in
+    let adds = c.in_default-read_one.ensures.read in (
+      HasReadTo-more g.V.Components.version g.met.V.Components.version_laws (g.T.Texts.texts c.args.texts) _ c.loop-cut.given before.0 c.read_one.new.given c.in-Some.cut.0.now _ c.in-Some.ensures.cut adds,
+      adds.puts.front ∙ before.1,
     )
 
-pub overflow_add-index : goal.overflow_add-index
-overflow_add-index g c =
-    omega (arith, c.loop-rest.invariant.1, ap length (c.in-Some.ensures ∙ c.front_of.ensures), length-slice_split is_slash c.args.text.now, count_by-le-length is_slash c.args.text.now, c.as_bytes.type_inv)
+-- how many texts were read
+at_here : (texts left before : List (List ℕ)) (all rest : ℕ) → texts ≡ before ++ left → all ≡ length texts → rest ≡ length left → all - rest + length left ≡ length texts
+at_here texts left before all rest cut count count_left = omega (arith, ap length cut, length-append before left)
 
 pub returns-in-Err-clause-refused : goal.returns-in-Err-clause-refused
 returns-in-Err-clause-refused g c =
     let version = g.V.Components.version in
-    let to = c.loop-rest.invariant in
-    IsFirstWrong-at version g.met.V.Components.version_laws (pieces c.args.text.now) _ c.loop-rest.given to.0 c.loop-rest.index to.1 _ _ (c.in-Some.ensures ∙ c.front_of.ensures) (reason_of version c.in-Err.fault) c.in-Err.ensures.refused
+    IsFirstWrong-at version g.met.V.Components.version_laws (g.T.Texts.texts c.args.texts) _ c.loop-cut.given c.loop-cut.invariant.0 _ (at_here _ _ _ _ _ c.loop-cut.invariant.0.cut c.count.ensures c.count-in-Err.ensures) _ _ c.in-Some.ensures.cut (reason_of version c.in-Err.fault) c.in-Err.ensures.refused
 
 pub returns-in-Err-clause-bound : goal.returns-in-Err-clause-bound
 returns-in-Err-clause-bound g c =
-    let to = c.loop-rest.invariant in
-    HasReadTo-most g.V.Components.version g.met.V.Components.version_laws (pieces c.args.text.now) _ c.loop-rest.given to.0 c.loop-rest.index to.1
+    HasReadTo-most g.V.Components.version g.met.V.Components.version_laws (g.T.Texts.texts c.args.texts) _ c.loop-cut.given c.loop-cut.invariant.0 _ (at_here _ _ _ _ _ c.loop-cut.invariant.0.cut c.count.ensures c.count-in-Err.ensures)
 
-pub returns-clause-components : goal.returns-clause-components
-returns-clause-components g c =
-    HasReadTo-all g.V.Components.version g.met.V.Components.version_laws (pieces c.args.text.now) _ c.loop-rest.given c.loop-rest.invariant.0 c.in_default.ensures
+pub returns-in-Err-clause-printable : goal.returns-in-Err-clause-printable
+returns-in-Err-clause-printable g c = λ is.
+    c.in-Err.ensures.printable (c.in-Some.ensures.utf8 is)

@@ -1,48 +1,47 @@
-use Rattle.std.proofs.Common.{◌≡◌, ◌<◌, ℕ, List, [], length, map, Bor, sym, ◌∙◌, subst, arith}
-use Rattle.std.proofs.lemmas.List.{length-map, get_or-map}
-use Rattle.cvss_v4.specs.private.OverridingSteps.{HasReadOverrides, objection_of}
-use Rattle.cvss_v4.proofs.OverridingLemmas.{HasReadOverrides-none, HasReadOverrides-more, IsFirstObjection-at, AreOverrides-all, no_objection_held}
+use Rattle.std.proofs.Common.{◌∙◌, arith}
+use Rattle.cvss_text.specs.private.Walk.{reason_of}
+use Rattle.cvss_text.proofs.SettingLemmas.{right_all}
+use Rattle.cvss_v4.specs.Vector.{v4}
+use Rattle.cvss_v4.specs.private.VectorLaws.{one_minor_version, v4_laws}
+use Rattle.cvss_v4.proofs.OverridingLemmas.{AreOverrides-all, HasNoObjectionBefore-both, IsFirstObjection-other, IsFirstObjection-wrong, no_overrides}
 use Rattle.cvss_v4.proofs.overrides.read_overrides.Goals as goal
 
-abbrev texts_of : List (Bor (List ℕ)) → List (List ℕ)
-texts_of overrides = map (λ text. text.now) overrides
+pub returns-in-Ok-clause-accepted : goal.returns-in-Ok-clause-accepted
+returns-in-Ok-clause-accepted g c = AreOverrides-all (g.T.Texts.texts c.args.texts) c.in-Ok.vector c.in-Ok.ensures.components c.in_default.ensures
 
--- the text of this turn
-within : (overrides : List (Bor (List ℕ))) (place : ℕ) → place < length overrides → place < length (texts_of overrides)
-within overrides place below = omega (arith, length-map overrides (λ (text : Bor (List ℕ)). text.now))
+pub returns-in-Ok-clause-version : goal.returns-in-Ok-clause-version
+returns-in-Ok-clause-version g c = one_minor_version c.in-Ok.vector c.empty.result c.in-Ok.ensures.front ∙ c.empty.ensures.version
 
-pub loop-index-init : goal.loop-index-init
-loop-index-init c = HasReadOverrides-none (texts_of c.args.overrides.now) c.empty-vector.result c.empty-vector.ensures.version c.empty-vector.ensures.valueless
-
-pub loop-index-preserved : goal.loop-index-preserved
-loop-index-preserved c =
-    let overrides = c.args.overrides.now in
-    let below = c.loop-index-test.true in
-    let here = c.as_bytes.ensures.value ∙ sym (get_or-map (λ (text : Bor (List ℕ)). text.now) overrides c.loop-index.index _ [] below) in
-    HasReadOverrides-more (texts_of overrides) c.loop-index.index (within overrides c.loop-index.index below) c.as_bytes.result.now here c.loop-index.vector c.read_override.new.overrides c.in_default.ensures.component c.in_default.ensures.read c.loop-index.invariant
+pub returns-in-Ok-clause-faultless : goal.returns-in-Ok-clause-faultless
+returns-in-Ok-clause-faultless g c =
+    HasNoObjectionBefore-both (g.T.Texts.texts c.args.texts) _ c.in_default.ensures (right_all v4 v4_laws c.in-Ok.vector (g.T.Texts.texts c.args.texts) c.in-Ok.ensures.components)
 
 pub returns-in-Err-clause-refused : goal.returns-in-Err-clause-refused
-returns-in-Err-clause-refused c =
-    let overrides = c.args.overrides.now in
-    let below = c.loop-index-test.true in
-    let here = c.as_bytes.ensures.value ∙ sym (get_or-map (λ (text : Bor (List ℕ)). text.now) overrides c.loop-index.index _ [] below) in
-    IsFirstObjection-at (texts_of overrides) c.loop-index.index (within overrides c.loop-index.index below) c.as_bytes.result.now here c.loop-index.vector (objection_of c.in-Err.fault) c.in-Err.ensures.refused c.loop-index.invariant
+returns-in-Err-clause-refused g c =
+    let wrong = c.in-Err.ensures.refused in
+    IsFirstObjection-wrong (g.T.Texts.texts c.args.texts) c.in-Err.index _ (reason_of v4 c.in-Err.fault) c.in_default.ensures wrong.within wrong
 
 pub returns-in-Err-clause-accepts : goal.returns-in-Err-clause-accepts
-returns-in-Err-clause-accepts c = λ vector are.
-    let is = returns-in-Err-clause-refused c in
-    absurd (no_objection_held (texts_of c.args.overrides.now) vector c.loop-index.index are is.within _ is.is)
+returns-in-Err-clause-accepts g c = λ vector are. absurd (no_overrides _ _ _ (returns-in-Err-clause-refused g c) vector are)
 
-all_read : (c : goal.After-loop-index) → HasReadOverrides (texts_of c.args.overrides.now) (length (texts_of c.args.overrides.now)) c.loop-index.vector
-all_read c =
-    let at_end : c.loop-index.index ≡ length (texts_of c.args.overrides.now) = omega (arith, length-map c.args.overrides.now (λ (text : Bor (List ℕ)). text.now), c.loop-index.auto.index-end, c.loop-index-test.false) in
-    subst (λ place. HasReadOverrides (texts_of c.args.overrides.now) place c.loop-index.vector) at_end c.loop-index.invariant
+pub returns-in-Ok-read-clause-refused : goal.returns-in-Ok-read-clause-refused
+returns-in-Ok-read-clause-refused g c =
+    let first = c.in-Some.ensures in
+    IsFirstObjection-other (g.T.Texts.texts c.args.texts) c.in-Some.other _ (right_all v4 v4_laws c.in-Ok-read.field-0 (g.T.Texts.texts c.args.texts) c.in-Ok-read.ensures.components) (omega (arith, first.within)) first
 
-pub returns-clause-accepted : goal.returns-clause-accepted
-returns-clause-accepted c = AreOverrides-all (texts_of c.args.overrides.now) c.loop-index.vector (all_read c)
+pub returns-in-Ok-read-clause-accepts : goal.returns-in-Ok-read-clause-accepts
+returns-in-Ok-read-clause-accepts g c = λ vector are. absurd (no_overrides _ _ _ (returns-in-Ok-read-clause-refused g c) vector are)
 
-pub returns-clause-version : goal.returns-clause-version
-returns-clause-version c = (all_read c).version
+pub returns-then-index-other-clause-refused : goal.returns-then-index-other-clause-refused
+returns-then-index-other-clause-refused g c =
+    IsFirstObjection-wrong (g.T.Texts.texts c.args.texts) c.in-Err-read.index _ (reason_of v4 c.in-Err-read.fault) c.in-Some.ensures.earlier c.if-index-other.true c.in-Err-read.ensures.refused
 
-pub returns-clause-faultless : goal.returns-clause-faultless
-returns-clause-faultless c = (all_read c).faultless
+pub returns-then-index-other-clause-accepts : goal.returns-then-index-other-clause-accepts
+returns-then-index-other-clause-accepts g c = λ vector are. absurd (no_overrides _ _ _ (returns-then-index-other-clause-refused g c) vector are)
+
+pub returns-else-index-other-clause-refused : goal.returns-else-index-other-clause-refused
+returns-else-index-other-clause-refused g c =
+    IsFirstObjection-other (g.T.Texts.texts c.args.texts) c.in-Some.other _ c.in-Err-read.ensures.refused.earlier (omega (arith, c.if-index-other.false)) c.in-Some.ensures
+
+pub returns-else-index-other-clause-accepts : goal.returns-else-index-other-clause-accepts
+returns-else-index-other-clause-accepts g c = λ vector are. absurd (no_overrides _ _ _ (returns-else-index-other-clause-refused g c) vector are)
