@@ -15,16 +15,10 @@ use cvss_any::{Cvss, SetError, Version};
 pub fn with_metrics<'a>(text: &'a [u8], metrics: &'a [u8]) -> Result<Cvss, Rejection<'a>>
     ensures { SetsMetrics text.now metrics.now (answered result) }
 {
-    match read(text) {
-        Ok(cvss) => with_metrics_of(&cvss, metrics),
-        Err(error) => Err(Rejection::Text(error)),
-    }
-}
-
-fn with_metrics_of<'a>(cvss: &Cvss, metrics: &'a [u8]) -> Result<Cvss, Rejection<'a>>
-    ensures { IsNew (IsWithMetrics cvss.now metrics.now) (IsWithReasonText cvss.now metrics.now)
-        (answered result) }
-{
+    let cvss = match read(text) {
+        Ok(cvss) => cvss,
+        Err(error) => return Err(Rejection::Text(error)),
+    };
     let Ok(metrics) = str::from_utf8(metrics) else {
         return Err(Rejection::NotUtf8);
     };
@@ -38,16 +32,9 @@ fn with_metrics_of<'a>(cvss: &Cvss, metrics: &'a [u8]) -> Result<Cvss, Rejection
 pub fn built(version: i32, metrics: &[u8]) -> Result<Cvss, Rejection<'_>>
     ensures { Builds version metrics.now (answered result) }
 {
-    match version_of(version) {
-        Some(version) => built_as(version, metrics),
-        None => Err(Rejection::NoVersion),
-    }
-}
-
-fn built_as(version: Version, metrics: &[u8]) -> Result<Cvss, Rejection<'_>>
-    ensures { IsNew (IsFromUtf8 metrics.now (IsBuiltAs version metrics.now))
-        (IsWhyNot (IsBuiltReason version metrics.now) metrics.now) (answered result) }
-{
+    let Some(version) = version_of(version) else {
+        return Err(Rejection::NoVersion);
+    };
     let Ok(metrics) = str::from_utf8(metrics) else {
         return Err(Rejection::NotUtf8);
     };
