@@ -4,7 +4,8 @@
 ghost use Rattle.std.specs.Prelude.{◌≡◌, ◌↔◌, ◌*ℤ◌, ◌^◌, ℤ, pos, IfSome, IfNone, IsTrue};
 ghost use Rattle.cvss_base.specs.Exact.{IsWithinLimit, of_count};
 ghost use Rattle.cvss_base.specs.Tenths.{IsInTenths};
-ghost use Rattle.cvss_ffi.specs.Exact.{AreNumbersOf, AreNumbersV2, AreNumbersV3, IsBeforeV4, IsNoPartial, IsNumber, IsPartial, IsRoundedFor, IsRoundedTo, IsTemporalWith, count_in};
+ghost use Rattle.cvss_ffi.specs.Answers.{NoneIs};
+ghost use Rattle.cvss_ffi.specs.Exact.{AreNumbersOf, AreNumbersV2, AreNumbersV3, IsBeforeV4, IsNumber, IsPartial, IsRoundedFor, IsRoundedTo, IsTemporalWith, count_in};
 
 use crate::scores::tenths_of as scores_of;
 use crate::{v2, v3};
@@ -99,7 +100,8 @@ pub fn temporal(metrics: &[u8], impact: &CvssNumber) -> Option<i32>
 /// is mandatory.
 fn partial<V: Versioned>(minor_version: usize, metrics: &[u8]) -> Option<V>
     ensures is { IfSome result (IsPartial V.version (V.front minor_version) metrics.now) }
-    ensures none { IfNone result (IsNoPartial V.version (V.front minor_version) metrics.now) }
+    ensures none { IfNone result
+        (NoneIs (IsPartial V.version (V.front minor_version) metrics.now)) }
 {
     let empty = V::without_metrics(minor_version);
     let Ok(metrics) = str::from_utf8(metrics) else {
