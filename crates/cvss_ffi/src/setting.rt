@@ -2,9 +2,8 @@
 
 ghost use Rattle.std.specs.Prelude.{◌≡◌, IfNone, IfSome};
 ghost use Rattle.cvss_any.specs.Refusals.{refusal_of};
-ghost use Rattle.cvss_any.specs.Setting.{IsBuiltAs, IsBuiltReason};
 ghost use Rattle.cvss_any.specs.declared.setting.Version as version;
-ghost use Rattle.cvss_ffi.specs.Setting.{Builds, IsFromUtf8, IsNew, IsWhyNot, IsWithMetrics, IsWithReasonText, SetsMetrics, number_of, set_reason_text};
+ghost use Rattle.cvss_ffi.specs.Setting.{Builds, SetsMetrics, number_of, set_reason_text};
 ghost use Rattle.cvss_ffi.specs.private.Rejection.{answered, rejection_text};
 
 use crate::refusal::read;
