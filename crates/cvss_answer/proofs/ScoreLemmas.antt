@@ -1,7 +1,8 @@
 -- The line of each score is at its place.
-use Rattle.std.proofs.Common.{◌≡◌, ℕ, zero, suc, ◌+◌, ◌*◌, ◌^◌, ◌<◌, ◌≤◌, pos, int_lt, true, false, [], ◌∷◌, ◌++◌, List, codes, map, Some, slice_get, unwrap_or, refl, sym, ap, ◌∙◌, append_assoc, arith, option_map}
+use Rattle.std.proofs.Common.{◌≡◌, ℕ, ◌+◌, ◌*◌, ◌^◌, ◌<◌, ◌≤◌, pos, int_lt, true, false, [], ◌∷◌, ◌++◌, List, codes, map, Bor, slice_index_or, refl, sym, ap, ◌∙◌, append_assoc, arith}
+use Rattle.std.proofs.Math.ListN.{get_or-map}
 use Rattle.std.proofs.lemmas.Bool.Decides.{nat_tests}
-use Rattle.std.proofs.lemmas.Option.{slice_get-map}
+use Rattle.std.proofs.lemmas.List.FromFn.{get_or-map-range_with_len}
 use Rattle.std.specs.List.{range_with_len}
 use Rattle.cvss_any.specs.Answers.{rating_by, rating_text, score_of_tenths, text_of, vector_answer}
 use Rattle.cvss_any.specs.Published.{IsPublishedAs}
@@ -13,20 +14,15 @@ use Rattle.cvss_score.specs.v2.Rating.{rating_of}
 use Rattle.cvss_lines.specs.Answers.{written_text}
 use Rattle.cvss_answer.specs.Answers.{rated_line, score_line}
 
-at_place : (n place : ℕ) → place < n → (from : ℕ) → slice_get (range_with_len from n) place ≡ Some (from + place)
-at_place zero place below from = absurd (omega arith)
-at_place (suc n) zero below from = let same : from ≡ from + 0 = omega arith in ap Some same
-at_place (suc n) (suc place) below from =
-    let same : from + 1 + place ≡ from + suc place = omega arith in at_place n place (omega arith) (from + 1) ∙ ap Some same
+-- the text after an element of a list
+pub index-now : (lines : List (Bor (List ℕ))) (place : ℕ) (none : Bor (List ℕ)) → (slice_index_or lines place none).now ≡ slice_index_or (map (λ line. line.now) lines) place none.now
+index-now lines place none = sym (get_or-map (λ line. line.now) lines place none)
 
--- a line that is at a place among the lines of so many scores from one on is that of the score at this place
-pub line_reported : (bounds : Bounds) (from n : ℕ) (line : List ℕ) (lines : List (List ℕ)) (place t : ℕ) → Some line ≡ slice_get lines place → from + place ≡ t → place < n
-    → lines ≡ map (rated_line bounds) (range_with_len from n) → line ≡ rated_line bounds t
-line_reported bounds from n line lines place t is stands within all =
-    let found : Some line ≡ option_map (rated_line bounds) (Some (from + place)) =
-    is ∙ ap (λ list. slice_get list place) all ∙ slice_get-map (rated_line bounds) (range_with_len from n) place
-    ∙ ap (option_map (rated_line bounds)) (at_place n place within from) in
-    ap (λ o. unwrap_or o line) found ∙ ap (rated_line bounds) stands
+-- a line among those of so many scores from one on is that of the score at its place
+pub line_reported : (bounds : Bounds) (from n place tenths : ℕ) (lines : List (List ℕ)) → place < n → from + place ≡ tenths
+    → lines ≡ map (rated_line bounds) (range_with_len from n) → slice_index_or lines place [] ≡ rated_line bounds tenths
+line_reported bounds from n place tenths lines within stands all =
+    ap (λ list. slice_index_or list place []) all ∙ get_or-map-range_with_len (rated_line bounds) from n place tenths [] within stands
 
 -- from 0.1 to 8.9 the bounds rate alike
 alike : (t : ℕ) → 1 ≤ t → t < 90 → rating_of_score (pos (t * 10 ^ 23)) ≡ rating_of (pos (t * 10 ^ 23))

@@ -1,10 +1,8 @@
 -- The answers to lines whose vectors have metrics set.
-use Rattle.std.specs.Prelude.{◌≡◌, ◌⊎◌, ℕ, List, ◌++◌, codes, None, Option, Some}
+use Rattle.std.specs.Prelude.{◌≡◌, ◌⊎◌, ℕ, List, None, Option, Some}
 use Rattle.std.specs.Str.{IsUtf8}
-use Rattle.cvss_any.specs.Answers.{IsScoreOf, score_of_tenths, vector_answer}
 use Rattle.cvss_any.specs.Complete.{first_missing}
 use Rattle.cvss_any.specs.Dispatch.{DenotesCvss}
-use Rattle.cvss_any.specs.Reasons.{error_message}
 use Rattle.cvss_any.specs.Refusals.{IsReadError, refusal_of}
 use Rattle.cvss_any.specs.Setting.{IsWith, IsWithReason}
 use Rattle.cvss_any.specs.declared.metric_type.MetricType.{MetricType}
@@ -13,7 +11,8 @@ use Rattle.cvss_any.specs.declared.refusal.ReadError.TheVariants.{Invalid}
 use Rattle.cvss_any.specs.declared.refusal.Refusal.{Refusal}
 use Rattle.cvss_any.specs.declared.refusal.Refusal.TheVariants.{Missing}
 use Rattle.cvss_any.specs.declared.vector.Cvss.{Cvss}
-use Rattle.cvss_lines.specs.Answers.{Rule, by_one_text}
+use Rattle.cvss_answer.specs.Answers.{vector_rule}
+use Rattle.cvss_lines.specs.Answers.{Rule}
 
 -- the line is a text that denotes a vector, and this is that vector with the metrics set
 pub record IsSetIn (metrics line : List ℕ) (new : Cvss) : Type 0 where
@@ -22,14 +21,9 @@ pub record IsSetIn (metrics line : List ℕ) (new : Cvss) : Type 0 where
   pub denoted : DenotesCvss line vector
   pub is_with : IsWith vector metrics new
 
--- the answer is that of the vector with the metrics set, which lacks no base metric
-pub record IsSetAcceptance (metrics line answer : List ℕ) : Type 0 where
-  pub new : Cvss
-  pub is_set : IsSetIn metrics line new
-  pub complete : first_missing new ≡ None
-  pub tenths : ℕ
-  pub scored : IsScoreOf new (score_of_tenths tenths)
-  pub is : answer ≡ vector_answer new tenths
+-- the same, of a vector that lacks no base metric
+abbrev pub IsSetWhole : List ℕ → List ℕ → Cvss → Type 0
+IsSetWhole metrics line new = IsSetIn metrics line new × (first_missing new ≡ None)
 
 -- the line denotes a vector in which the metrics cannot be set, and the error is the first reason
 pub record IsNotSet (metrics line : List ℕ) (error : ReadError) : Type 0 where
@@ -53,12 +47,6 @@ pub record IsSetIncomplete (metrics line : List ℕ) (error : ReadError) : Type 
 abbrev pub IsSetError : List ℕ → List ℕ → ReadError → Type 0
 IsSetError metrics line error = IsReadError line error ⊎ IsNotSet metrics line error ⊎ IsSetIncomplete metrics line error
 
--- the answer is such an error
-pub record IsSetRejection (metrics line answer : List ℕ) : Type 0 where
-  pub error : ReadError
-  pub is_right : IsSetError metrics line error
-  pub is : answer ≡ codes "error: " ++ error_message error
-
--- which answers a line has, whatever its number: one text
+-- a line is answered by its vector with the metrics set, or by an error
 abbrev pub set_rule : List ℕ → Rule
-set_rule metrics = by_one_text (λ number. IsSetAcceptance metrics) (λ number. IsSetRejection metrics)
+set_rule metrics = vector_rule (IsSetWhole metrics) (IsSetError metrics)

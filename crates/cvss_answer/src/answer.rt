@@ -37,6 +37,7 @@ impl Answering for Vectors {
 ///
 /// Out of memory.
 #[inline(always)]
+#[tactic(auto, using(crate::proofs::ScoringLemmas::published_written))]
 pub fn answer_score(
     line: &[u8],
     allow_incomplete: bool,

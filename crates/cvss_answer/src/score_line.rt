@@ -1,6 +1,6 @@
 //! What follows a vector's text in its answer, one text for each score.
 
-ghost use Rattle.std.specs.Prelude.{◌≡◌, ◌≤◌, ◌<◌, Some, length, map, slice_get};
+ghost use Rattle.std.specs.Prelude.{◌≡◌, ◌≤◌};
 ghost use Rattle.cvss_any.specs.declared.published.Bounds.TheVariants.{OfV2, SinceV3};
 ghost use Rattle.cvss_answer.specs.Answers.{rated_line, score_line};
 
@@ -25,7 +25,10 @@ fn line_of_v2(tenths: u8) -> &'static str
 {
     match tenths {
         0 => " 0.0 low\n",
-        90.. => line_at(&HIGHEST_OF_V2, usize::from(tenths) - 90),
+        90.. => {
+            let line = &HIGHEST_OF_V2[tenths as usize - 90];
+            *line
+        }
         _ => line_of_v3(tenths),
     }
 }
@@ -35,29 +38,15 @@ fn line_of_v3(tenths: u8) -> &'static str
     requires { tenths ≤ 100 }
     ensures { result.now ≡ rated_line SinceV3 tenths }
 {
-    line_at(&LINES, usize::from(tenths))
-}
-
-/// The line at a place.
-fn line_at(lines: &[&'static str], place: usize) -> &'static str
-    requires { place < length lines.now }
-    ensures { Some result.now ≡ slice_get (map (λ line. line.now) lines.now) place }
-{
-    lines[place]
+    let line = &LINES[tenths as usize];
+    *line
 }
 
 /// The lines of 9.0 to 10.0 by the bounds of CVSS v2.
+#[rattlefmt::skip]
 const HIGHEST_OF_V2: [&str; 11] = [
-    " 9.0 high\n",
-    " 9.1 high\n",
-    " 9.2 high\n",
-    " 9.3 high\n",
-    " 9.4 high\n",
-    " 9.5 high\n",
-    " 9.6 high\n",
-    " 9.7 high\n",
-    " 9.8 high\n",
-    " 9.9 high\n",
+    " 9.0 high\n", " 9.1 high\n", " 9.2 high\n", " 9.3 high\n", " 9.4 high\n",
+    " 9.5 high\n", " 9.6 high\n", " 9.7 high\n", " 9.8 high\n", " 9.9 high\n",
     " 10.0 high\n",
 ];
 

@@ -1,9 +1,8 @@
 //! The answer to one line whose vector has metrics set.
 
-ghost use Rattle.std.specs.Prelude.{◌≡◌, ℕ, None, IfOk, IfErr};
-ghost use Rattle.cvss_answer.specs.Setting.{IsSetError, IsSetIn, set_rule};
+ghost use Rattle.std.specs.Prelude.{ℕ, IfOk, IfErr};
+ghost use Rattle.cvss_answer.specs.Setting.{IsSetError, IsSetWhole, set_rule};
 ghost use Rattle.cvss_any.specs.Answers.{HasScore};
-ghost use Rattle.cvss_any.specs.Complete.{first_missing};
 ghost use Rattle.cvss_lines.specs.Answers.{WritesAnswer};
 
 use crate::answer::{write_error, write_vector};
@@ -17,6 +16,7 @@ use std::alloc::AllocError;
 /// # Errors
 ///
 /// Out of memory.
+#[tactic(auto, using(crate::proofs::ScoringLemmas::vector_written))]
 pub fn answer_with_metrics(
     line: &[u8],
     metrics: &str,
@@ -39,8 +39,7 @@ pub fn answer_with_metrics(
 
 /// The vector of a line with metrics set.
 fn vector_with<'a>(line: &'a [u8], metrics: &'a str) -> Result<Cvss, ReadError<'a>>
-    ensures set { IfOk result (IsSetIn metrics.now line.now) }
-    ensures complete { IfOk result (λ new. first_missing new ≡ None) }
+    ensures set { IfOk result (IsSetWhole metrics.now line.now) }
     ensures scored { IfOk result (λ new. HasScore new) }
     ensures rejected { IfErr result (IsSetError metrics.now line.now) }
 {

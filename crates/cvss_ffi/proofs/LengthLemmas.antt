@@ -5,7 +5,7 @@ use Rattle.std.proofs.lemmas.List.{length-map}
 use Rattle.std.proofs.lemmas.List.Sorted.{sum_by-IsPermutation}
 use Rattle.std.proofs.lemmas.List.Sums.{sum_by-cons, sum_by-append}
 use Rattle.cvss_base.specs.Text.{slash, joined, read_as}
-use Rattle.cvss_base.specs.Version.{AreComponentsOf, Version, read, components_of, canonical_text, Denotes}
+use Rattle.cvss_base.specs.Version.{Version, read, components_of, canonical_text, Denotes}
 use Rattle.cvss_any.specs.Answers.{text_of}
 use Rattle.cvss_any.specs.Dispatch.{DenotesCvss}
 use Rattle.cvss_v2.specs.Vector.{v2}
@@ -29,27 +29,23 @@ read_as-length : (any_case : Bool) (text : List ℕ) → length (read_as any_cas
 read_as-length true text = length-map text _
 read_as-length false text = refl
 
-sums-read : {V K : Type 0} (version : Version V K) (parts : List (List ℕ)) → sum_by piece_length (map (read version) parts) ≡ sum_by piece_length parts
-sums-read version [] = refl
-sums-read version (part ∷ parts) =
-    omega (arith, sum_by-cons piece_length (read version part) (map (read version) parts), sum_by-cons piece_length part parts, read_as-length version.any_case part, sums-read version parts)
+module _ {V K : Type 0} (version : Version V K) where
+  sums-read : (parts : List (List ℕ)) → sum_by piece_length (map (read version) parts) ≡ sum_by piece_length parts
+  sums-read [] = refl
+  sums-read (part ∷ parts) =
+      omega (arith, sum_by-cons piece_length (read version part) (map (read version) parts), sum_by-cons piece_length part parts, read_as-length version.any_case part, sums-read parts)
 
--- a vector's components are as long as the pieces that are them
-sums-components : {V K : Type 0} (version : Version V K) (parts : List (List ℕ)) (v : V) → AreComponentsOf version parts v → sum_by piece_length (components_of version v) ≡ sum_by piece_length parts
-sums-components version parts v are =
-    let read_same : sum_by piece_length (map (read version) parts) ≡ sum_by piece_length (map (read version) (components_of version v)) = sum_by-IsPermutation piece_length _ _ are.each_once in
-    sym (sums-read version (components_of version v)) ∙ (sym read_same ∙ sums-read version parts)
+  length_denoted : (text : List ℕ) (v : V) → Denotes version text v → length (canonical_text version v) ≡ length text
+  length_denoted text v denoted =
+      let own = components_of version v in
+      let parts = denoted.parts in
+      let front = version.front v in
+      joined-length (front ++ own)
+      ∙ ap (λ n. n - 1) (omega (arith, sum_by-IsPermutation piece_length _ _ denoted.components.each_once, sums-read own, sums-read parts, sum_by-append piece_length front own, sum_by-append piece_length front parts))
+      ∙ sym (joined-length (front ++ parts)) ∙ ap length (sym denoted.text_is)
 
-length-denoted : {V K : Type 0} (version : Version V K) (text : List ℕ) (v : V) → Denotes version text v → length (canonical_text version v) ≡ length text
-length-denoted version text v denoted =
-    let parts = denoted.parts in
-    let front = version.front v in
-    let same = sums-components version parts v denoted.components in
-    let whole : sum_by piece_length (front ++ components_of version v) ≡ sum_by piece_length (front ++ parts) = omega (arith, same, sum_by-append piece_length front (components_of version v), sum_by-append piece_length front parts) in
-    joined-length (front ++ components_of version v) ∙ ap (λ n. n - 1) whole ∙ sym (joined-length (front ++ parts)) ∙ ap length (sym denoted.text_is)
-
-pub length-denoted_cvss : (text : List ℕ) (cvss : Cvss) → DenotesCvss text cvss → length (text_of cvss) ≡ length text
-length-denoted_cvss text (CvssV20 vector) denoted = length-denoted v2 text vector denoted.denoted
-length-denoted_cvss text (CvssV30 vector) denoted = length-denoted v3 text vector denoted.denoted
-length-denoted_cvss text (CvssV31 vector) denoted = length-denoted v3 text vector denoted.denoted
-length-denoted_cvss text (CvssV40 vector) denoted = length-denoted v4 text vector denoted.denoted
+pub length_denoted_cvss : (text : List ℕ) (cvss : Cvss) → DenotesCvss text cvss → length (text_of cvss) ≡ length text
+length_denoted_cvss text (CvssV20 vector) denoted = length_denoted v2 text vector denoted.denoted
+length_denoted_cvss text (CvssV30 vector) denoted = length_denoted v3 text vector denoted.denoted
+length_denoted_cvss text (CvssV31 vector) denoted = length_denoted v3 text vector denoted.denoted
+length_denoted_cvss text (CvssV40 vector) denoted = length_denoted v4 text vector denoted.denoted

@@ -1,5 +1,4 @@
 pub mod BufferLemmas
 pub mod LengthLemmas
 pub mod LinesLemmas
-pub mod RefusalLemmas
 pub mod UndefinedLemmas

@@ -3,8 +3,7 @@ use Rattle.std.proofs.Common.{◌≡◌, ℕ, List, [], ◌∷◌, ◌++◌, ref
 use Rattle.std.proofs.lemmas.List.{flat_map_more}
 use Rattle.std.proofs.lemmas.List.Elements.{All-push, All-nil}
 use Rattle.cvss_ffi.specs.Buffer.{HasPut}
-use Rattle.cvss_ffi.specs.Lines.{AreAnswers, HasAnswered, IsLineAnswer, ended}
-use Rattle.cvss_ffi.proofs.BufferLemmas.{nothing_put}
+use Rattle.cvss_ffi.specs.Lines.{HasAnswered, IsLineAnswer, ended}
 
 -- before the first line
 pub HasAnswered-start : (texts old : List ℕ) → HasAnswered texts texts old old 0
@@ -13,24 +12,22 @@ HasAnswered-start texts old = record {
   texts_are = refl;
   answers = [];
   answered = record { pairs = []; each = All-nil _; lines_are = refl; answers_are = refl };
-  put = nothing_put old;
-}
-
--- one line more
-AreAnswers-push : (lines answers line answer : List ℕ) → AreAnswers lines answers → IsLineAnswer line answer → AreAnswers (lines ++ ended line) (answers ++ ended answer)
-AreAnswers-push lines answers line answer all one = record {
-  pairs = all.pairs ++ (line, answer) ∷ [];
-  each = All-push (λ pair. IsLineAnswer pair.0 pair.1) all.pairs (line, answer) all.each one;
-  lines_are = ap (λ l. l ++ ended line) all.lines_are ∙ flat_map_more (λ pair. ended pair.0) [] all.pairs (line, answer);
-  answers_are = ap (λ l. l ++ ended answer) all.answers_are ∙ flat_map_more (λ pair. ended pair.1) [] all.pairs (line, answer);
+  put = record { begins = refl; place_is = refl };
 }
 
 -- after one line more
 pub HasAnswered-line : (texts rest line after old now next answer : List ℕ) (written end : ℕ) → (done : HasAnswered texts rest old now written) → rest ≡ line ++ 10 ∷ after → IsLineAnswer line answer → HasPut old (done.answers ++ ended answer) next end → HasAnswered texts after old next end
-HasAnswered-line texts rest line after old now next answer written end done rest_is one put = record {
-  lines = done.lines ++ ended line;
-  texts_are = done.texts_are ∙ ap (λ r. done.lines ++ r) (rest_is ∙ sym (append_assoc line (10 ∷ []) after)) ∙ sym (append_assoc done.lines (ended line) after);
-  answers = done.answers ++ ended answer;
-  answered = AreAnswers-push done.lines done.answers line answer done.answered one;
-  put = put;
-}
+HasAnswered-line texts rest line after old now next answer written end done rest_is one put =
+    let before = done.answered in
+    record {
+      lines = done.lines ++ ended line;
+      texts_are = done.texts_are ∙ ap (λ r. done.lines ++ r) (rest_is ∙ sym (append_assoc line (10 ∷ []) after)) ∙ sym (append_assoc done.lines (ended line) after);
+      answers = done.answers ++ ended answer;
+      answered = record {
+        pairs = before.pairs ++ (line, answer) ∷ [];
+        each = All-push (λ pair. IsLineAnswer pair.0 pair.1) before.pairs (line, answer) before.each one;
+        lines_are = ap (λ l. l ++ ended line) before.lines_are ∙ flat_map_more (λ pair. ended pair.0) [] before.pairs (line, answer);
+        answers_are = ap (λ l. l ++ ended answer) before.answers_are ∙ flat_map_more (λ pair. ended pair.1) [] before.pairs (line, answer);
+      };
+      put = put;
+    }

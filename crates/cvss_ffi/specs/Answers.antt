@@ -12,9 +12,13 @@ pub record IsAccepted (text : List ℕ) (IsOf : Cvss → Type 0) : Type 0 where
   pub denoted : DenotesCvss text cvss
   pub holds : IsOf cvss
 
+-- nothing is so
+pub record NoneIs {X : Type 0} (IsSo : X → Type 0) : Type 0 where
+  pub none : (x : X) → ¬ (IsSo x)
+
 -- the text denotes no vector
-pub record IsRefused (text : List ℕ) : Type 0 where
-  pub none : (cvss : Cvss) → ¬ (DenotesCvss text cvss)
+abbrev pub IsRefused : List ℕ → Type 0
+IsRefused text = NoneIs (DenotesCvss text)
 
 -- the one holds of the vector that the text denotes, or it denotes none and the other holds
 abbrev pub Answers : List ℕ → (Cvss → Type 0) → Type 0 → Type 0

@@ -17,6 +17,7 @@ use Rattle.cvss_v3.specs.VectorWeights as weights_v3
 use Rattle.cvss_any.specs.declared.vector.Cvss.{Cvss}
 use Rattle.cvss_any.specs.declared.vector.Cvss.TheVariants.{CvssV20, CvssV31}
 use Rattle.cvss_json_record.specs.declared.group.Group.TheVariants.{Base, Temporal, Environmental}
+use Rattle.cvss_ffi.specs.Answers.{NoneIs}
 use Rattle.cvss_ffi.specs.Scores.{IsReportedScore}
 use Rattle.cvss_ffi.specs.declared.exact.CvssNumber.{CvssNumber}
 use Rattle.cvss_ffi.specs.declared.exact.CvssNumbers.{CvssNumbers}
@@ -27,14 +28,10 @@ pub record IsPartial {V K : Type 0} (version : Version V K) (front : List (List 
   pub front_is : version.front v ≡ front
   pub components : AreComponentsOf version (components_in metrics) v
 
--- there is no such vector
-pub record IsNoPartial {V K : Type 0} (version : Version V K) (front : List (List ℕ)) (metrics : List ℕ) : Type 0 where
-  pub none : (v : V) → ¬ (IsPartial version front metrics v)
-
 -- a value of which this holds for the vector; nothing, where there is no vector
 abbrev pub IsOfPartial : {V K X : Type 0} → Version V K → List (List ℕ) → List ℕ → (V → X → Type 0) → Option X → Type 0
 IsOfPartial {V} version front metrics IsOf answer =
-    MatchOption answer (IsNoPartial version front metrics) (λ value. (v : V) × IsPartial version front metrics v × IsOf v value)
+    MatchOption answer (NoneIs (IsPartial version front metrics)) (λ value. (v : V) × IsPartial version front metrics v × IsOf v value)
 
 -- the count of 10^-24 of a number
 abbrev pub count_in : CvssNumber → ℤ

@@ -6,7 +6,7 @@ use Rattle.std.specs.Str.{IsUtf8}
 use Rattle.cvss_base.specs.Refusal.{Refusal}
 use Rattle.cvss_any.specs.Answers.{text_of}
 use Rattle.cvss_any.specs.Reasons.{IsReason, not_utf8_text, reason_text}
-use Rattle.cvss_ffi.specs.Answers.{Answers, IsAccepted}
+use Rattle.cvss_ffi.specs.Answers.{Answers, IsAccepted, NoneIs}
 use Rattle.cvss_ffi.specs.Buffer.{IsLeft, IsWritten}
 use Rattle.cvss_any.specs.Setting.{IsBuiltAs, IsBuiltReason, IsWith, IsWithReason}
 use Rattle.cvss_any.specs.declared.metric_type.MetricType.{MetricType}
@@ -36,10 +36,6 @@ pub record IsBuiltFrom (number : ℤ) (metrics : List ℕ) (new : Cvss) : Type 0
   pub numbered : number_of version ≡ number
   pub built : IsFromUtf8 metrics (IsBuiltAs version metrics) new
 
--- there is no such vector
-pub record IsNoVector (IsIt : Cvss → Type 0) : Type 0 where
-  pub none : (new : Cvss) → ¬ (IsIt new)
-
 -- the text of such a vector is written
 abbrev pub WritesVector : (Cvss → Type 0) → List ℕ → List ℕ → ℕ → Type 0
 WritesVector IsIt old now reported = (new : Cvss) × IsIt new × IsWritten (text_of new) old now reported
@@ -47,12 +43,12 @@ WritesVector IsIt old now reported = (new : Cvss) × IsIt new × IsWritten (text
 -- the new vector, or that there is none and why
 abbrev pub IsNew : (Cvss → Type 0) → (List ℕ → Type 0) → Result Cvss (List ℕ) → Type 0
 IsNew IsIt IsWhy (Ok new) = IsIt new
-IsNew IsIt IsWhy (Err said) = IsNoVector IsIt × IsWhy said
+IsNew IsIt IsWhy (Err said) = NoneIs IsIt × IsWhy said
 
 -- the same of the vector that a text denotes; or why it denotes none
 abbrev pub IsNewOf : List ℕ → (Cvss → Cvss → Type 0) → (Cvss → List ℕ → Type 0) → Result Cvss (List ℕ) → Type 0
 IsNewOf text IsIt IsWhy (Ok new) = IsAccepted text (λ cvss. IsIt cvss new)
-IsNewOf text IsIt IsWhy (Err said) = Answers text (λ cvss. IsNoVector (IsIt cvss) × IsWhy cvss said) (IsReason text said)
+IsNewOf text IsIt IsWhy (Err said) = Answers text (λ cvss. NoneIs (IsIt cvss) × IsWhy cvss said) (IsReason text said)
 
 -- the text of the new vector is written; nothing, where there is none
 abbrev pub IsNewWritten : Result Cvss (List ℕ) → List ℕ → List ℕ → ℕ → Type 0

@@ -1,10 +1,9 @@
 //! The line that the program answers to a text.
 
-ghost use Rattle.std.specs.Prelude.{◌≤◌, ◌+◌, ◌++◌, ℕ, List, length};
-ghost use Rattle.cvss_any.specs.Answers.{HasScore};
+ghost use Rattle.std.specs.Prelude.{◌≤◌, ◌+◌, ◌++◌, ℕ, List, codes, length};
+ghost use Rattle.cvss_any.specs.Answers.{HasScore, text_of as canonical_text};
 ghost use Rattle.cvss_ffi.specs.Answers.{IsAnswer, IsAnswerOf};
 ghost use Rattle.cvss_ffi.specs.Buffer.{IsWritten, Writes};
-ghost use Rattle.cvss_ffi.specs.private.Steps.{IsRated};
 
 use crate::buffer::write;
 use crate::message::write_message;
@@ -55,7 +54,8 @@ fn write_answer_of(cvss: &Cvss, end: &[u8], buffer: &mut [u8]) -> usize
 /// The score of a vector that has one, with one decimal, and the score's rating.
 fn rated(cvss: &Cvss) -> (&'static str, &'static str)
     requires { HasScore cvss.now }
-    ensures rated { IsRated cvss.now result.0.now result.1.now }
+    ensures rated { IsAnswerOf (canonical_text cvss.now ++ codes " "
+        ++ (result.0.now ++ codes " " ++ result.1.now)) cvss.now }
     ensures bound { length result.0.now + length result.1.now ≤ 12 }
 {
     let tenths = cvss.tenths();

@@ -33,22 +33,10 @@ pub(crate) fn write_canonical(cvss: &Cvss, buffer: &mut [u8]) -> usize
     ensures { IsWritten (text_of cvss.now) buffer.old buffer.new result }
 {
     match cvss {
-        Cvss::CvssV20(vector) => write(vector.text(&mut TextBuffer::new()), buffer),
-        Cvss::CvssV30(vector) if vector.minor_version == 0 => write_after(
-            *b"CVSS:3.0",
-            vector,
-            buffer,
-        ),
-        Cvss::CvssV31(vector) if vector.minor_version == 1 => write_after(
-            *b"CVSS:3.1",
-            vector,
-            buffer,
-        ),
-        Cvss::CvssV40(vector) if vector.minor_version == 0 => write_after(
-            *b"CVSS:4.0",
-            vector,
-            buffer,
-        ),
+        Cvss::CvssV20(own) => write(own.text(&mut TextBuffer::new()), buffer),
+        Cvss::CvssV30(own) if own.minor_version == 0 => write_after(*b"CVSS:3.0", own, buffer),
+        Cvss::CvssV31(own) if own.minor_version == 1 => write_after(*b"CVSS:3.1", own, buffer),
+        Cvss::CvssV40(own) if own.minor_version == 0 => write_after(*b"CVSS:4.0", own, buffer),
         _ => write_by_page(cvss, buffer),
     }
 }

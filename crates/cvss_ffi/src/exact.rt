@@ -1,12 +1,11 @@
 //! Scores and sub-scores of vectors that may lack mandatory metrics, and numbers that are rounded, as C
 //! sees them. It takes no memory.
 
-ghost use Rattle.std.specs.Prelude.{◌≡◌, ◌↔◌, ◌*ℤ◌, ◌^◌, ℤ, pos, [], IfSome, IfNone, IsTrue};
+ghost use Rattle.std.specs.Prelude.{◌≡◌, ◌↔◌, ◌*ℤ◌, ◌^◌, ℤ, pos, IfSome, IfNone, IsTrue};
 ghost use Rattle.cvss_base.specs.Exact.{IsWithinLimit, of_count};
 ghost use Rattle.cvss_base.specs.Tenths.{IsInTenths};
-ghost use Rattle.cvss_v2.specs.Vector.{v2};
-ghost use Rattle.cvss_v3.specs.Vector.{v3};
-ghost use Rattle.cvss_ffi.specs.Exact.{AreNumbersOf, AreNumbersV2, AreNumbersV3, IsBeforeV4, IsNoPartial, IsNumber, IsOfPartial, IsPartial, IsRoundedFor, IsRoundedTo, IsTemporalWith, count_in, front_v3};
+ghost use Rattle.cvss_ffi.specs.Answers.{NoneIs};
+ghost use Rattle.cvss_ffi.specs.Exact.{AreNumbersOf, AreNumbersV2, AreNumbersV3, IsBeforeV4, IsNumber, IsPartial, IsRoundedFor, IsRoundedTo, IsTemporalWith, count_in};
 
 use crate::scores::tenths_of as scores_of;
 use crate::{v2, v3};
@@ -55,25 +54,11 @@ pub fn numbers_of(version: i32, metrics: &[u8]) -> Option<CvssNumbers>
     ensures { AreNumbersOf version metrics.now result }
 {
     match version {
-        20 => partial_v2(metrics),
-        30 => partial_v3(0, metrics),
-        31 => partial_v3(1, metrics),
+        20 => Some(numbers_of_v2(&partial(0, metrics)?)),
+        30 => Some(numbers_of_v3(&partial(0, metrics)?)),
+        31 => Some(numbers_of_v3(&partial(1, metrics)?)),
         _ => None,
     }
-}
-
-fn partial_v2(metrics: &[u8]) -> Option<CvssNumbers>
-    ensures { IsOfPartial v2 [] metrics.now AreNumbersV2 result }
-{
-    let vector = partial(0, metrics)?;
-    Some(numbers_of_v2(&vector))
-}
-
-fn partial_v3(minor_version: usize, metrics: &[u8]) -> Option<CvssNumbers>
-    ensures { IsOfPartial v3 (front_v3 minor_version) metrics.now AreNumbersV3 result }
-{
-    let vector = partial(minor_version, metrics)?;
-    Some(numbers_of_v3(&vector))
 }
 
 /// The tenths of a number less than a million from 0, rounded as CVSS v2 or v3 rounds scores.
@@ -116,7 +101,8 @@ pub fn temporal(metrics: &[u8], impact: &CvssNumber) -> Option<i32>
 /// is mandatory.
 fn partial<V: Versioned>(minor_version: usize, metrics: &[u8]) -> Option<V>
     ensures is { IfSome result (IsPartial V.version (V.front minor_version) metrics.now) }
-    ensures none { IfNone result (IsNoPartial V.version (V.front minor_version) metrics.now) }
+    ensures none { IfNone result
+        (NoneIs (IsPartial V.version (V.front minor_version) metrics.now)) }
 {
     let empty = V::without_metrics(minor_version);
     let Ok(metrics) = str::from_utf8(metrics) else {

@@ -13,8 +13,7 @@ ghost use Rattle.cvss_v3.specs.VectorWeights as weights_v3;
 ghost use Rattle.cvss_base.specs.Equality.{ClonesAlways, ClonesByValue};
 ghost use Rattle.cvss_ffi.specs.Defined.{HasDefinedOf};
 
-use crate::{CvssMetric, CvssScores, v2, v3, v4};
-use cvss_text::walk::Components;
+use crate::{CvssMetric, CvssScores};
 
 /// A vector that has the defined metrics of another, and no others, has the other's weights, and in CVSS
 /// v4.0 its effective values; so it has its scores.
@@ -26,9 +25,6 @@ pub fn undefined_metrics_change_no_score()
     ensures v4 { (v w : vector_v4.Vector) → HasDefinedOf v4 (codes "X") v w
         → effective_of v ≡ effective_of w }
 {
-    spellings_differ::<v2::Vector>();
-    spellings_differ::<v3::Vector>();
-    spellings_differ::<v4::Vector>();
     cvss_laws::v2::not_defined_weighs_as_absent();
     cvss_laws::v3::not_defined_weighs_as_absent();
     cvss_laws::v4::not_defined_scores_as_absent();
@@ -44,10 +40,4 @@ pub fn clones_are_equal()
 pub fn values_are_cloned_without_memory()
     ensures scores { ClonesAlways ⟦<CvssScores as Clone>⟧.is_infallible }
     ensures metric { ClonesAlways ⟦<CvssMetric as Clone>⟧.is_infallible }
-{}
-
-/// Values of one metric that are spelled alike are one.
-fn spellings_differ<V: Components>()
-    ensures { (kind : V.Kind) → (x y : V.version.Value kind)
-        → V.version.spelling kind x ≡ V.version.spelling kind y → x ≡ y }
 {}

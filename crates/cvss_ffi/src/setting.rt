@@ -2,9 +2,8 @@
 
 ghost use Rattle.std.specs.Prelude.{◌≡◌, IfNone, IfSome};
 ghost use Rattle.cvss_any.specs.Refusals.{refusal_of};
-ghost use Rattle.cvss_any.specs.Setting.{IsBuiltAs, IsBuiltReason};
 ghost use Rattle.cvss_any.specs.declared.setting.Version as version;
-ghost use Rattle.cvss_ffi.specs.Setting.{Builds, IsFromUtf8, IsNew, IsWhyNot, IsWithMetrics, IsWithReasonText, SetsMetrics, number_of, set_reason_text};
+ghost use Rattle.cvss_ffi.specs.Setting.{Builds, SetsMetrics, number_of, set_reason_text};
 ghost use Rattle.cvss_ffi.specs.private.Rejection.{answered, rejection_text};
 
 use crate::refusal::read;
@@ -15,16 +14,10 @@ use cvss_any::{Cvss, SetError, Version};
 pub fn with_metrics<'a>(text: &'a [u8], metrics: &'a [u8]) -> Result<Cvss, Rejection<'a>>
     ensures { SetsMetrics text.now metrics.now (answered result) }
 {
-    match read(text) {
-        Ok(cvss) => with_metrics_of(&cvss, metrics),
-        Err(error) => Err(Rejection::Text(error)),
-    }
-}
-
-fn with_metrics_of<'a>(cvss: &Cvss, metrics: &'a [u8]) -> Result<Cvss, Rejection<'a>>
-    ensures { IsNew (IsWithMetrics cvss.now metrics.now) (IsWithReasonText cvss.now metrics.now)
-        (answered result) }
-{
+    let cvss = match read(text) {
+        Ok(cvss) => cvss,
+        Err(error) => return Err(Rejection::Text(error)),
+    };
     let Ok(metrics) = str::from_utf8(metrics) else {
         return Err(Rejection::NotUtf8);
     };
@@ -38,16 +31,9 @@ fn with_metrics_of<'a>(cvss: &Cvss, metrics: &'a [u8]) -> Result<Cvss, Rejection
 pub fn built(version: i32, metrics: &[u8]) -> Result<Cvss, Rejection<'_>>
     ensures { Builds version metrics.now (answered result) }
 {
-    match version_of(version) {
-        Some(version) => built_as(version, metrics),
-        None => Err(Rejection::NoVersion),
-    }
-}
-
-fn built_as(version: Version, metrics: &[u8]) -> Result<Cvss, Rejection<'_>>
-    ensures { IsNew (IsFromUtf8 metrics.now (IsBuiltAs version metrics.now))
-        (IsWhyNot (IsBuiltReason version metrics.now) metrics.now) (answered result) }
-{
+    let Some(version) = version_of(version) else {
+        return Err(Rejection::NoVersion);
+    };
     let Ok(metrics) = str::from_utf8(metrics) else {
         return Err(Rejection::NotUtf8);
     };

@@ -83,10 +83,12 @@ impl Page {
         ensures text { self.new ≡ self.old ++ decimal number }
         ensures room { length self.new ≤ length self.old + 20 }
     {
-        if number >= 10 {
+        if number < 10 {
+            self.push(&[b'0' + number as u8]);
+        } else {
             self.whole(number / 10);
+            self.push(&[digit(number)]);
         }
-        self.push(&[digit(number)]);
     }
 
     /// Writes whole numbers one after another.

@@ -1,11 +1,7 @@
 -- Words of the private code: what is read of a text, and texts that are written one after another.
 use Rattle.std.specs.Prelude.{◌≡◌, ℕ, ◌+◌, ◌<◌, ◌≤◌, List, [], ◌++◌, drop, length, take}
-use Rattle.cvss_any.specs.Answers.{IsScoreOf, rating_by, score_of_tenths}
-use Rattle.cvss_base.specs.SeverityText.{text_of as severity_text}
-use Rattle.cvss_base.specs.Tenths.{tenths_text}
 use Rattle.cvss_any.specs.Reasons.{IsReason, error_message, said_of}
 use Rattle.cvss_any.specs.declared.refusal.ReadError.{ReadError}
-use Rattle.cvss_any.specs.declared.vector.Cvss.{Cvss}
 use Rattle.cvss_ffi.specs.Answers.{IsRefused}
 use Rattle.cvss_ffi.specs.Refusals.{IsKind, IsQuoted, IsReportedKind, kind_number, not_utf8, quoted_part, reported_name}
 
@@ -22,10 +18,3 @@ pub record IsWrittenAt (place : ℕ) (text old now : List ℕ) (reported : ℕ) 
   pub reported_is : reported ≡ place + length text
   pub there : reported ≤ length old → now ≡ take place old ++ (text ++ drop reported old)
   pub left : length old < reported → now ≡ old
-
--- the texts are that of the vector's score, with one decimal, and that of the score's rating
-pub record IsRated (cvss : Cvss) (score rating : List ℕ) : Type 0 where
-  pub tenths : ℕ
-  pub scored : IsScoreOf cvss (score_of_tenths tenths)
-  pub score_is : score ≡ tenths_text tenths
-  pub rating_is : rating ≡ severity_text (rating_by cvss (score_of_tenths tenths))

@@ -2,7 +2,7 @@ use Rattle.std.proofs.Common.{◌-◌, refl, sym, ap, arith}
 use Rattle.std.specs.Fmt.{digits}
 use Rattle.cvss_any.specs.declared.published.Bounds.TheVariants.{OfV2}
 use Rattle.cvss_answer.specs.Answers.{rated_line}
-use Rattle.cvss_answer.proofs.ScoreLemmas.{line_reported}
+use Rattle.cvss_answer.proofs.ScoreLemmas.{index-now, line_reported}
 use Rattle.cvss_answer.proofs.score_line.line_of_v2.Goals as goal
 
 pub returns-in-0 : goal.returns-in-0
@@ -12,5 +12,4 @@ returns-in-0 c = ap (rated_line OfV2) (sym c.in-0.is)
 pub returns-in-90-to-255 : goal.returns-in-90-to-255
 unfolding digits
 returns-in-90-to-255 c =
-    line_reported OfV2 90 11 _ _ (c.from.result - 90) c.args.tenths c.line_at.ensures
-    (omega (arith, c.from.ensures, c.in-90-to-255)) (omega (arith, c.from.ensures, c.requires)) refl
+    rw (index-now _ (c.args.tenths - 90) _) (line_reported OfV2 90 11 (c.args.tenths - 90) c.args.tenths _ (omega (arith, c.requires, c.in-90-to-255)) (omega (arith, c.in-90-to-255)) refl)

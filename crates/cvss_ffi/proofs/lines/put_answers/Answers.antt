@@ -1,5 +1,5 @@
 use Rattle.std.proofs.Common.{ap, arith, inr, length, length-append, subst, sym}
-use Rattle.cvss_ffi.proofs.BufferLemmas.{part_left, part_put, put_within}
+use Rattle.cvss_ffi.proofs.BufferLemmas.{part_left, part_put}
 use Rattle.cvss_ffi.proofs.LinesLemmas.{HasAnswered-line, HasAnswered-start}
 use Rattle.cvss_ffi.specs.Answers.{IsAnswer}
 use Rattle.cvss_ffi.specs.Lines.{HasAnswered, ended}
@@ -13,8 +13,7 @@ loop-line-preserved c =
     let cut = c.in-Some.ensures in
     let one = c.write_answer-length.ensures in
     let done = c.loop-line.invariant in
-    HasAnswered-line c.args.texts.now c.loop-line.rest.now c.in-Some.line.now c.in-Some.after.now c.args.buffer.now c.loop-line.buffer _ one.0 c.loop-line.written _
-    done cut.1 (record { one_line = cut.0; is = subst (λ text. IsAnswer text one.0) c.line_text.ensures one.1 })
+    HasAnswered-line c.args.texts.now _ _ _ _ _ _ one.0 _ _ done cut.1 (record { one_line = cut.0; is = subst (λ text. IsAnswer text one.0) c.line_text.ensures one.1 })
     (part_put c.args.buffer.now done.answers c.loop-line.buffer (ended one.0) _ c.loop-line.written c.write_answer-length.result done.put one.2 (omega arith))
 
 pub returns-then-length-buffer : goal.returns-then-length-buffer
@@ -35,6 +34,6 @@ returns-then-length-buffer c =
         texts_are = cut.1;
         answer = one.0;
         answered = record { one_line = cut.0; is = subst (λ text. IsAnswer text one.0) c.line_text.ensures one.1 };
-        large = omega (arith, one.2.reported_is, c.loop-line.auto.buffer, put_within c.args.buffer.now done.answers c.loop-line.buffer c.loop-line.written done.put);
+        large = omega (arith, one.2.reported_is, c.loop-line.auto.buffer);
       });
     }

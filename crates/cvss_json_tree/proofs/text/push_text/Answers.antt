@@ -1,14 +1,8 @@
-use Rattle.std.proofs.Common.{◌++◌, OnOk, ap, ◌∙◌, subst}
+use Rattle.std.proofs.Common.{◌++◌, ap, ◌∙◌, subst}
 use Rattle.std.proofs.lemmas.Result.{on_ok_weaker}
 use Rattle.cvss_json_tree.proofs.PrintsLemmas.{string_quoted}
 use Rattle.cvss_json_tree.specs.Texts.{IsTextOf}
-use Rattle.cvss_json_tree.specs.private.Pushes.{PushesText}
 use Rattle.cvss_json_tree.proofs.text.push_text.Goals as goal
-
-pub returns-clause-value : goal.returns-clause-value
-returns-clause-value c =
-    subst (λ value. OnOk c.push_value.result (PushesText value c.args.answers.now.bytes.items c.push_value.new.answers.bytes.items))
-    c.in_ok-try_from_str.ensures c.push_value.ensures
 
 pub returns-clause-quoted : goal.returns-clause-quoted
 returns-clause-quoted c =
