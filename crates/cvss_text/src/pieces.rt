@@ -12,6 +12,14 @@ pub struct Pieces<'a> {
 }
 
 impl<'a> Pieces<'a> {
+    /// No pieces.
+    #[inline(always)]
+    pub(crate) fn none() -> Pieces<'a>
+        ensures { pieces_left result ≡ [] }
+    {
+        Pieces { rest: None }
+    }
+
     /// The text that the pieces left are cut from, if there are some.
     #[inline(always)]
     pub(crate) fn text(&self) -> Option<&'a [u8]>
