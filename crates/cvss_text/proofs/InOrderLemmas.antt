@@ -60,6 +60,10 @@ module _ {V K : Type 0} (version : Version V K) (version_laws : VersionLaws vers
       pieces_from [] [] (ap pieces (append-nil (joined ([] ∷ own_parts))) ∙ pieces-all [] own_parts uncut_parts ∙ ap (λ parts. [] ∷ parts) (sym (append-nil own_parts))) is
       ∙ append-nil own_parts
 
+  pub HasReadTo-end : (rest : List ℕ) → length rest ≡ 0 → slash ∷ text ≡ texts_with_slash version v version.printed ++ rest → HasReadTo version (pieces text) [] v
+  HasReadTo-end [] none is = record { before = own_parts; cut = own_pieces is ∙ sym (append-nil own_parts); components = own }
+  HasReadTo-end (byte ∷ rest) none is = absurd (omega (arith, none))
+
   -- a text that is the components of a complete vector is read
   module _ (front : List (List ℕ)) (is : IsWhole version front text v) where
     pub IsReadLeft-whole : (empty : V) → front ≡ version.front empty → IsReadLeft version (pieces text) empty (Ok tt) v
@@ -73,4 +77,4 @@ module _ {V K : Type 0} (version : Version V K) (version_laws : VersionLaws vers
         sym (join_with_byte-slice_split slash whole)
         ∙ ap joined (cut ∙ (ap (λ front. front ++ pieces text) (sym is.in_order.front_is) ∙ ap (λ parts. version.front v ++ parts) (own_pieces is.in_order.is)))
 
-pub ruleset begun = (HasReadTo-begun, HasReadTo-start, tt)
+pub ruleset begun = (HasReadTo-begun, HasReadTo-end, HasReadTo-start, tt)
