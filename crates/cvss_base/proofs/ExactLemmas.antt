@@ -23,20 +23,13 @@ by_below x y is_below is_not =
     by_lt_z (x.top *ℤ pos y.bottom) (y.top *ℤ pos x.bottom)
     (λ h. is_below (record { below = h })) (λ h. is_not (record { at_most = h }))
 
--- a chain a/p, b/q, c/s, each top being a number less its primed one
-module _ (a a' p b b' q c c' s : ℕ) where
-  chained : 0 < q → a * q + b' * p ≤ b * p + a' * q → b * s + c' * q ≤ c * q + b' * s
-      → a * s + c' * p ≤ c * p + a' * s
-  chained positive left right =
-      let products : (a * s + c' * p) * q ≤ (c * p + a' * s) * q =
-      omega (arith, mul-le-mul_right s left, mul-le-mul_right p right) in
-      le_of_mul-le-mul_right products positive
-
 pub at_most_trans : (x y z : Exact) → 0 < y.bottom → x ⊑ y → y ⊑ z → x ⊑ z
 at_most_trans x y z positive left right =
-    let step = chained (up x.top) (down x.top) x.bottom (up y.top) (down y.top) y.bottom
-    (up z.top) (down z.top) z.bottom positive (omega (arith, ints)) (omega (arith, ints)) in
-    record { at_most = omega (arith, ints, step) }
+    let first : up x.top * y.bottom + down y.top * x.bottom ≤ up y.top * x.bottom + down x.top * y.bottom = omega (arith, ints) in
+    let second : up y.top * z.bottom + down z.top * y.bottom ≤ up z.top * y.bottom + down y.top * z.bottom = omega (arith, ints) in
+    let both : (up x.top * z.bottom + down z.top * x.bottom) * y.bottom ≤ (up z.top * x.bottom + down x.top * z.bottom) * y.bottom =
+    omega (arith, mul-le-mul_right z.bottom first, mul-le-mul_right x.bottom second) in
+    record { at_most = omega (arith, ints, le_of_mul-le-mul_right both positive) }
 
 module _ (x y z : Exact) where
   pub at_most_below : 0 < x.bottom → x ⊑ y → y ⊏ z → x ⊏ z

@@ -14,35 +14,16 @@ record IsNear (count tenths : ℕ) : Type 0 where
   even_below : 2 * count ≡ 2 * tenths * 10 ^ 23 + 10 ^ 23 → tenths % 2 ≡ 0
 
 even_tenths-near : (count : ℕ) → IsNear count (even_tenths count)
-even_tenths-near count = record {
-  below = grind (arith, nat_tests);
-  above = grind (arith, nat_tests);
-  even_above = grind (arith, nat_tests);
-  even_below = grind (arith, nat_tests);
-}
+even_tenths-near count = grind (arith, nat_tests)
 
 upward : (count tenths : ℕ) → IsNear count tenths → IsNearestEven (of_count (pos count)) (pos tenths)
-upward count tenths near = record {
-  nearest = record {
-    from_half_below = record { at_most = omega (arith, ints, near.below) };
-    to_half_above = record { at_most = omega (arith, ints, near.above) };
-  };
-  even_above = λ half. near.even_above (omega (arith, ints, half.equal));
-  even_below = λ half. near.even_below (omega (arith, ints, half.equal));
-}
+upward count tenths near = search (arith, ints, near.even_above, near.even_below)
 
 magnitude-neg : (n : ℕ) → unsigned_abs (neg_ℤ (pos n)) ≡ n
 magnitude-neg n = omega (arith, ints)
 
 downward : (count tenths : ℕ) → IsNear count tenths → IsNearestEven (of_count (neg_ℤ (pos count))) (neg_ℤ (pos tenths))
-downward count tenths near = record {
-  nearest = record {
-    from_half_below = record { at_most = omega (arith, ints, near.above) };
-    to_half_above = record { at_most = omega (arith, ints, near.below) };
-  };
-  even_above = λ half. rw (magnitude-neg tenths) (near.even_below (omega (arith, ints, half.equal)));
-  even_below = λ half. rw (magnitude-neg tenths) (near.even_above (omega (arith, ints, half.equal)));
-}
+downward count tenths near = search (arith, ints, magnitude-neg, near.even_above, near.even_below)
 
 not_negative : (count : ℕ) → int_lt (pos count) (pos 0) ≡ false
 not_negative count = grind (arith, nat_tests)

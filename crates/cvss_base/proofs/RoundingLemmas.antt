@@ -119,14 +119,7 @@ unfolding nearest_of
 nearest_of_is (pos t) q some =
     let n = (20 * t + q) / (2 * q) in
     let below = times_difference (pos n *ℤ pos 100) (pos 50) q in
-    record {
-      nearest = record {
-        from_half_below = record { at_most = omega (arith, ints, below) };
-        to_half_above = record { at_most = omega (arith, ints) };
-      };
-      away_upward = λ _. record { below = omega (arith, ints) };
-      away_downward = λ negative. absurd (omega (arith, ints, negative.below));
-    }
+    search (arith, ints, below)
 nearest_of_is (negsuc t) q some =
     let n = (20 * suc t + q) / (2 * q) in
     let r = neg_ℤ (pos n) *ℤ pos 100 in
@@ -134,14 +127,7 @@ nearest_of_is (negsuc t) q some =
     let opposite = neg_times (pos n) (100 * q) in
     let below = times_difference r (pos 50) q in
     let above = times_sum r (pos 50) q in
-    record {
-      nearest = record {
-        from_half_below = record { at_most = omega (arith, ints, below, product, opposite) };
-        to_half_above = record { at_most = omega (arith, ints, above, product, opposite) };
-      };
-      away_upward = λ from_zero. absurd (omega (arith, ints, from_zero.at_most));
-      away_downward = λ _. record { below = omega (arith, ints, below, product, opposite) };
-    }
+    search (arith, ints, below, above, product, opposite)
 
 -- the nearest tenth of x, of two equally near the one farther from zero
 abbrev pub nearest_tenths : Exact → ℤ

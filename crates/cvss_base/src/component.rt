@@ -8,6 +8,7 @@ ghost use Rattle.cvss_base.specs.private.Component.{StartsWithSlash};
 use std::fmt;
 
 /// Writes a component that has a slash before it, without the slash, and the same under any options.
+#[tactic(auto, using(crate::proofs::WithSlashLemmas::after_slash))]
 pub fn write_component<W: fmt::Write>(
     with_slash: &'static str,
     f: &mut fmt::Formatter<W>,

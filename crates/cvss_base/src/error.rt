@@ -1,9 +1,8 @@
 //! Why a text is refused.
 
-ghost use Rattle.std.specs.Prelude.{◌≡◌, Some, ◌++◌, codes};
-ghost use Rattle.std.specs.Fmt.{DisplaysOnOk};
+ghost use Rattle.std.specs.Prelude.{◌≡◌, Some};
 ghost use Rattle.cvss_base.specs.declared.error.Error.TheVariants.{OutOfMemory};
-ghost use Rattle.cvss_base.specs.ErrorText.{error_text, quoted};
+ghost use Rattle.cvss_base.specs.ErrorText.{error_text};
 
 use crate::named::Named;
 use crate::{v2, v3, v4};
@@ -82,75 +81,46 @@ impl fmt::Display for Error {
     fn fmt<W: fmt::Write>(&self, f: &mut fmt::Formatter<W>) -> fmt::Result {
         match self {
             Error::InvalidComponent { component } => {
-                write_quoted("invalid CVSS metric group component: ", component, f)
+                write!(f, "invalid CVSS metric group component: `{component}`")
             }
-            Error::InvalidPrefix { prefix } => {
-                write_quoted("invalid CVSS string prefix: ", prefix, f)
-            }
+            Error::InvalidPrefix { prefix } => write!(f, "invalid CVSS string prefix: `{prefix}`"),
             Error::UnsupportedVersion { version } => {
                 write!(f, "unsupported CVSS version: {version}")
             }
-            Error::InvalidMetricV2 { metric_type, value } => write_invalid(*metric_type, value, f),
-            Error::DuplicateMetricV2 { metric_type } => write_metric("duplicate ", *metric_type, f),
-            Error::MissingMandatoryMetricV2 { metric_type } => write_metric(
-                "missing mandatory ",
-                *metric_type,
-                f,
-            ),
-            Error::InvalidMetricV3 { metric_type, value } => write_invalid(*metric_type, value, f),
-            Error::DuplicateMetricV3 { metric_type } => write_metric("duplicate ", *metric_type, f),
-            Error::InvalidMetricV4 { metric_type, value } => write_invalid(*metric_type, value, f),
-            Error::DuplicateMetricV4 { metric_type } => write_metric("duplicate ", *metric_type, f),
-            Error::MissingMandatoryMetricV4 { metric_type } => write_metric(
-                "missing mandatory ",
-                *metric_type,
-                f,
-            ),
+            Error::InvalidMetricV2 { metric_type, value } => {
+                write!(f, "invalid {}: `{value}`", metric_type.row().3)
+            }
+            Error::DuplicateMetricV2 { metric_type } => {
+                write!(f, "duplicate {}", metric_type.row().3)
+            }
+            Error::MissingMandatoryMetricV2 { metric_type } => {
+                write!(f, "missing mandatory {}", metric_type.row().3)
+            }
+            Error::InvalidMetricV3 { metric_type, value } => {
+                write!(f, "invalid {}: `{value}`", metric_type.row().3)
+            }
+            Error::DuplicateMetricV3 { metric_type } => {
+                write!(f, "duplicate {}", metric_type.row().3)
+            }
+            Error::InvalidMetricV4 { metric_type, value } => {
+                write!(f, "invalid {}: `{value}`", metric_type.row().3)
+            }
+            Error::DuplicateMetricV4 { metric_type } => {
+                write!(f, "duplicate {}", metric_type.row().3)
+            }
+            Error::MissingMandatoryMetricV4 { metric_type } => {
+                write!(f, "missing mandatory {}", metric_type.row().3)
+            }
             Error::InvalidNomenclatureV4 { nomenclature } => {
-                write_quoted("invalid CVSSv4 nomenclature: ", nomenclature, f)
+                write!(f, "invalid CVSSv4 nomenclature: `{nomenclature}`")
             }
             Error::InvalidSeverity { name } => {
-                write_quoted("invalid CVSS Qualitative Severity Rating: ", name, f)
+                write!(f, "invalid CVSS Qualitative Severity Rating: `{name}`")
             }
-            Error::UnknownMetric { name } => write_quoted("unknown CVSS metric name: ", name, f),
+            Error::UnknownMetric { name } => write!(f, "unknown CVSS metric name: `{name}`"),
             Error::OutOfMemory => f.write_str("out of memory"),
         }
     }
-}
-/// Writes a text between back ticks.
-fn write_quoted<W: fmt::Write>(
-    before: &'static str,
-    text: &str,
-    f: &mut fmt::Formatter<W>,
-) -> fmt::Result
-    ensures { DisplaysOnOk W.write_str_gives f.old result
-        (Some (before.now ++ quoted text.now)) f.new }
-{
-    write!(f, "{before}`{text}`")
-}
-
-/// Writes what is wrong with a metric.
-fn write_metric<N: Named, W: fmt::Write>(
-    before: &'static str,
-    kind: N,
-    f: &mut fmt::Formatter<W>,
-) -> fmt::Result
-    ensures { DisplaysOnOk W.write_str_gives f.old result
-        (Some (before.now ++ N.words_of kind)) f.new }
-{
-    write!(f, "{before}{}", kind.row().3)
-}
-
-/// Writes that a metric has no such value.
-fn write_invalid<N: Named, W: fmt::Write>(
-    kind: N,
-    value: &str,
-    f: &mut fmt::Formatter<W>,
-) -> fmt::Result
-    ensures { DisplaysOnOk W.write_str_gives f.old result
-        (Some (codes "invalid " ++ N.words_of kind ++ codes ": " ++ quoted value.now)) f.new }
-{
-    write!(f, "invalid {}: `{value}`", kind.row().3)
 }
 
 impl std::error::Error for Error {}

@@ -7,19 +7,10 @@ use Rattle.cvss_base.proofs.laws.equality_is_that_of_values.Goals as goal
 both : {P : Type 0} {test : Bool} → IsTrue test ↔ P → (x y : String Global) → IsTrue (test && string_eq x y) ↔ (P × (string_bytes x ≡ string_bytes y))
 both {test = test} kinds x y = Decides-and test (string_eq x y) kinds (search rules)
 
-pub returns-clause-v2 : goal.returns-clause-v2
-returns-clause-v2 c = search rules
-
-pub returns-clause-v3 : goal.returns-clause-v3
-returns-clause-v3 c = search rules
-
-pub returns-clause-v4 : goal.returns-clause-v4
-returns-clause-v4 c = search rules
-
 pub returns-clause-error : goal.returns-clause-error
 returns-clause-error c = elim [
-  | InvalidMetricV2 kind x ↦ elim [ InvalidMetricV2 other y ↦ both (returns-clause-v2 c kind other) x y | _ ↦ search rules ]
-  | InvalidMetricV3 kind x ↦ elim [ InvalidMetricV3 other y ↦ both (returns-clause-v3 c kind other) x y | _ ↦ search rules ]
-  | InvalidMetricV4 kind x ↦ elim [ InvalidMetricV4 other y ↦ both (returns-clause-v4 c kind other) x y | _ ↦ search rules ]
+  | InvalidMetricV2 kind x ↦ elim [ InvalidMetricV2 other y ↦ both (search rules) x y | _ ↦ search rules ]
+  | InvalidMetricV3 kind x ↦ elim [ InvalidMetricV3 other y ↦ both (search rules) x y | _ ↦ search rules ]
+  | InvalidMetricV4 kind x ↦ elim [ InvalidMetricV4 other y ↦ both (search rules) x y | _ ↦ search rules ]
   | _ ↦ elim [ InvalidMetricV2 _ _ ↦ search rules | _ ↦ search rules ]
 ]
