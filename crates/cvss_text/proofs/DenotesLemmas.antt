@@ -74,37 +74,33 @@ module _ {V K : Type 0} (version : Version V K) (version_laws : VersionLaws vers
   vectors_same v w parts front of_v of_w = version_laws.one_vector v w front (values_same v w parts of_v of_w)
 
   -- the pieces of a vector's components have no fault, whatever follows them
-  no_fault_taken : (v : V) (parts : List (List ℕ)) (n : ℕ) → n ≤ length parts → AreComponentsOf version (take n parts) v → (place : ℕ) → place < n → (reason : Refusal K) → FaultAt version parts place reason → ⊥
-  no_fault_taken v parts n fits components place below =
-      let taken = length-take-le n parts fits in
-      let here : (k : ℕ) → k < n → piece_at (take n parts) k ≡ piece_at parts k = λ k inside. get_or-take n parts k [] inside in
-      let name : (k : ℕ) → k < n → name_at version (take n parts) k ≡ name_at version parts k = λ k inside. ap (λ piece. read version (name_part piece)) (here k inside) in
-      let held = piece_held version version_laws v (take n parts) place components (omega (arith, taken, below)) in
-      let is = ap (read version) (sym (here place below)) ∙ held.is in
-      let named : version.name held.kind ≡ name_at version parts place = sym (name_from version version_laws (piece_at parts place) held.kind _ is) in
-      elim [
-        | UnknownName name ↦ λ (is, unknown). unknown held.kind (named ∙ sym is)
-        | BadValue reported_kind value ↦ λ (kind, _, also_named, value_is, no_spelling).
-            no_spelling (subst (λ each. Spells (reading version each) value) (names_differ version version_laws held.kind kind (named ∙ sym also_named))
-            (record { value = held.value; spelled = sym (value_from_piece version version_laws (piece_at parts place) held.kind _ is) ∙ sym value_is }))
-        | Repeated kind ↦ λ (also_named, _, before).
-            names_apart version version_laws v (take n parts) before.earlier place components before.is_before (omega (arith, taken, below))
-            (name before.earlier (omega (arith, before.is_before, below)) ∙ before.same_name ∙ also_named ∙ sym (name place below))
-        | _ ↦ λ none. none
-      ]
-
   pub no_fault_before : (v : V) (parts : List (List ℕ)) (n : ℕ) → n ≤ length parts → AreComponentsOf version (take n parts) v → HasNoFaultBefore version parts n
-  no_fault_before v parts n fits components = record { none = λ place reason below. no_fault_taken v parts n fits components place below reason }
-
-  pub no_fault_held : (v : V) (parts : List (List ℕ)) (place : ℕ) → AreComponentsOf version parts v → place < length parts → (reason : Refusal K) → FaultAt version parts place reason → ⊥
-  no_fault_held v parts place components within = no_fault_taken v parts (length parts) (omega arith) (all_taken version v parts components) place within
+  no_fault_before v parts n fits components = record {
+    none = λ place reason below.
+        let taken = length-take-le n parts fits in
+        let here : (k : ℕ) → k < n → piece_at (take n parts) k ≡ piece_at parts k = λ k inside. get_or-take n parts k [] inside in
+        let name : (k : ℕ) → k < n → name_at version (take n parts) k ≡ name_at version parts k = λ k inside. ap (λ piece. read version (name_part piece)) (here k inside) in
+        let held = piece_held version version_laws v (take n parts) place components (omega (arith, taken, below)) in
+        let is = ap (read version) (sym (here place below)) ∙ held.is in
+        let named : version.name held.kind ≡ name_at version parts place = sym (name_from version version_laws (piece_at parts place) held.kind _ is) in
+        elim reason as (λ reason. FaultAt version parts place reason → ⊥) [
+          | UnknownName name ↦ λ (is, unknown). unknown held.kind (named ∙ sym is)
+          | BadValue reported_kind value ↦ λ (kind, _, also_named, value_is, no_spelling).
+              no_spelling (subst (λ each. Spells (reading version each) value) (names_differ version version_laws held.kind kind (named ∙ sym also_named))
+              (record { value = held.value; spelled = sym (value_from_piece version version_laws (piece_at parts place) held.kind _ is) ∙ sym value_is }))
+          | Repeated kind ↦ λ (also_named, _, before).
+              names_apart version version_laws v (take n parts) before.earlier place components before.is_before (omega (arith, taken, below))
+              (name before.earlier (omega (arith, before.is_before, below)) ∙ before.same_name ∙ also_named ∙ sym (name place below))
+          | _ ↦ λ none. none
+        ];
+  }
 
   -- pieces that are the components of a complete vector have no reason to be refused
   pub no_reason : (v : V) (parts : List (List ℕ)) → AreComponentsOf version parts v → IsComplete version v → (reason : Refusal K) → IsFirstReason version parts reason → ⊥
   no_reason v parts components complete (Missing kind) missing =
       let held = complete.present kind (missing.place, slice_get_within version.mandatory missing.place kind missing.is, get_or_from_slice_get version.mandatory missing.place kind kind missing.is) in
       missing.absent (held_is_named version version_laws v parts (length parts) (omega arith) (all_taken version v parts components) kind held)
-  no_reason v parts components complete reason is = no_fault_held v parts is.place components is.within reason is.fault
+  no_reason v parts components complete reason is = (no_fault_before v parts (length parts) (omega arith) (all_taken version v parts components)).none is.place reason is.within is.fault
 
   -- a text that denotes a vector without a front that is no part
   module _ (v : V) (text : List ℕ) (denotes : Denotes version text v) (front : All IsPart (version.front v)) where

@@ -1,19 +1,20 @@
 -- What is answered of a whole text, whether a version piece is before the components or not; and texts after a version
 -- piece.
-use Rattle.std.proofs.Common.{◌≡◌, ℕ, List, [], ◌++◌, length, drop, take, Result, Ok, Err, sym, ap, ◌∙◌, subst, zero, suc, ◌∷◌, codes, refl, arith, All, Contains, IsUtf8}
+use Rattle.std.proofs.Common.{◌≡◌, ℕ, List, [], ◌++◌, length, drop, take, Result, Ok, Err, sym, ap, ◌∙◌, subst, ◌∷◌, codes, refl, arith, All, Contains, IsUtf8}
 use Rattle.std.proofs.lemmas.List.Sums.{get_or-le-sum_by}
 use Rattle.std.proofs.lemmas.List.Elements.{All-append, All-nil, All-cons}
 use Rattle.std.proofs.lemmas.List.Splits.{join_with_byte-slice_split}
 use Rattle.cvss_text.specs.declared.walk.Fault.{Fault}
+use Rattle.cvss_text.specs.private.Pieces.{IsAfterComponents}
 use Rattle.cvss_base.specs.Text.{slash, pieces, joined, value_part, IsComponent}
 use Rattle.cvss_base.specs.Version.{Version, canonical_text, Denotes, IsComplete, AreComponentsOf, version_piece, IsWellFormed}
-use Rattle.cvss_base.specs.Refusal.{Refusal, BadComponent, BadPiecesFirst, WrongPrefix, WrongVersion, AreComponentsBefore, IsFirstBadPiece, IsFirstReason, piece_at, IsReasonAfter, IsFirstRefusalAfter, ReportsVersion}
+use Rattle.cvss_base.specs.Refusal.{Refusal, BadComponent, BadPiecesFirst, WrongPrefix, WrongVersion, AreComponentsBefore, IsFirstReason, piece_at, IsReasonAfter, IsFirstRefusalAfter, ReportsVersion}
 use Rattle.cvss_base.specs.private.Component.{delimiter_bytes}
 use Rattle.cvss_text.specs.private.Walk.{VersionLaws, IsFirstOfPieces, IsBare, reason_of, FrontLaws, IsAnswer, IsAnswerAfter, IsAnswerBare, IsFrontFault, IsPrintable, IsReadLeft, StartsWith}
 use Rattle.cvss_text.proofs.CanonicalLemmas.{canonical_text-denotes, denoted_once}
 use Rattle.cvss_text.proofs.DenotesLemmas.{pieces_of_complete, no_reason, pieces_of_denoted}
 use Rattle.cvss_text.proofs.ComponentLemmas.{are_parts, IsUtf8-parts}
-use Rattle.cvss_text.proofs.PieceLemmas.{All-left, IsUtf8-pieces}
+use Rattle.cvss_text.proofs.PieceLemmas.{All-left, AreComponents-after, IsFirstBadPiece-after, IsUtf8-pieces}
 use Rattle.cvss_text.proofs.RefusalLemmas.{one_refusal, one_refusal_after}
 use Rattle.cvss_text.proofs.TextLemmas.{IsPart, IsPart-component, name_part-component, value_part-component}
 
@@ -137,23 +138,18 @@ module _ {V K : Type 0} (version : Version V K) (version_laws : VersionLaws vers
 
     -- after it, the first reason of the components is that of the text
     module _ (parts : List (List ℕ)) (cut : pieces text ≡ version_piece reported ∷ parts) where
-      front_or : (n : ℕ) → AreComponentsBefore parts n → AreComponentsBefore (pieces text) (suc n)
-      front_or n after = rw cut (record { each = elim [ zero ↦ λ before. record { one_colon = (IsPart-component (codes "CVSS") reported refl reported_plain).one_colon } | suc place ↦ λ before. after.each place (omega arith) ] })
-
-      bad_after : (bad : List ℕ) → IsFirstBadPiece parts bad → IsFirstBadPiece (pieces text) bad
-      bad_after bad first = record {
-        place = suc first.place;
-        within = rw cut (omega (arith, first.within));
-        is = rw cut first.is;
-        bad = first.bad;
-        earlier = front_or first.place first.earlier;
+      follows : IsAfterComponents (pieces text) parts
+      follows = record {
+        before = version_piece reported ∷ [];
+        cut = cut;
+        components = All-cons IsComponent (version_piece reported) [] (record { one_colon = (IsPart-component (codes "CVSS") reported refl reported_plain).one_colon }) (All-nil IsComponent);
       }
 
       pub reason_after : (reason : Refusal K) → IsFirstOfPieces version parts reason → IsFirstRefusalAfter version text reason
-      reason_after (BadComponent bad) first = bad_after bad first
+      reason_after (BadComponent bad) first = IsFirstBadPiece-after (pieces text) parts follows bad first
       reason_after (WrongPrefix prefix) (after, first) = absurd first.fault
       reason_after (WrongVersion reported) (after, first) = absurd first.fault
-      reason_after _ (after, first) = (subst (λ n. AreComponentsBefore (pieces text) n) (sym (ap length cut)) (front_or (length parts) after), rw cut (piece_reports, first))
+      reason_after _ (after, first) = (AreComponents-after (pieces text) parts follows after, rw cut (piece_reports, first))
 
   -- a text that is read has no reason to be refused
   no_reason_after : (v : V) → Denotes version text v → IsWellFormed version v → (reason : Refusal K) → IsReasonAfter version (pieces text) reason → ⊥

@@ -1,5 +1,7 @@
 -- A text that begins with the components of a vector in printing order is read up to their end.
-use Rattle.std.proofs.Common.{◌≡◌, ℕ, ◌<◌, All, Ok, List, [], ◌∷◌, ◌++◌, append_assoc, append-nil, false, flat_map, length, refl, sym, ap, ◌∙◌, subst, arith}
+use Rattle.std.proofs.Common.{◌≡◌, ℕ, ◌<◌, All, Ok, List, [], ◌∷◌, ◌++◌, append_assoc, append-nil, false, drop, flat_map, length, refl, sym, ap, ◌∙◌, subst, take, arith}
+use Rattle.std.proofs.lemmas.List.{take-append-drop}
+use Rattle.std.proofs.lemmas.List.Concat.{flat_map-append}
 use Rattle.std.proofs.lemmas.List.Elements.{All-cons, All-nil}
 use Rattle.std.proofs.lemmas.List.Splits.{join_with_byte-slice_split, slice_split-cons_yes}
 use Rattle.cvss_base.specs.Text.{slash, pieces, joined}
@@ -68,7 +70,7 @@ module _ {V K : Type 0} (version : Version V K) (version_laws : VersionLaws vers
   module _ (front : List (List ℕ)) (is : IsWhole version front text v) where
     pub IsReadLeft-whole : (empty : V) → front ≡ version.front empty → IsReadLeft version (pieces text) empty (Ok tt) v
     IsReadLeft-whole empty of =
-        IsReadLeft-complete version version_laws (pieces text) v (subst (λ parts. AreComponentsOf version parts v) (sym (own_pieces is.in_order.is)) own) empty (is.in_order.front_is ∙ of) is.present
+        IsReadLeft-complete version version_laws (pieces text) v (subst (λ parts. AreComponentsOf version parts v) (sym (own_pieces is.in_order.is)) own) empty (is.in_order.front_is ∙ of) (sym is.present)
 
     -- and so is the text that has it after the front the canonical one
     pub canonical_whole : (whole : List ℕ) → pieces whole ≡ front ++ pieces text → whole ≡ canonical_text version v
@@ -76,5 +78,24 @@ module _ {V K : Type 0} (version : Version V K) (version_laws : VersionLaws vers
     canonical_whole whole cut =
         sym (join_with_byte-slice_split slash whole)
         ∙ ap joined (cut ∙ (ap (λ front. front ++ pieces text) (sym is.in_order.front_is) ∙ ap (λ parts. version.front v ++ parts) (own_pieces is.in_order.is)))
+
+-- the optional metrics that are read after the base metrics
+module _ {V K : Type 0} (version : Version V K) (count : ℕ) where
+  abbrev base_of : V → List ℕ
+  base_of v = texts_with_slash version v (take count version.printed)
+
+  abbrev others_of : V → List ℕ
+  others_of v = texts_with_slash version v (drop count version.printed)
+
+  base_and_others : (v : V) → texts_with_slash version v version.printed ≡ base_of v ++ others_of v
+  base_and_others v =
+      sym (ap (texts_with_slash version v) (take-append-drop count version.printed)) ∙ flat_map-append (text_with_slash version v) (take count version.printed) (drop count version.printed)
+
+  -- a text is in order to where the optional metrics that are read after the base metrics end
+  pub IsInOrderTo-others : (base new : V) (text rest : List ℕ) → others_of base ≡ [] → text ≡ others_of new ++ rest → base_of new ≡ base_of base → version.front new ≡ version.front base → (front : List (List ℕ)) (begun : List ℕ) → IsInOrderTo version front begun base text → IsInOrderTo version front begun new rest
+  IsInOrderTo-others base new text rest bare others same kept front begun is = record {
+    is = is.is ∙ (rw (base_and_others base, bare, append-nil (base_of base), sym same, others) (sym (append_assoc (base_of new) (others_of new) rest)) ∙ ap (λ all. all ++ rest) (sym (base_and_others new)));
+    front_is = kept ∙ is.front_is;
+  }
 
 pub ruleset begun = (HasReadTo-begun, HasReadTo-end, HasReadTo-start, tt)

@@ -6,7 +6,6 @@ pub mod FrontLemmas
 pub mod InOrderLemmas
 pub mod LawLemmas
 pub mod NumeralLemmas
-pub mod OthersLemmas
 pub mod PieceLemmas
 pub mod PrintLemmas
 pub mod PutLemmas

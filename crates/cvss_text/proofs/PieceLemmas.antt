@@ -1,15 +1,15 @@
 -- How pieces come off a text and are cut at their colons, that those of a text in UTF-8 are UTF-8, and where a text is read.
-use Rattle.std.proofs.Common.{append_assoc, append-nil, ◌≡◌, ◌≢◌, ℕ, ◌+◌, ◌<◌, ◌≤◌, Bool, true, false, cond, eqb, ltb, List, [], ◌∷◌, ◌++◌, inl, inr, codes, length, get_or, take, drop, Option, Some, None, refl, sym, ap, ◌∙◌, Bor, arith, subst, ltb-true, ltb-false, IsUtf8}
+use Rattle.std.proofs.Common.{append_assoc, ◌≡◌, ℕ, ◌+◌, ◌-◌, ◌<◌, ◌≤◌, Bool, true, false, cond, eqb, List, [], ◌∷◌, ◌++◌, inl, inr, codes, length, get_or, take, drop, Option, Some, None, refl, sym, ap, ◌∙◌, Bor, arith, subst, IsUtf8}
 use Rattle.std.specs.List.{position, position_or_len, All}
 use Rattle.std.specs.Option.{option_map_or, unwrap_or}
 use Rattle.std.specs.Slice.{IsGetRangeResult}
-use Rattle.std.proofs.lemmas.Bool.{eqb-true, false_from_ne_true, ne_eqb}
-use Rattle.std.proofs.lemmas.List.{take_all, take_rest, length-append, get_or_append_left, get_or_at, take_at, drop_at, drop-drop}
+use Rattle.std.proofs.lemmas.Grind.{common_steps}
+use Rattle.std.proofs.lemmas.Bool.{cases_lt, eqb-true, false_from_ne_true, ne_eqb}
+use Rattle.std.proofs.lemmas.List.{take_all, take_rest, length-append, get_or-append-add, get_or-append_right, get_or_append_left, get_or_at, take_at, drop_at, drop-drop}
 use Rattle.std.proofs.lemmas.List.Elements.{All-nil, All-cons, All-head, All-append, All-drop}
 use Rattle.std.proofs.lemmas.List.Folds.{list_any-append, list_any_at, list_any_none}
 use Rattle.std.proofs.lemmas.List.Splits.{length-slice_split, slice_split_at, slice_split_none, slice_split_first, join_with_byte-slice_split}
 use Rattle.std.proofs.lemmas.List.Sums.{fails_before_first, passes_at_first, split_at_first, sum_by-le}
-use Rattle.std.proofs.lemmas.Option.{cond_some, none-some}
 use Rattle.std.proofs.lemmas.Str.{IsUtf8-take, IsUtf8-drop, IsCharBoundary-before_ascii, IsCharBoundary-after_ascii}
 use Rattle.std.proofs.Math.Bool.{or-true}
 use Rattle.cvss_base.specs.Refusal.{AreComponentsBefore, IsFirstBadPiece, piece_at}
@@ -22,14 +22,10 @@ use Rattle.cvss_text.proofs.TextLemmas.{is_slash, is_colon}
 -- the place of the first byte that passes a test
 module _ (p : ℕ → Bool) (text : List ℕ) where
   first_at : (at : ℕ) → position p text ≡ Some at → (position_or_len p text < length text) × (position_or_len p text ≡ at)
-  first_at at found =
-      let parts = cond_some (ltb (position_or_len p text) (length text)) (position_or_len p text) at found in
-      (ltb-true _ _ parts.0, parts.1)
+  first_at at found = (grind (arith, common_steps), grind (arith, common_steps))
 
   first_nowhere : position p text ≡ None → length text ≤ position_or_len p text
-  first_nowhere none =
-      let past = false_from_ne_true (ltb (position_or_len p text) (length text)) (λ within. none-some _ (sym none ∙ ap (λ b. cond b (Some (position_or_len p text)) None) within)) in
-      omega (arith, ltb-false _ _ past)
+  first_nowhere none = grind (arith, common_steps)
 
 -- the first piece ends at the first slash
 pieces-first : (text : List ℕ) (at : ℕ) → position is_slash text ≡ Some at → pieces text ≡ take at text ∷ pieces (drop (at + 1) text)
@@ -78,50 +74,71 @@ parts_of_joined (part ∷ next ∷ parts) is =
 pub IsUtf8-pieces : (text : List ℕ) → IsUtf8 text → All IsUtf8 (pieces text)
 IsUtf8-pieces text is = parts_of_joined (pieces text) (rw (join_with_byte-slice_split slash text) is)
 
-pub IsUtf8-bad_piece : (text piece : List ℕ) → IsFirstBadPiece (pieces text) piece → IsUtf8 text → IsUtf8 piece
-IsUtf8-bad_piece text piece bad is = rw bad.is (IsUtf8-pieces text is bad.place [] bad.within)
-
 -- the texts before and after a colon
 pub utf8_parts : (piece name value : List ℕ) → piece ≡ component name value → IsUtf8 piece → IsUtf8 name × IsUtf8 value
 utf8_parts piece name value cut is = cut_at_ascii name value colon (omega arith) (subst IsUtf8 cut is)
 
--- the pieces that are left after no component, and after one more
-pub IsAfterComponents-none : (parts : List (List ℕ)) → IsAfterComponents parts parts
-IsAfterComponents-none parts = record { before = []; cut = refl; components = All-nil IsComponent }
+-- a bad piece
+pub IsUtf8-bad : {parts : List (List ℕ)} {piece : List ℕ} → IsFirstBadPiece parts piece → All IsUtf8 parts → IsUtf8 piece
+IsUtf8-bad bad are = rw bad.is (are bad.place [] bad.within)
 
-pub IsAfterComponents-more : (parts left after : List (List ℕ)) → IsAfterComponents parts left → IsAfterComponent left after → IsAfterComponents parts after
-IsAfterComponents-more parts left after is first = record {
+-- the pieces that are left after no component, and after one more
+pub IsAfterComponents-none : (parts left : List (List ℕ)) → left ≡ parts → IsAfterComponents parts left
+IsAfterComponents-none parts left same = record { before = []; cut = sym same; components = All-nil IsComponent }
+
+pub IsAfterComponents-more : (parts left pieces after : List (List ℕ)) → IsAfterComponents parts left → left ≡ pieces → IsAfterComponent pieces after → IsAfterComponents parts after
+IsAfterComponents-more parts left pieces after is same first = record {
   before = is.before ++ first.piece ∷ [];
-  cut = is.cut ∙ (ap (λ rest. is.before ++ rest) first.first ∙ sym (append_assoc is.before (first.piece ∷ []) after));
+  cut = is.cut ∙ (ap (λ rest. is.before ++ rest) (same ∙ first.first) ∙ sym (append_assoc is.before (first.piece ∷ []) after));
   components = All-append IsComponent is.before (first.piece ∷ []) is.components (All-cons IsComponent first.piece [] first.component (All-nil IsComponent));
 }
 
+-- components before pieces of which the first are components too
+components_before : (before left : List (List ℕ)) (n : ℕ) → All IsComponent before → AreComponentsBefore left n → AreComponentsBefore (before ++ left) (length before + n)
+components_before before left n are after = record {
+  each = λ place below. elim (cases_lt place (length before)) [
+    | inl early ↦ rw (get_or_append_left before left [] place early) (are place [] early)
+    | inr late ↦ rw (get_or-append_right before left (length before) place [] refl late) (after.each (place - length before) (omega (arith, below, late)))
+  ];
+}
+
+-- what is so of the pieces that follow components is so of all
 module _ (parts left : List (List ℕ)) (is : IsAfterComponents parts left) where
-  components_before : AreComponentsBefore parts (length is.before)
-  components_before = record {
-    each = λ place below. rw (ap (λ list. piece_at list place) is.cut ∙ get_or_append_left is.before left [] place below) (is.components place [] below);
-  }
+  pub AreComponents-after : AreComponentsBefore left (length left) → AreComponentsBefore parts (length parts)
+  AreComponents-after after =
+      let same : length parts ≡ length is.before + length left = ap length is.cut ∙ length-append is.before left in
+      rw same (subst (λ list. AreComponentsBefore list (length is.before + length left)) (sym is.cut) (components_before is.before left (length left) is.components after))
 
-  pub AreComponents-after : left ≡ [] → AreComponentsBefore parts (length parts)
-  AreComponents-after none = subst (AreComponentsBefore parts) (sym (ap length (is.cut ∙ ap (λ list. is.before ++ list) none ∙ append-nil is.before))) components_before
+  pub IsFirstBadPiece-after : (piece : List ℕ) → IsFirstBadPiece left piece → IsFirstBadPiece parts piece
+  IsFirstBadPiece-after piece first = subst (λ list. IsFirstBadPiece list piece) (sym is.cut) (record {
+    place = length is.before + first.place;
+    within = omega (arith, length-append is.before left, first.within);
+    is = first.is ∙ sym (get_or-append-add is.before left first.place []);
+    bad = first.bad;
+    earlier = components_before is.before left first.place is.components first.earlier;
+  })
 
-  pub IsFirstBadPiece-after : (piece : List ℕ) (rest : List (List ℕ)) → left ≡ piece ∷ rest → ¬ (IsComponent piece) → IsFirstBadPiece parts piece
-  IsFirstBadPiece-after piece rest first bad = record {
-    place = length is.before;
-    within = omega (arith, ap length is.cut, length-append is.before left, ap length first);
-    is = sym (ap (λ list. piece_at list (length is.before)) (is.cut ∙ ap (λ list. is.before ++ list) first) ∙ get_or_at is.before piece rest [] (length is.before) refl);
-    bad = bad;
-    earlier = components_before;
-  }
+  -- where no piece is left, and where the next is bad
+  pub AreComponents-all : left ≡ [] → AreComponentsBefore parts (length parts)
+  AreComponents-all none = AreComponents-after (record { each = λ place below. absurd (omega (arith, below, ap length none)) })
+
+  pub IsFirstBadPiece-next : (pieces rest : List (List ℕ)) (piece : List ℕ) → left ≡ pieces → pieces ≡ piece ∷ rest → ¬ (IsComponent (piece_at pieces 0)) → IsFirstBadPiece parts piece
+  IsFirstBadPiece-next pieces rest piece same cut bad = IsFirstBadPiece-after piece (record {
+    place = 0;
+    within = omega (arith, ap length (same ∙ cut));
+    is = sym (ap (λ list. piece_at list 0) (same ∙ cut));
+    bad = subst (λ first. ¬ (IsComponent first)) (ap (λ list. piece_at list 0) cut) bad;
+    earlier = record { each = λ place below. absurd (omega (arith, below)) };
+  })
 
 -- the pieces after others
 pub All-left : (P : List ℕ → Type 0) (parts before left : List (List ℕ)) → parts ≡ before ++ left → All P parts → All P left
 All-left P parts before left cut all = subst (All P) (ap (drop (length before)) cut ∙ drop_at before left (length before) refl) (All-drop P (length before) parts all)
 
 -- the route of a text that is cut at its first slash, and its first piece at its first colon
-pub cut_routed : (text piece prefix reported : List ℕ) (rest : List (List ℕ)) (to : Route) → pieces text ≡ piece ∷ rest → rest ≢ [] → AreParts piece prefix reported → to ≡ route_of_parts prefix reported → to ≡ route_of text
-cut_routed text piece prefix reported [] to cut some parts is = absurd (some refl)
-cut_routed text piece prefix reported (next ∷ more) to cut some parts is =
+pub cut_routed : (text piece prefix reported after : List ℕ) (left : List (List ℕ)) (to : Route) → pieces text ≡ piece ∷ left → left ≡ pieces after → AreParts piece prefix reported → to ≡ route_of_parts prefix reported → to ≡ route_of text
+cut_routed text piece prefix reported after [] to cut some parts is = absurd (omega (arith, ap length some, length-slice_split is_slash after))
+cut_routed text piece prefix reported after (next ∷ more) to cut some parts is =
     let colon_in : has colon piece ≡ true = ap (has colon) parts.cut ∙ list_any-append is_colon prefix (colon ∷ reported) ∙ or-true (has colon prefix) in
     let by_parts : route_of_pieces (piece ∷ next ∷ more) ≡ route_of_parts prefix reported = rw (colon_in, sym parts.name_is, sym parts.value_is) refl in
     is ∙ sym (ap route_of_pieces cut ∙ by_parts)
@@ -129,10 +146,6 @@ cut_routed text piece prefix reported (next ∷ more) to cut some parts is =
 -- the first piece of a text
 pub first_utf8 : (text piece : List ℕ) (rest : List (List ℕ)) → pieces text ≡ piece ∷ rest → IsUtf8 text → IsUtf8 piece
 first_utf8 text piece rest cut is = All-head IsUtf8 piece rest (subst (All IsUtf8) cut (IsUtf8-pieces text is))
-
--- a text has a first piece
-pub some_piece : (text : List ℕ) → pieces text ≢ []
-some_piece text none = omega (arith, ap length none, length-slice_split (λ byte. eqb byte slash) text)
 
 -- a text that begins with a piece and a slash
 pub pieces_after : (piece rest : List ℕ) → has slash piece ≡ false → pieces (piece ++ (slash ∷ rest)) ≡ piece ∷ pieces rest
@@ -147,12 +160,13 @@ short_routed (a ∷ b ∷ x ∷ c ∷ y ∷ rest) some letter_a letter_b is_colo
     let none : has slash piece ≡ false = rw (another a slash (omega arith) letter_a, another b slash (omega arith) letter_b, another c slash (omega arith) letter_c) refl in
     let cut : pieces (a ∷ b ∷ x ∷ c ∷ y ∷ rest) ≡ piece ∷ pieces rest = rw (is_colon, is_slash) (pieces_after piece rest none) in
     let parts = AreParts-first piece 2 (rw (another a colon (omega arith) letter_a, another b colon (omega arith) letter_b) refl) in
-    sym (cut_routed (a ∷ b ∷ x ∷ c ∷ y ∷ rest) piece (a ∷ b ∷ []) (c ∷ []) (pieces rest) ToV20 cut (some_piece rest) parts (rw (another c dot (omega arith) letter_c) refl))
+    sym (cut_routed (a ∷ b ∷ x ∷ c ∷ y ∷ rest) piece (a ∷ b ∷ []) (c ∷ []) rest (pieces rest) ToV20 cut refl parts (rw (another c dot (omega arith) letter_c) refl))
 short_routed text some letter_a letter_b is_colon letter_c is_slash = absurd (omega (arith, some))
 
 -- a text that says its version after the prefix is read by the rules of that
-pub said_routed : (text reported rest : List ℕ) (to : Route) → text ≡ version_piece reported ++ (slash ∷ rest) → has slash reported ≡ false → to ≡ route_of_parts (codes "CVSS") reported → to ≡ route_of text
-said_routed text reported rest to is none routed =
-    cut_routed text (version_piece reported) (codes "CVSS") reported (pieces rest) to (ap pieces is ∙ pieces_after (version_piece reported) rest none) (some_piece rest) (record { cut = refl; name_is = refl; value_is = refl }) routed
+pub said_routed : (text after said reported rest : List ℕ) (to : Route) → text ≡ codes "CVSS" ++ after → after ≡ said ++ (slash ∷ rest) → said ≡ colon ∷ reported → has slash reported ≡ false → to ≡ route_of_parts (codes "CVSS") reported → to ≡ route_of text
+said_routed text after said reported rest to is cut says none routed =
+    let whole : text ≡ version_piece reported ++ (slash ∷ rest) = is ∙ ap (λ it. codes "CVSS" ++ it) (cut ∙ ap (λ version. version ++ (slash ∷ rest)) says) in
+    cut_routed text (version_piece reported) (codes "CVSS") reported rest (pieces rest) to (ap pieces whole ∙ pieces_after (version_piece reported) rest none) refl (record { cut = refl; name_is = refl; value_is = refl }) routed
 
 pub ruleset cuts = (pieces-cut, AreParts-first, without_colon, take_rest, tt)

@@ -13,8 +13,7 @@ module _ {V K : Type 0} (version : Version V K) (version_laws : VersionLaws vers
   one_held : (kind : K) (one other : Option (version.Value kind)) → option_map (version.spelling kind) one ≡ option_map (version.spelling kind) other → one ≡ other
   one_held kind None None same = refl
   one_held kind (Some x) (Some y) same = ap Some (version_laws.one_value kind x y (ap (read version) (same_Some _ _ same)))
-  one_held kind None (Some y) same = absurd cc
-  one_held kind (Some x) None same = absurd cc
+  one_held kind _ _ same = absurd cc
 
   other_or_here : (old new : V) (here other : K) (same : Bool) → bytes_eq (version.name other) (version.name here) ≡ same → (if same then None else held version new other) ≡ (if same then None else held version old other) → (other ≡ here) ⊎ (version.value_of new other ≡ version.value_of old other)
   other_or_here old new here other true named _ = inl (names_differ version version_laws other here ((bytes_eq-Decides _ _).0 named))

@@ -28,7 +28,6 @@ module _ {V K : Type 0} (version : Version V K) (version_laws : VersionLaws vers
   faults_same place (UnknownName name) (UnknownName other) (is, _) (also, _) = ap UnknownName (is ∙ sym also)
   faults_same place (UnknownName name) (BadValue reported_kind value) (is, unknown) (kind, _, named, _, _) = absurd (unknown kind (named ∙ sym is))
   faults_same place (UnknownName name) (Repeated kind) (is, unknown) (named, _, _) = absurd (unknown kind (named ∙ sym is))
-  faults_same place (UnknownName name) _ _ none = absurd none
   faults_same place (BadValue reported_kind value) (UnknownName other) (kind, _, named, _, _) (is, unknown) = absurd (unknown kind (named ∙ sym is))
   faults_same place (BadValue reported_kind value) (BadValue also_reported also) (kind, blames, named, is, _) (other, also_blames, also_named, also_is, _) =
       let one = names_differ version version_laws kind other (named ∙ sym also_named) in
@@ -36,12 +35,10 @@ module _ {V K : Type 0} (version : Version V K) (version_laws : VersionLaws vers
       let one_value : value ≡ also = is ∙ sym also_is in
       cc
   faults_same place (BadValue reported_kind value) (Repeated other) (kind, _, named, is, no_spelling) (also_named, spelling, _) = absurd (no_spelling_both place kind other value named also_named is no_spelling spelling)
-  faults_same place (BadValue reported_kind value) _ _ none = absurd none
   faults_same place (Repeated kind) (UnknownName other) (named, _, _) (is, unknown) = absurd (unknown kind (named ∙ sym is))
   faults_same place (Repeated other) (BadValue reported_kind value) (also_named, spelling, _) (kind, _, named, is, no_spelling) = absurd (no_spelling_both place kind other value named also_named is no_spelling spelling)
   faults_same place (Repeated kind) (Repeated other) (named, _, _) (also_named, _, _) = ap Repeated (names_differ version version_laws kind other (named ∙ sym also_named))
-  faults_same place (Repeated kind) _ _ none = absurd none
-  faults_same place _ _ none _ = absurd none
+  faults_same place _ _ first second = absurd (assumption)
 
   first_faults_same : (reason other : Refusal K) → IsFirstFault version parts reason → IsFirstFault version parts other → reason ≡ other
   first_faults_same reason other first second =

@@ -1,11 +1,11 @@
 -- Components that are read one after another to be set, and the vector that has their values.
-use Rattle.std.proofs.Common.{◌≡◌, ◌⊎◌, inl, inr, ℕ, ◌+◌, ◌<◌, ◌≤◌, List, [], ◌∷◌, length, take, Option, Some, None, IsSome, IfSome, Ok, Err, refl, sym, ap, ◌∙◌, subst, arith, slice_get}
+use Rattle.std.proofs.Common.{◌≡◌, ◌⊎◌, inl, inr, ℕ, ◌+◌, ◌-◌, ◌<◌, ◌≤◌, List, [], ◌∷◌, length, take, Option, Some, None, IsSome, IfSome, Ok, Err, refl, sym, ap, ◌∙◌, subst, arith, get_or, slice_get}
 use Rattle.std.specs.List.{cons_option, filter_map}
 use Rattle.std.specs.Option.{option_or}
 use Rattle.std.proofs.lemmas.List.{get_or-take, length-append, length-map, length-take-le}
 use Rattle.std.proofs.lemmas.List.Sorted.{length_permutation}
 use Rattle.std.proofs.lemmas.Bool.{cases_lt}
-use Rattle.std.proofs.lemmas.Option.{same_Some, slice_get_within}
+use Rattle.std.proofs.lemmas.Option.{same_Some, slice_get_read, slice_get_within}
 use Rattle.cvss_base.specs.Refusal.{Refusal, BadComponent, Missing, piece_at}
 use Rattle.cvss_base.specs.Text.{IsComponent}
 use Rattle.cvss_base.specs.Version.{Version, AreComponentsOf, IsComplete, component_of, components_of, read}
@@ -82,11 +82,11 @@ module _ {V K : Type 0} (version : Version V K) (version_laws : VersionLaws vers
   right_held v parts index components within reason = (right_all v parts components).none index reason within
 
   -- where the vector holds the components before those that are left, what is wrong with the next is the first that is
-  module _ (parts left : List (List ℕ)) (v : V) (to : HasReadTo version parts left v) (index : ℕ) (at : index + length left ≡ length parts) where
-    at_place : length to.before ≡ index
-    at_place = omega (arith, at, ap length to.cut, length-append to.before left)
+  module _ (parts left : List (List ℕ)) (v : V) (to : HasReadTo version parts left v) (all rest : ℕ) (count : all ≡ length parts) (count_left : rest ≡ length left) where
+    at_place : length to.before ≡ all - rest
+    at_place = omega (arith, count, count_left, ap length to.cut, length-append to.before left)
 
-    pub IsFirstWrong-at : (piece : List ℕ) (after : List (List ℕ)) → left ≡ piece ∷ after → (reason : Refusal K) → IsWrongFor version v piece reason → IsFirstWrong version parts index reason
+    pub IsFirstWrong-at : (piece : List ℕ) (after : List (List ℕ)) → left ≡ piece ∷ after → (reason : Refusal K) → IsWrongFor version v piece reason → IsFirstWrong version parts (all - rest) reason
     IsFirstWrong-at piece after cut reason is =
         let here = first_left version version_laws parts left v to in
         subst (λ place. IsFirstWrong version parts place reason) at_place (record {
@@ -96,14 +96,14 @@ module _ {V K : Type 0} (version : Version V K) (version_laws : VersionLaws vers
         })
       where
         within : length to.before < length parts
-        within = omega (arith, at, at_place, ap length cut)
+        within = omega (arith, ap length to.cut, length-append to.before left, ap length cut)
 
         wrong_at : (reason : Refusal K) → IsWrongFor version v (piece_at parts (length to.before)) reason → IsWrongAt version parts (length to.before) reason
         wrong_at (BadComponent text) is = is
         wrong_at reason is = (is.0, fault_at version version_laws v parts (length to.before) (omega (arith, within)) (taken version version_laws parts left v to) reason is.1)
 
     -- no more components are read than a vector has metrics
-    pub HasReadTo-most : index ≤ length version.printed
+    pub HasReadTo-most : all - rest ≤ length version.printed
     HasReadTo-most =
         omega (
           arith,
@@ -143,8 +143,7 @@ module _ {V K : Type 0} (version : Version V K) (version_laws : VersionLaws vers
     set_sole = record { one = set_once; one_reason = reasons_same; none = set_no_reason } where
       reasons_same : (i j : Option ℕ) (one other : Refusal K) → IsSetReason version parts i one → IsSetReason version parts j other → (i ≡ j) × (one ≡ other)
       reasons_same (Some i) (Some j) one other first second = first_wrongs_same parts i j one other first second
-      reasons_same None j one other first second = absurd first
-      reasons_same i None one other first second = absurd second
+      reasons_same _ _ one other first second = absurd (assumption)
 
     -- a complete vector stays complete
     pub IsComplete-set : (new : V) → IsSet version v parts new → IsComplete version v → IsComplete version new
@@ -169,9 +168,7 @@ module _ {V K : Type 0} (version : Version V K) (version_laws : VersionLaws vers
     one_reason (Some i) None one (Missing other) first second = absurd (second.0.none i one first.within first.is)
     one_reason None (Some j) (Missing one) other first second = absurd (first.0.none j other second.within second.is)
     one_reason None None (Missing one) (Missing other) first second = (refl, reasons_same version version_laws parts (Missing one) (Missing other) first.1 second.1)
-    one_reason (Some i) None one _ first second = absurd second
-    one_reason None None (Missing one) _ first second = absurd second
-    one_reason None _ _ _ first second = absurd first
+    one_reason _ _ _ _ first second = absurd (assumption)
 
   module _ (wanted : (kind : K) → Option (version.Value kind)) (given : V) where
     pub IsCompletedTo-start : IsCompletedTo version wanted given 0 given
@@ -181,8 +178,9 @@ module _ {V K : Type 0} (version : Version V K) (version_laws : VersionLaws vers
     completed_here kind old new is (inl kept) = is.here ∙ ap (λ each. option_or each (wanted kind)) kept
     completed_here kind old new is (inr done) = is.here ∙ ap (λ each. option_or each (wanted kind)) done ∙ or_twice (version.value_of given kind) (wanted kind)
 
-    pub IsCompletedTo-more : (index : ℕ) (kind : K) → slice_get version.printed index ≡ Some kind → (old new : V) → IsCopied version kind (wanted kind) old new → IsCompletedTo version wanted given index old → IsCompletedTo version wanted given (index + 1) new
-    IsCompletedTo-more index kind at old new is before =
+    pub IsCompletedTo-more : (index : ℕ) (kind : K) (items : List K) → items ≡ version.printed → index < length items → kind ≡ get_or items index kind → (old new : V) → IsCopied version kind (wanted kind) old new → IsCompletedTo version wanted given index old → IsCompletedTo version wanted given (index + 1) new
+    IsCompletedTo-more index kind items all within item old new is before =
+        let at = ap (λ kinds. slice_get kinds index) (sym all) ∙ slice_get_read items _ index kind refl within item in
         let here = completed_here kind old new is (before.either kind) in
         let at_kind : (other : K) → kind ≡ other → IsCompletedAt version wanted given new other = λ other same. subst (IsCompletedAt version wanted given new) same here in
         record {
@@ -197,5 +195,5 @@ module _ {V K : Type 0} (version : Version V K) (version_laws : VersionLaws vers
           front = is.front ∙ before.front;
         }
 
-    pub IsCompletedTo-all : (v : V) → IsCompletedTo version wanted given (length version.printed) v → (kind : K) → IsCompletedAt version wanted given v kind
-    IsCompletedTo-all v all kind = all.completed kind (slice_get_within version.printed (place_of version kind) kind (version_laws.placed kind))
+    pub IsCompletedTo-all : (index : ℕ) (items : List K) (v : V) → items ≡ version.printed → length items ≤ index → IsCompletedTo version wanted given index v → (kind : K) → IsCompletedAt version wanted given v kind
+    IsCompletedTo-all index items v all past to kind = to.completed kind (omega (arith, ap length all, past, slice_get_within version.printed (place_of version kind) kind (version_laws.placed kind)))

@@ -1,5 +1,5 @@
 -- The steps of the walk over the components, and its end.
-use Rattle.std.proofs.Common.{◌≡◌, ℕ, ◌<◌, ◌≤◌, true, false, List, [], ◌∷◌, ◌++◌, length, take, Option, Some, None, IsSome, Ok, Err, Contains, is_none, refl, sym, ap, ◌∙◌, subst, arith, append_assoc, append-nil}
+use Rattle.std.proofs.Common.{◌≡◌, ℕ, ◌<◌, ◌≤◌, true, false, List, [], ◌∷◌, ◌++◌, length, take, Option, Some, None, IsSome, Ok, Err, Contains, is_none, refl, sym, ap, ◌∙◌, subst, arith, append_assoc, append-nil, IsUtf8}
 use Rattle.std.specs.List.{All, filter_map, onto_first}
 use Rattle.std.proofs.lemmas.List.{get_or-append-add, length-append, take_at}
 use Rattle.std.proofs.lemmas.List.Elements.{All-head, All-tail, All-from_get_or}
@@ -7,7 +7,7 @@ use Rattle.std.proofs.lemmas.List.Sorted.{IsPermutation-refl}
 use Rattle.std.proofs.lemmas.List.Splits.{length-slice_split, slice_split-cons_no}
 use Rattle.std.proofs.lemmas.Option.{slice_get_within, get_or_from_slice_get}
 use Rattle.cvss_base.proofs.FindLemmas.{found_first, not_found}
-use Rattle.cvss_base.specs.Refusal.{Refusal, AreComponentsBefore, BadComponent, Repeated, Missing, piece_at, FaultAt, HasNoFaultBefore, IsFirstMissing, IsNamedBefore}
+use Rattle.cvss_base.specs.Refusal.{Refusal, AreComponentsBefore, BadComponent, Repeated, Missing, piece_at, FaultAt, HasNoFaultBefore, IsFirstBadPiece, IsFirstMissing, IsNamedBefore}
 use Rattle.cvss_base.specs.Text.{colon, pieces, IsComponent, name_part, component}
 use Rattle.cvss_base.specs.Version.{Version, component_of, AreComponentsOf, IsComplete}
 use Rattle.cvss_base.specs.private.Component.{delimiter_bytes}
@@ -17,6 +17,7 @@ use Rattle.cvss_text.specs.private.Walk.{VersionLaws, IsCut, IsCutFirst, IsFirst
 use Rattle.cvss_text.proofs.ComponentLemmas.{adds_component, all_taken, held_is_named, named_is_held, piece_is_component}
 use Rattle.cvss_text.proofs.DenotesLemmas.{no_fault_before}
 use Rattle.cvss_text.proofs.LawLemmas.{name_plain, IsCut_named}
+use Rattle.cvss_text.proofs.PieceLemmas.{All-left, AreComponents-after, IsFirstBadPiece-after}
 use Rattle.cvss_text.proofs.TextLemmas.{is_slash, All-from_count, delimiter_bytes-read, delimiter_sorts}
 
 -- pieces that begin with bytes that are no slash
@@ -70,12 +71,19 @@ module _ {V K : Type 0} (version : Version V K) (version_laws : VersionLaws vers
     pub HasReadTo-all : left ≡ [] → AreComponentsOf version parts v
     HasReadTo-all none = subst (λ each. AreComponentsOf version each v) (sym (to.cut ∙ ap (λ rest. to.before ++ rest) none ∙ append-nil to.before)) to.components
 
-    pub IsAfterComponents-read : (text : List ℕ) → left ≡ pieces text → IsAfterComponents parts (pieces text)
-    IsAfterComponents-read text is = record {
-      before = to.before;
-      cut = to.cut ∙ ap (λ rest. to.before ++ rest) is;
-      components = All-from_get_or IsComponent to.before [] (piece_is_component version version_laws v to.before to.components);
-    }
+    module _ (text : List ℕ) (is : left ≡ pieces text) where
+      follows : IsAfterComponents parts (pieces text)
+      follows = record {
+        before = to.before;
+        cut = to.cut ∙ ap (λ rest. to.before ++ rest) is;
+        components = All-from_get_or IsComponent to.before [] (piece_is_component version version_laws v to.before to.components);
+      }
+
+      pub IsUtf8-follows : All IsUtf8 parts → All IsUtf8 (pieces text)
+      IsUtf8-follows = All-left IsUtf8 parts follows.before (pieces text) follows.cut
+
+      pub IsFirstBadPiece-follows : (piece : List ℕ) → IsFirstBadPiece (pieces text) piece → IsFirstBadPiece parts piece
+      IsFirstBadPiece-follows = IsFirstBadPiece-after parts (pieces text) follows
 
     pub taken : AreComponentsOf version (take (length to.before) parts) v
     taken = subst (λ each. AreComponentsOf version each v) (sym (ap (take (length to.before)) to.cut ∙ take_at to.before left (length to.before) refl)) to.components
@@ -88,14 +96,17 @@ module _ {V K : Type 0} (version : Version V K) (version_laws : VersionLaws vers
     first_left = sym (ap (λ list. piece_at list (length to.before)) to.cut ∙ ap (piece_at (to.before ++ left)) (omega arith) ∙ get_or-append-add to.before left 0 [])
 
     -- the fault of a component is the first reason, where all pieces are components
-    pub IsFirstOfPieces-fault : (text : List ℕ) → left ≡ pieces text → AreComponentsBefore parts (length parts) → (reason : Refusal K) → (IsComponent (piece_at (pieces text) 0) → IsFaultOf version v (piece_at (pieces text) 0) reason) → IsFirstOfPieces version parts reason
-    IsFirstOfPieces-fault text is all reason fault =
+    pub IsFirstOfPieces-fault : (text : List ℕ) → left ≡ pieces text → AreComponentsBefore (pieces text) (length (pieces text)) → (reason : Refusal K) → (IsComponent (piece_at (pieces text) 0) → IsFaultOf version v (piece_at (pieces text) 0) reason) → IsFirstOfPieces version parts reason
+    IsFirstOfPieces-fault text is after reason fault =
         let first : piece_at (pieces text) 0 ≡ piece_at parts (length to.before) = ap (λ list. piece_at list 0) (sym is) ∙ first_left in
-        let component = subst IsComponent (sym first) (all.each (length to.before) within) in
+        let component = after.each 0 (omega (arith, length-slice_split is_slash text)) in
         of_fault reason (fault_at v parts (length to.before) (omega (arith, within)) taken reason (subst (λ piece. IsFaultOf version v piece reason) first (fault component)))
       where
         within : length to.before < length parts
         within = omega (arith, ap length to.cut, length-append to.before left, ap length is, length-slice_split is_slash text)
+
+        all : AreComponentsBefore parts (length parts)
+        all = AreComponents-after parts (pieces text) (follows text is) after
 
         of_fault : (reason : Refusal K) → FaultAt version parts (length to.before) reason → IsFirstOfPieces version parts reason
         of_fault (BadComponent piece) none = absurd none
@@ -128,9 +139,9 @@ module _ {V K : Type 0} (version : Version V K) (v : V) where
 
 module _ {V K : Type 0} (version : Version V K) (version_laws : VersionLaws version) (parts : List (List ℕ)) (v : V) (components : AreComponentsOf version parts v) where
   -- the first mandatory metric that the vector lacks is the first that no component names
-  pub IsFirstMissing-from : (kind : K) → first_missing version v ≡ Some kind → IsFirstMissing version parts kind
+  pub IsFirstMissing-from : (kind : K) → Some kind ≡ first_missing version v → IsFirstMissing version parts kind
   IsFirstMissing-from kind missing =
-      let first = found_first (λ other. is_none (version.value_of v other)) version.mandatory kind missing in
+      let first = found_first (λ other. is_none (version.value_of v other)) version.mandatory kind (sym missing) in
       let all = all_taken version v parts components in
       let held : (other : K) → IsNamedBefore version parts (length parts) other → IsSome (version.value_of v other) = named_is_held version version_laws v parts (length parts) (omega arith) all in
       record {
@@ -142,14 +153,14 @@ module _ {V K : Type 0} (version : Version V K) (version_laws : VersionLaws vers
       }
 
   -- all pieces are read, and the vector lacks no mandatory metric, or this first
-  pub IsReadLeft-complete : (empty : V) → version.front v ≡ version.front empty → first_missing version v ≡ None → IsReadLeft version parts empty (Ok tt) v
-  IsReadLeft-complete empty front complete = record { components = components; front = front; complete = IsComplete-from version v complete; refused = tt; printable = λ utf8. tt }
+  pub IsReadLeft-complete : (empty : V) → version.front v ≡ version.front empty → None ≡ first_missing version v → IsReadLeft version parts empty (Ok tt) v
+  IsReadLeft-complete empty front complete = record { components = components; front = front; complete = IsComplete-from version v (sym complete); refused = tt; printable = λ utf8. tt }
 
-  pub IsReadLeft-missing : (empty : V) (kind : K) → first_missing version v ≡ Some kind → IsReadLeft version parts empty (Err (MissingMandatoryMetric kind)) v
+  pub IsReadLeft-missing : (empty : V) (kind : K) → Some kind ≡ first_missing version v → IsReadLeft version parts empty (Err (MissingMandatoryMetric kind)) v
   IsReadLeft-missing empty kind missing = record {
     components = tt;
     front = tt;
     complete = tt;
     refused = (record { each = piece_is_component version version_laws v parts components }, IsFirstMissing-from kind missing);
-    printable = λ utf8. Contains-missing version v kind missing;
+    printable = λ utf8. Contains-missing version v kind (sym missing);
   }

@@ -1,8 +1,8 @@
 //! How the text of a vector is cut into pieces, and a component into its name and its value.
 
-ghost use Rattle.std.specs.Prelude.{◌≡◌, ◌↔◌, ◌∷◌, ℕ, List, [], IsTrue, IfSome, MatchOption, Some, length, ◌==◌, position};
+ghost use Rattle.std.specs.Prelude.{◌≡◌, ◌↔◌, ◌∷◌, [], IsTrue, IfSome, MatchOption, Some, length, ◌==◌, position};
 ghost use Rattle.cvss_base.specs.Text.{IsComponent, pieces};
-ghost use Rattle.cvss_text.specs.private.Pieces.{pieces_left, AreParts, IsAfterComponent, IsAfterComponents, IsWithoutColon};
+ghost use Rattle.cvss_text.specs.private.Pieces.{pieces_left, AreParts, IsAfterComponent, IsWithoutColon};
 ghost use Rattle.cvss_base.specs.Refusal.{AreComponentsBefore, IsFirstBadPiece, piece_at};
 
 /// The pieces of a text, cut at each slash.
@@ -72,12 +72,11 @@ pub fn is_component(piece: &[u8]) -> bool
     piece.iter().filter(|byte| **byte == b':').count() == 1
 }
 
-/// The first piece of a text that is no component, as the first of all pieces where components are
-/// before the text.
+/// The first piece of a text that is no component.
 #[inline(always)]
 pub fn first_bad_piece(text: &[u8]) -> Option<&[u8]>
-    ensures { (parts : List (List ℕ)) → IsAfterComponents parts (pieces text.now) → MatchOption result
-        (AreComponentsBefore parts (length parts)) (λ piece. IsFirstBadPiece parts piece.now) }
+    ensures { MatchOption result (AreComponentsBefore (pieces text.now) (length (pieces text.now)))
+        (λ piece. IsFirstBadPiece (pieces text.now) piece.now) }
 {
     let mut left = pieces_of(text);
     while let Some(rest) = left.text() {

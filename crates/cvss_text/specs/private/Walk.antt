@@ -13,7 +13,7 @@ use Rattle.cvss_base.specs.laws.Order.{place_in}
 use Rattle.cvss_base.specs.private.Component.{delimiter_bytes}
 use Rattle.cvss_base.specs.Text.{slash, pieces, IsComponent, name_part, value_part, component}
 use Rattle.cvss_base.specs.Version.{Version, held, read, reading, version_piece, AreComponentsOf, Denotes, IsComplete, IsWellFormed}
-use Rattle.cvss_base.specs.Refusal.{Refusal, BadComponent, WrongPrefix, WrongVersion, UnknownName, BadValue, Repeated, Missing, Spells, IsFirstReason, BadPiecesFirst, IsReasonAfter, IsWrongPrefix, IsWrongVersion}
+use Rattle.cvss_base.specs.Refusal.{Refusal, BadComponent, WrongPrefix, WrongVersion, UnknownName, BadValue, Repeated, Missing, Spells, FaultAt, IsFirstReason, BadPiecesFirst, IsReasonAfter, IsWrongPrefix, IsWrongVersion}
 
 -- the place of a metric in the printing order, which its name says
 abbrev pub place_of : {V K : Type 0} → Version V K → K → ℕ
@@ -167,18 +167,13 @@ IsPrintable version (InvalidMetric kind value) = IsUtf8 value.now
 IsPrintable version (DuplicateMetric kind) = ⊤
 IsPrintable version (MissingMandatoryMetric kind) = Contains version.mandatory kind
 
--- the fault of a component, where the vector holds those before it
+-- the fault of a component, where the vector holds those before it: but for a metric that it has, as if this were the first
 abbrev pub IsFaultOf : {V K : Type 0} → Version V K → V → List ℕ → Refusal K → Type 0
-IsFaultOf {V} {K} version v piece (UnknownName name) =
-    (name ≡ read version (name_part piece)) × ((kind : K) → version.name kind ≢ name)
-IsFaultOf {V} {K} version v piece (BadValue reported_kind value) =
-    (kind : K) × (reported_kind ≡ version.reported_kind kind) × (version.name kind ≡ read version (name_part piece))
-    × (value ≡ read version (value_part piece)) × ¬ (Spells (reading version kind) value)
 IsFaultOf version v piece (Repeated kind) =
     (version.name kind ≡ read version (name_part piece))
     × Spells (reading version kind) (read version (value_part piece))
     × IsSome (version.value_of v kind)
-IsFaultOf version v piece _ = ⊥
+IsFaultOf version v piece reason = FaultAt version (piece ∷ []) 0 reason
 
 -- what cutting a piece answers: its metric and value, or that it is no component, or of no metric
 pub record IsCutAnswer {V K : Type 0} (version : Version V K) (piece : List ℕ) (answer : Result (K × Bor (List ℕ)) (Fault K)) : Type 0 where

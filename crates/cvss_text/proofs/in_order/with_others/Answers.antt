@@ -1,4 +1,4 @@
-use Rattle.cvss_text.proofs.OthersLemmas.{IsInOrderTo-others}
+use Rattle.cvss_text.proofs.InOrderLemmas.{IsInOrderTo-others}
 use Rattle.cvss_text.proofs.in_order.with_others.Goals as goal
 
 pub returns-clause-text : goal.returns-clause-text

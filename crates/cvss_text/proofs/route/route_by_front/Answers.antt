@@ -1,13 +1,9 @@
-use Rattle.std.proofs.Common.{◌∷◌, ◌∙◌, ap}
-use Rattle.cvss_base.specs.Text.{pieces}
-use Rattle.cvss_text.proofs.PieceLemmas.{cut_routed, first_utf8, some_piece, utf8_parts}
+use Rattle.cvss_text.proofs.PieceLemmas.{cut_routed, first_utf8, utf8_parts}
 use Rattle.cvss_text.proofs.route.route_by_front.Goals as goal
 
 pub returns-in-Some-parts_of-clause-route : goal.returns-in-Some-parts_of-clause-route
 returns-in-Some-parts_of-clause-route c =
-    let after = c.in-Some.after.now in
-    let cut = c.front_of.ensures ∙ ap (λ rest. c.front_of.result.0.now ∷ rest) c.in-Some.ensures in
-    cut_routed c.args.text.now _ c.in-Some-parts_of.prefix.now c.in-Some-parts_of.reported.now (pieces after) _ cut (some_piece after) c.in-Some-parts_of.ensures c.route_by.ensures.route
+    cut_routed c.args.text.now _ c.in-Some-parts_of.prefix.now c.in-Some-parts_of.reported.now c.in-Some.after.now _ _ c.front_of.ensures c.in-Some.ensures c.in-Some-parts_of.ensures c.route_by.ensures.route
 
 pub returns-in-Some-parts_of-clause-printable : goal.returns-in-Some-parts_of-clause-printable
 returns-in-Some-parts_of-clause-printable c = λ is.

@@ -11,7 +11,7 @@ returns-in-Some g c =
     let version_laws = g.met.V.Components.version_laws in
     let parts = pieces c.args.text.now in
     let components = rw (c.pieces_of.ensures, c.as_bytes.ensures.value) at c.in-Ok.ensures.components in
-    let missing = IsFirstMissing-from version version_laws parts c.in-Ok.given components c.in-Some.kind (sym c.in-Some.ensures) in
+    let missing = IsFirstMissing-from version version_laws parts c.in-Ok.given components c.in-Some.kind c.in-Some.ensures in
     IsAnswered-Err version (build_sole version version_laws (version.front c.args.empty) parts) None (MissingMandatoryMetric c.in-Some.kind) (right_all version version_laws c.in-Ok.given parts components, missing) tt
 
 pub returns-in-None : goal.returns-in-None

@@ -1,4 +1,4 @@
-use Rattle.std.proofs.Common.{◌≡◌, ℕ, ◌+◌, ◌-◌, ◌∙◌, List, ◌++◌, ap, length, length-append, refl, arith}
+use Rattle.std.proofs.Common.{◌∙◌, refl}
 use Rattle.cvss_text.specs.private.Walk.{reason_of}
 use Rattle.cvss_text.proofs.SettingLemmas.{HasReadTo-most, IsFirstWrong-at}
 use Rattle.cvss_text.proofs.WalkLemmas.{HasReadTo-more, HasReadTo-start}
@@ -15,18 +15,14 @@ loop-cut-preserved g c =
       adds.puts.front ∙ before.1,
     )
 
--- how many texts were read
-at_here : (texts left before : List (List ℕ)) (all rest : ℕ) → texts ≡ before ++ left → all ≡ length texts → rest ≡ length left → all - rest + length left ≡ length texts
-at_here texts left before all rest cut count count_left = omega (arith, ap length cut, length-append before left)
-
 pub returns-in-Err-clause-refused : goal.returns-in-Err-clause-refused
 returns-in-Err-clause-refused g c =
     let version = g.V.Components.version in
-    IsFirstWrong-at version g.met.V.Components.version_laws (g.T.Texts.texts c.args.texts) _ c.loop-cut.given c.loop-cut.invariant.0 _ (at_here _ _ _ _ _ c.loop-cut.invariant.0.cut c.count.ensures c.count-in-Err.ensures) _ _ c.in-Some.ensures.cut (reason_of version c.in-Err.fault) c.in-Err.ensures.refused
+    IsFirstWrong-at version g.met.V.Components.version_laws (g.T.Texts.texts c.args.texts) _ c.loop-cut.given c.loop-cut.invariant.0 _ _ c.count.ensures c.count-in-Err.ensures _ _ c.in-Some.ensures.cut (reason_of version c.in-Err.fault) c.in-Err.ensures.refused
 
 pub returns-in-Err-clause-bound : goal.returns-in-Err-clause-bound
 returns-in-Err-clause-bound g c =
-    HasReadTo-most g.V.Components.version g.met.V.Components.version_laws (g.T.Texts.texts c.args.texts) _ c.loop-cut.given c.loop-cut.invariant.0 _ (at_here _ _ _ _ _ c.loop-cut.invariant.0.cut c.count.ensures c.count-in-Err.ensures)
+    HasReadTo-most g.V.Components.version g.met.V.Components.version_laws (g.T.Texts.texts c.args.texts) _ c.loop-cut.given c.loop-cut.invariant.0 _ _ c.count.ensures c.count-in-Err.ensures
 
 pub returns-in-Err-clause-printable : goal.returns-in-Err-clause-printable
 returns-in-Err-clause-printable g c = λ is.
