@@ -131,6 +131,10 @@ module _ (parts left : List (List ℕ)) (is : IsAfterComponents parts left) wher
     earlier = record { each = λ place below. absurd (omega (arith, below)) };
   })
 
+pub ruleset piece_count = (length-slice_split, tt)
+
+pub ruleset after_components = (IsAfterComponents-none, IsAfterComponents-more, AreComponents-all, tt)
+
 -- the pieces after others
 pub All-left : (P : List ℕ → Type 0) (parts before left : List (List ℕ)) → parts ≡ before ++ left → All P parts → All P left
 All-left P parts before left cut all = subst (All P) (ap (drop (length before)) cut ∙ drop_at before left (length before) refl) (All-drop P (length before) parts all)

@@ -73,6 +73,7 @@ pub fn is_component(piece: &[u8]) -> bool
 }
 
 /// The first piece of a text that is no component.
+#[tactic(auto, using(crate::proofs::PieceLemmas::after_components))]
 #[inline(always)]
 pub fn first_bad_piece(text: &[u8]) -> Option<&[u8]>
     ensures { MatchOption result (AreComponentsBefore (pieces text.now) (length (pieces text.now)))

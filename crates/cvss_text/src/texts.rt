@@ -50,6 +50,7 @@ impl<'a> Texts<'a> for Pieces<'a> {
         Some(front_of(self.text()?))
     }
 
+    #[tactic(auto, using(crate::proofs::PieceLemmas::piece_count))]
     fn count(self) -> usize {
         match self.text() {
             Some(text) => text.iter().filter(|byte| **byte == b'/').count() + 1,
