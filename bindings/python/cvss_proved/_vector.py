@@ -357,9 +357,13 @@ def _state_of_subclass(vector: Vector) -> Tuple[Optional[Dict[str, Any]], Dict[s
     return getattr(vector, "__dict__", None), {name: getattr(vector, name) for name in slots}
 
 
+_DECODER = json.JSONDecoder()
+
+
 def _object(told: str) -> Dict[str, Any]:
     """The JSON object that the library returns."""
-    members: Dict[str, Any] = json.loads(told)
+    # what json.loads does, without looking for spaces around the object
+    members: Dict[str, Any] = _DECODER.raw_decode(told)[0]
     return members
 
 

@@ -100,7 +100,7 @@ fn put_value(page: &mut Page, cvss: &Cvss, value: Value<'_>)
         Value::BaseV3(numbers) => put_scalars(page, &v3::base(cvss, numbers)),
         Value::TemporalV3(scored) => put_scalars(page, &v3::temporal(cvss, scored)),
         Value::EnvironmentalV3(numbers) => put_scalars(page, &v3::environmental(cvss, numbers)),
-        Value::WeightsV3(vector) => put_object(page, &v3::Weights { vector }, &v3::METRICS),
+        Value::WeightsV3(vector) => put_scalars(page, &v3::weights(vector)),
         Value::Letters(effective) => {
             put_object(
                 page,

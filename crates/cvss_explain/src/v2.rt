@@ -7,7 +7,6 @@ ghost use Rattle.cvss_json_write.specs.Scalars.{member_room, rooms};
 
 pub mod numbers;
 
-use crate::decimal::ten_millionths;
 use crate::parts::{Explained, Value};
 use MetricType::*;
 use cvss_any::Cvss;
@@ -101,8 +100,8 @@ impl Members<MetricType> for Weights<'_> {
     ghost room_at = { λ _ _. 44 };
 
     fn put_at(&self, page: &mut Page, later: bool, kind: MetricType) -> bool {
-        let weight = Scalar::Decimal(ten_millionths(self.vector.weight(kind)));
-        put_member(page, later, kind.name(), weight);
+        let ten_millionths = self.vector.thousandths(kind) as i64 * 10_000;
+        put_member(page, later, kind.name(), Scalar::Decimal(ten_millionths));
         true
     }
 }

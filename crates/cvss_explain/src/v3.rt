@@ -1,20 +1,19 @@
 //! The explanations of the scores of CVSS v3 (v3.1 specification, section 7; v3.0 specification, section 8).
 
-ghost use Rattle.std.specs.Prelude.{◌≡◌, ◌≤◌, [], length};
-ghost use Rattle.cvss_explain.specs.V3.{IsExplanationText, base_members, environmental_members, scope_letter, scored_members, weight_member};
+ghost use Rattle.std.specs.Prelude.{◌≡◌, ◌≤◌, ◌+◌, ◌*◌, [], length, pos};
+ghost use Rattle.cvss_explain.specs.V3.{IsExplanationText, base_members, environmental_members, scope_letter, scored_members, weights_members};
 ghost use Rattle.cvss_explain.specs.private.Values.{members_view};
-ghost use Rattle.cvss_json_write.specs.Scalars.{member_room, rooms};
+ghost use Rattle.cvss_json_write.specs.Json.{decimal_text};
+ghost use Rattle.cvss_json_write.specs.Scalars.{member_room, member_view, rooms};
 ghost use Rattle.cvss_v3.specs.VectorWeights.{weights_of};
 
 pub mod numbers;
 
-use crate::decimal::ten_millionths;
 use crate::parts::{Explained, Value, severity};
-use MetricType::*;
 use cvss_any::Cvss;
-use cvss_base::v3::MetricType;
-use cvss_json_write::{Member, Members, Page, Scalar, put_member, put_object};
+use cvss_json_write::{Member, Page, Scalar, put_object};
 use cvss_v3::Vector;
+use cvss_v3::weights::weights_of as hundredths_of;
 use numbers::{BaseNumbers, EnvironmentalNumbers, Scored};
 
 /// Writes why a vector has its score.
@@ -103,32 +102,42 @@ pub(crate) fn environmental(cvss: &Cvss, numbers: EnvironmentalNumbers) -> [Memb
     ]
 }
 
-/// The metrics, in the order of their names.
-pub(crate) const METRICS: [MetricType; 22] = [
-    A, AC, AR, AV, C, CR, E, I, IR, MA, MAC, MAV, MC, MI, MPR, MS, MUI, PR, RC, RL, S, UI,
-];
-
-/// What each metric of a vector weighs, which the scopes don't.
-#[derive(Drop)]
-pub(crate) struct Weights<'v> {
-    pub(crate) vector: &'v Vector,
+/// What each metric of a vector weighs, which the scopes don't, in the order of their names.
+pub(crate) fn weights(vector: &Vector) -> [Member<'static>; 20]
+    ensures text { members_view result ≡ weights_members (weights_of vector.now) }
+    ensures room { rooms member_room result ≤ 968 }
+{
+    let weights = hundredths_of(vector);
+    [
+        weight("A", weights.a),
+        weight("AC", weights.ac),
+        weight("AR", weights.ar),
+        weight("AV", weights.av),
+        weight("C", weights.c),
+        weight("CR", weights.cr),
+        weight("E", weights.e),
+        weight("I", weights.i),
+        weight("IR", weights.ir),
+        weight("MA", weights.ma),
+        weight("MAC", weights.mac),
+        weight("MAV", weights.mav),
+        weight("MC", weights.mc),
+        weight("MI", weights.mi),
+        weight("MPR", weights.mpr),
+        weight("MUI", weights.mui),
+        weight("PR", weights.pr),
+        weight("RC", weights.rc),
+        weight("RL", weights.rl),
+        weight("UI", weights.ui),
+    ]
 }
 
-impl Members<MetricType> for Weights<'_> {
-    ghost text_at = { λ weights kind. weight_member (weights_of weights.vector.now) kind };
-
-    ghost room_at = { λ _ _. 44 };
-
-    fn put_at(&self, page: &mut Page, later: bool, kind: MetricType) -> bool {
-        let Some(weight) = self.vector.weight(kind) else {
-            return later;
-        };
-        put_member(
-            page,
-            later,
-            kind.name(),
-            Scalar::Decimal(ten_millionths(weight)),
-        );
-        true
-    }
+/// A metric's name, and the weight that is so many hundredths.
+#[inline(always)]
+fn weight(name: &'static str, hundredths: u64) -> Member<'static>
+    requires { hundredths ≤ 150 }
+    ensures view { member_view result ≡ (name.now, decimal_text (pos (hundredths * 100_000))) }
+    ensures room { member_room result ≡ length name.now + 36 }
+{
+    (name, Scalar::Decimal((hundredths * 100_000) as i64))
 }

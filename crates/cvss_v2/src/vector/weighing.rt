@@ -46,8 +46,9 @@ impl Vector {
         self.weights()
     }
 
-    /// What a metric weighs in this vector, in thousandths.
-    pub(super) fn thousandths(&self, metric: MetricType) -> u64
+    /// What a metric weighs in this vector, in thousandths (guide, section 3.2): an absent one as `ND`, and
+    /// a base metric 0.
+    pub fn thousandths(&self, metric: MetricType) -> u64
         ensures value { result ≡ weight_in self.now metric }
         ensures bound { result ≤ 1510 }
     {

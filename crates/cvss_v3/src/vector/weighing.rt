@@ -55,7 +55,7 @@ impl Vector {
     /// The same, as a call that all share but the base score in tenths, which is computed for each line.
     // Inlined into each score and number it would be a twentieth of the module of WebAssembly.
     #[inline(never)]
-    pub(super) fn shared_weights(&self) -> Weights
+    pub(crate) fn shared_weights(&self) -> Weights
         ensures value { result ≡ weights_of self.now }
         ensures tables { AreOfTables result }
         ensures bounded { AreBounded result }
