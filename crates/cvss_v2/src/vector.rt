@@ -5,10 +5,8 @@ ghost use Rattle.std.specs.Prelude.{◌≡◌, ◌↔◌, IsTrue, IfSome, IsSome
 mod cutting;
 mod explanation;
 mod in_order;
-mod listing;
 mod printing;
 mod reading;
-mod refusing;
 mod scores;
 mod weighing;
 
@@ -25,7 +23,7 @@ use cvss_v2_metric::environmental::{
     IntegrityRequirement, TargetDistribution,
 };
 use cvss_v2_metric::temporal::{Exploitability, RemediationLevel, ReportConfidence};
-pub use listing::Metrics;
+pub use printing::Metrics;
 use std::alloc::Global;
 
 /// A vector of CVSS v2 (guide, section 2.4): at most one value for each metric.

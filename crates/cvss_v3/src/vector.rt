@@ -5,10 +5,8 @@ ghost use Rattle.std.specs.Prelude.{◌≡◌, ◌↔◌, IsTrue, IfSome, IsSome
 mod cutting;
 mod explanation;
 mod in_order;
-mod listing;
 mod printing;
 mod reading;
-mod refusing;
 mod scores;
 mod weighing;
 
@@ -25,7 +23,7 @@ use cvss_v3_metric::environmental::{
     ModifiedScope,
 };
 use cvss_v3_metric::temporal::{ExploitCodeMaturity, RemediationLevel, ReportConfidence};
-pub use listing::Metrics;
+pub use printing::Metrics;
 use std::alloc::Global;
 
 /// A vector of CVSS v3.0 or v3.1 (v3.1 specification, section 6): at most one value for each metric.

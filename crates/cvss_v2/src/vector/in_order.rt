@@ -3,7 +3,6 @@
 //! by the walk over its components, for which `reading` puts them one by one.
 
 ghost use Rattle.std.specs.Prelude.{◌≡◌, IfSome, ◌∷◌, ◌++◌, ⊤};
-ghost use Rattle.cvss_text.specs.private.Walk.{HasNoValue, IsInOrderTo, IsWhole};
 ghost use Rattle.cvss_base.specs.Text.{slash};
 ghost use Rattle.cvss_base.specs.V2Types.{name_of};
 ghost use Rattle.cvss_text.specs.private.Values.{shown};
@@ -13,62 +12,10 @@ ghost use Rattle.cvss_v2.specs.Vector.{v2};
 
 use crate::vector::Vector;
 use cvss_text::fast_path::{after_three, put_read, rest_after_name};
-use cvss_text::in_order::{InOrder, whole, with_others};
-use cvss_text::values::{letter_in_order, three_in_order, two_in_order};
+use cvss_text::in_order::InOrder;
+use cvss_text::values::{letter_in_order, two_in_order};
 use cvss_v2_metric::base::{AccessComplexity, AccessVector, Authentication};
 use cvss_v2_metric::{MetricType, MetricValue};
-
-/// The vector whose components, in printing order, are the whole text, from one without metrics.
-#[inline(always)]
-pub(super) fn whole_in_order(empty: Vector, text: &[u8]) -> Option<Vector>
-    requires { HasNoValue v2 empty }
-    ensures { IfSome result (IsWhole v2 (v2.front empty) text.now) }
-{
-    // No six base metrics are shorter, so their lengths are compared once.
-    if text.len() < 26 {
-        return None;
-    }
-    let (av, ac, au, text) = first_three_in_order(text)?;
-    let (c, i, a, text) = three_in_order::<Vector, _, _, _>(text)?;
-    let base = Vector {
-        av: Some(av),
-        ac: Some(ac),
-        au: Some(au),
-        c: Some(c),
-        i: Some(i),
-        a: Some(a),
-        ..empty
-    };
-    whole(base, text)
-}
-
-/// The same with the components with which a text begins, if it begins with the first three, and what
-/// follows them.
-// Where not all are in order, these three are read again: kept, they would cost the others more.
-#[inline(never)]
-pub(super) fn begun_in_order<'a>(empty: Vector, text: &'a [u8]) -> Option<(Vector, &'a [u8])>
-    requires { HasNoValue v2 empty }
-    ensures { IfSome result
-        (λ begun. IsInOrderTo v2 (v2.front empty) text.now begun.0 begun.1.now) }
-{
-    let (av, ac, au, text) = first_three_in_order(text)?;
-    let begun = Vector {
-        av: Some(av),
-        ac: Some(ac),
-        au: Some(au),
-        ..empty
-    };
-    let Some((c, i, a, text)) = three_in_order::<Vector, _, _, _>(text) else {
-        return Some((begun, text));
-    };
-    let base = Vector {
-        c: Some(c),
-        i: Some(i),
-        a: Some(a),
-        ..begun
-    };
-    Some(with_others(base, text))
-}
 
 impl InOrder for Vector {
     type Kind = MetricType;
@@ -125,7 +72,7 @@ fn value_in_order<M: MetricValue>(text: &[u8]) -> Option<(M, &[u8])>
 /// The values of the first three metrics, where a text begins with their components, and what
 /// follows these.
 #[inline(always)]
-fn first_three_in_order(
+pub(super) fn first_three_in_order(
     text: &[u8],
 ) -> Option<(AccessVector, AccessComplexity, Authentication, &[u8])>
     ensures { IfSome result (λ read. text.now ≡ metric_component AV read.0

@@ -1,17 +1,35 @@
-//! How a vector is printed.
+//! How a vector is printed, and its metrics as a list.
 
 ghost use Rattle.std.specs.Prelude.{◌≡◌, [], Some};
 ghost use Rattle.cvss_base.specs.Version.{canonical_text};
+ghost use Rattle.cvss_text.specs.Listing.{listed_metrics, metrics_left};
+ghost use Rattle.cvss_v2_metric.specs.Table.{listed};
 ghost use Rattle.cvss_v2.specs.Vector.{v2};
 
 use crate::each_metric;
 use crate::vector::Vector;
+use MetricType::*;
 use cvss_text::buffer::TextBuffer;
+use cvss_text::metrics::{self, Listed};
 use cvss_text::print::{Printed, write_text};
 use cvss_text::values::{shown_at, write_value};
 use cvss_text::{show_at, write_each};
 use cvss_v2_metric::MetricType;
 use std::fmt;
+
+/// The metrics that a vector has, each with the spelling of its value; at most 14.
+pub type Metrics = metrics::Metrics<Vector>;
+
+/// The metrics in the order in which they are listed.
+const LISTED: [MetricType; 14] = [AC, Au, AV, C, I, A, CR, IR, AR, CDP, TD, E, RC, RL];
+
+impl Listed for Vector {
+    ghost order = { listed };
+
+    fn listed() -> &'static [MetricType] {
+        &LISTED
+    }
+}
 
 impl Printed for Vector {
     fn with_slash(&self, kind: MetricType) -> Option<&'static str> {
@@ -24,6 +42,13 @@ impl Printed for Vector {
 }
 
 impl Vector {
+    /// The type and the spelling of each metric that the vector has. It takes no memory.
+    pub fn metrics(&self) -> Metrics
+        ensures { metrics_left v2 listed result ≡ listed_metrics v2 self.now listed }
+    {
+        Metrics::of(self)
+    }
+
     /// Writes the canonical text into an empty buffer, and gives it.
     pub fn text<'a>(&self, buffer: &'a mut TextBuffer) -> &'a [u8]
         requires { buffer.old ≡ [] }

@@ -1,7 +1,7 @@
-//! How a vector is filled from its components.
+//! How a vector is read from a text, and the errors that say why a text is none.
 
 ghost use Rattle.std.specs.Prelude.{false, ⊤, ◌≡◌};
-ghost use Rattle.cvss_base.specs.V2Types.{name_of};
+ghost use Rattle.cvss_base.specs.V2Types.{name_of, v2_reason};
 ghost use Rattle.cvss_base.specs.Version.{read, reading};
 ghost use Rattle.cvss_text.specs.private.Walk.{IsFilled, IsPut, elsewhere};
 ghost use Rattle.cvss_v2_metric.specs.Table.{spelling_of};
@@ -9,10 +9,13 @@ ghost use Rattle.cvss_v2.specs.Vector.{v2, value_at};
 ghost use Rattle.cvss_v2.specs.private.VectorLaws.{v2_laws};
 
 use super::cutting::cut_named;
-use super::in_order::{begun_in_order, whole_in_order};
+use super::in_order::first_three_in_order;
 use crate::each_metric;
 use crate::vector::Vector;
-use cvss_text::values::Spells;
+use cvss_base::Error;
+use cvss_text::in_order::{whole, with_others};
+use cvss_text::refusing::Refused;
+use cvss_text::values::{Spells, three_in_order};
 use cvss_text::walk::{ComponentError, Components};
 use cvss_text::{fill_at, kinds};
 use cvss_v2_metric::{MetricType, MetricValue};
@@ -54,12 +57,44 @@ impl Components for Vector {
 
     #[inline(always)]
     fn whole_in_order(self, text: &[u8]) -> Option<Vector> {
-        whole_in_order(self, text)
+        // No six base metrics are shorter, so their lengths are compared once.
+        if text.len() < 26 {
+            return None;
+        }
+        let (av, ac, au, text) = first_three_in_order(text)?;
+        let (c, i, a, text) = three_in_order::<Vector, _, _, _>(text)?;
+        let base = Vector {
+            av: Some(av),
+            ac: Some(ac),
+            au: Some(au),
+            c: Some(c),
+            i: Some(i),
+            a: Some(a),
+            ..self
+        };
+        whole(base, text)
     }
 
-    #[inline(always)]
+    // Where not all are in order, the first three are read again: kept, they would cost the others more.
+    #[inline(never)]
     fn begun_in_order<'a>(self, text: &'a [u8]) -> Option<(Vector, &'a [u8])> {
-        begun_in_order(self, text)
+        let (av, ac, au, text) = first_three_in_order(text)?;
+        let begun = Vector {
+            av: Some(av),
+            ac: Some(ac),
+            au: Some(au),
+            ..self
+        };
+        let Some((c, i, a, text)) = three_in_order::<Vector, _, _, _>(text) else {
+            return Some((begun, text));
+        };
+        let base = Vector {
+            c: Some(c),
+            i: Some(i),
+            a: Some(a),
+            ..begun
+        };
+        Some(with_others(base, text))
     }
 
     #[inline(always)]
@@ -78,6 +113,22 @@ impl Components for Vector {
             Vector { a: None, .. } => Some(MetricType::A),
             _ => None,
         }
+    }
+}
+
+impl Refused for Vector {
+    ghost reason = { v2_reason };
+
+    fn invalid_metric(metric_type: MetricType, value: String) -> Error {
+        Error::InvalidMetricV2 { metric_type, value }
+    }
+
+    fn duplicate_metric(metric_type: MetricType) -> Error {
+        Error::DuplicateMetricV2 { metric_type }
+    }
+
+    fn missing_metric(metric_type: MetricType) -> Option<Error> {
+        Some(Error::MissingMandatoryMetricV2 { metric_type })
     }
 }
 

@@ -1,18 +1,38 @@
-//! How a vector is printed.
+//! How a vector is printed, and its metrics as a list.
 
 ghost use Rattle.std.specs.Prelude.{◌≡◌, ◌++◌, Some, codes};
 ghost use Rattle.std.specs.Fmt.{WritesOnOk};
 ghost use Rattle.cvss_base.specs.Version.{numeral, canonical_text, version_piece};
+ghost use Rattle.cvss_text.specs.Listing.{listed_metrics, metrics_left};
+ghost use Rattle.cvss_v3_metric.specs.Table.{listed};
 ghost use Rattle.cvss_v3.specs.Vector.{v3};
 
 use crate::each_metric;
 use crate::vector::Vector;
+use MetricType::*;
 use cvss_text::buffer::TextBuffer;
+use cvss_text::metrics::{self, Listed};
 use cvss_text::print::{Printed, write_components};
 use cvss_text::values::{shown_at, write_value};
 use cvss_text::{show_at, write_each};
 use cvss_v3_metric::MetricType;
 use std::fmt;
+
+/// The metrics that a vector has, each with the spelling of its value; at most 22.
+pub type Metrics = metrics::Metrics<Vector>;
+
+/// The metrics in the order in which they are listed.
+const LISTED: [MetricType; 22] = [
+    AV, AC, PR, UI, S, C, I, A, E, RL, RC, MAV, MAC, MPR, MUI, MS, MC, MI, CR, IR, AR, MA,
+];
+
+impl Listed for Vector {
+    ghost order = { listed };
+
+    fn listed() -> &'static [MetricType] {
+        &LISTED
+    }
+}
 
 impl Printed for Vector {
     fn with_slash(&self, kind: MetricType) -> Option<&'static str> {
@@ -25,6 +45,13 @@ impl Printed for Vector {
 }
 
 impl Vector {
+    /// The type and the spelling of each metric that the vector has. It takes no memory.
+    pub fn metrics(&self) -> Metrics
+        ensures { metrics_left v3 listed result ≡ listed_metrics v3 self.now listed }
+    {
+        Metrics::of(self)
+    }
+
     /// Writes the piece that says the version.
     #[tactic(auto, using(cvss_text::proofs::NumeralLemmas::decimal_numeral))]
     fn write_version<W: fmt::Write>(&self, f: &mut fmt::Formatter<W>) -> fmt::Result

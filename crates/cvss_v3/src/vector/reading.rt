@@ -1,7 +1,7 @@
-//! How a vector is filled from its components.
+//! How a vector is read from a text, and the errors that say why a text is none.
 
 ghost use Rattle.std.specs.Prelude.{◌≡◌, None, true};
-ghost use Rattle.cvss_base.specs.V3Types.{name_of};
+ghost use Rattle.cvss_base.specs.V3Types.{name_of, v3_reason};
 ghost use Rattle.cvss_text.specs.private.Walk.{HasNoValue, IsFilled, IsPut, elsewhere};
 ghost use Rattle.cvss_base.specs.Version.{read, reading};
 ghost use Rattle.cvss_v3_metric.specs.Table.{spelling_of};
@@ -9,12 +9,15 @@ ghost use Rattle.cvss_v3.specs.Complete.{first_missing_base};
 ghost use Rattle.cvss_v3.specs.Vector.{v3, value_at};
 ghost use Rattle.cvss_v3.specs.private.VectorLaws.{v3_laws, v3_front_laws};
 
-use super::cutting::cut_named;
-use super::in_order::{begun_in_order, whole_in_order};
+use super::cutting::{named_by_one, named_by_three, named_by_two};
+use super::in_order::first_four_in_order;
 use crate::each_metric;
 use crate::vector::Vector;
+use cvss_base::Error;
 use cvss_text::front::Prefixed;
-use cvss_text::values::Spells;
+use cvss_text::in_order::{whole, with_others};
+use cvss_text::refusing::Refused;
+use cvss_text::values::{Spells, four_in_order};
 use cvss_text::walk::{ComponentError, Components};
 use cvss_text::{fill_at, kinds};
 use cvss_v3_metric::{MetricType, MetricValue, reported_kind};
@@ -45,17 +48,60 @@ impl Components for Vector {
 
     #[inline(always)]
     fn cut(piece: &[u8]) -> Option<(MetricType, &[u8])> {
-        cut_named(piece)
+        match piece {
+            [letter, b':', value @ ..] => Some((named_by_one(*letter)?, value)),
+            [first, second, b':', value @ ..] => Some((named_by_two(*first, *second)?, value)),
+            [first, second, third, b':', value @ ..] => {
+                Some((named_by_three(*first, *second, *third)?, value))
+            }
+            _ => None,
+        }
     }
 
     #[inline(always)]
     fn whole_in_order(self, text: &[u8]) -> Option<Vector> {
-        whole_in_order(self, text)
+        // No eight base metrics are shorter, so their lengths are compared once.
+        if text.len() < 35 {
+            return None;
+        }
+        let (av, ac, pr, ui, text) = first_four_in_order(text)?;
+        let (s, c, i, a, text) = four_in_order::<Vector, _, _, _, _>(text)?;
+        let base = Vector {
+            av: Some(av),
+            ac: Some(ac),
+            pr: Some(pr),
+            ui: Some(ui),
+            s: Some(s),
+            c: Some(c),
+            i: Some(i),
+            a: Some(a),
+            ..self
+        };
+        whole(base, text)
     }
 
-    #[inline(always)]
+    // Where not all are in order, these four are read again: kept, they would cost the others more.
+    #[inline(never)]
     fn begun_in_order<'a>(self, text: &'a [u8]) -> Option<(Vector, &'a [u8])> {
-        begun_in_order(self, text)
+        let (av, ac, pr, ui, text) = first_four_in_order(text)?;
+        let begun = Vector {
+            av: Some(av),
+            ac: Some(ac),
+            pr: Some(pr),
+            ui: Some(ui),
+            ..self
+        };
+        let Some((s, c, i, a, text)) = four_in_order::<Vector, _, _, _, _>(text) else {
+            return Some((begun, text));
+        };
+        let base = Vector {
+            s: Some(s),
+            c: Some(c),
+            i: Some(i),
+            a: Some(a),
+            ..begun
+        };
+        Some(with_others(base, text))
     }
 
     fn reported_kind(kind: MetricType) -> MetricType {
@@ -84,6 +130,23 @@ impl Prefixed for Vector {
         } else {
             None
         }
+    }
+}
+
+impl Refused for Vector {
+    ghost reason = { v3_reason };
+
+    fn invalid_metric(metric_type: MetricType, value: String) -> Error {
+        Error::InvalidMetricV3 { metric_type, value }
+    }
+
+    fn duplicate_metric(metric_type: MetricType) -> Error {
+        Error::DuplicateMetricV3 { metric_type }
+    }
+
+    /// None: no metric of v3 is mandatory.
+    fn missing_metric(_: MetricType) -> Option<Error> {
+        None
     }
 }
 

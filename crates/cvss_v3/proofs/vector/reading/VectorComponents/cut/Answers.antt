@@ -2,7 +2,7 @@ use Rattle.std.proofs.Common.{arith}
 use Rattle.cvss_text.proofs.LawLemmas.{IsCut_at}
 use Rattle.cvss_v3.specs.Vector.{v3}
 use Rattle.cvss_v3.specs.private.VectorLaws.{v3_laws}
-use Rattle.cvss_v3.proofs.vector.cutting.cut_named.Goals as goal
+use Rattle.cvss_v3.proofs.vector.reading.VectorComponents.cut.Goals as goal
 
 pub returns-in_ok-named_by_one-in-58 : goal.returns-in_ok-named_by_one-in-58
 returns-in_ok-named_by_one-in-58 c = IsCut_at v3 v3_laws c.args.piece.now 1 _ (grind arith) c.in_ok-named_by_one-in-58.ensures

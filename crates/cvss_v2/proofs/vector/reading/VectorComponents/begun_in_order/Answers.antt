@@ -1,0 +1,16 @@
+use Rattle.std.proofs.Common.{refl}
+use Rattle.cvss_v2.specs.Vector.{v2}
+use Rattle.cvss_text.proofs.InOrderLemmas.{IsInOrderTo-turns}
+use Rattle.cvss_v2.specs.private.VectorLaws.{without_values}
+use Rattle.cvss_v2.proofs.vector.reading.VectorComponents.begun_in_order.Goals as goal
+
+pub returns-in_default : goal.returns-in_default
+returns-in_default c =
+    rw (without_values c.args.self c.requires) (IsInOrderTo-turns v2 (rw c.in_ok-av.ensures refl) refl)
+
+pub with_others-requires : goal.with_others-requires
+with_others-requires c = rw (without_values c.args.self c.requires) refl
+
+pub returns : goal.returns
+returns c = c.with_others.ensures.text (v2.front c.args.self) c.args.text.now
+    (rw (without_values c.args.self c.requires) (IsInOrderTo-turns v2 (rw (c.in_ok-av.ensures, c.in-Some.ensures) refl) refl))
