@@ -1,4 +1,2 @@
-mod CompleteLemmas
+mod OverridingLemmas
 mod PrintingLemmas
-pub mod OverridingLemmas
-mod PartsLemmas

@@ -1,8 +1,7 @@
 -- Overrides: the environmental metrics, and texts that are read one after another.
-use Rattle.std.proofs.Common.{◌≡◌, true, true≢false, ℕ, ◌+◌, ◌<◌, ◌≤◌, All, Option, List, [], ◌∷◌, ◌++◌, codes, length, IsSome, Contains, append_assoc, length-append, refl, sym, ap, ◌∙◌, subst, arith}
-use Rattle.std.specs.Option.{option_or}
+use Rattle.std.proofs.Common.{◌≡◌, true, ℕ, ◌+◌, ◌<◌, ◌≤◌, All, List, [], ◌∷◌, ◌++◌, codes, length, IsSome, append_assoc, length-append, refl, sym, ap, ◌∙◌, subst, arith}
 use Rattle.std.proofs.lemmas.List.{get_or-append-add, get_or_append_left}
-use Rattle.std.proofs.lemmas.List.Elements.{All-contains, All-get_or, All-nil, All-push, filter_passes}
+use Rattle.std.proofs.lemmas.List.Elements.{filter_passes, All-contains, All-get_or, All-nil, All-push}
 use Rattle.cvss_base.specs.Refusal.{Refusal, piece_at}
 use Rattle.cvss_base.specs.Text.{name_part}
 use Rattle.cvss_base.specs.Groups.{same_group}
@@ -18,11 +17,11 @@ use Rattle.cvss_text.proofs.LawLemmas.{names_differ}
 use Rattle.cvss_text.proofs.RefusalLemmas.{same_place}
 use Rattle.cvss_text.proofs.SettingLemmas.{right_held, wrongs_same}
 use Rattle.cvss_v4_metric.specs.Table.{mandatory}
-use Rattle.cvss_v4.specs.Overriding.{AreOverrides, HasNoObjectionBefore, IsFirstObjection, IsOfOtherGroup, IsOverridden, Objection, OfOtherGroup, OfText, ObjectionAt}
+use Rattle.cvss_v4.specs.Overriding.{AreOverrides, HasNoObjectionBefore, IsFirstObjection, IsOfOtherGroup, Objection, OfOtherGroup, OfText, ObjectionAt}
 use Rattle.cvss_v4.specs.private.OverridingSteps.{HasNoOtherBefore, IsFirstOther}
-use Rattle.cvss_v4.specs.Table.{Value, value_at}
+use Rattle.cvss_v4.specs.Table.{value_at}
 use Rattle.cvss_v4.specs.Vector.{v4}
-use Rattle.cvss_v4.specs.private.VectorLaws.{v4_laws, with_values, vector_has}
+use Rattle.cvss_v4.specs.private.VectorLaws.{v4_laws}
 use Rattle.cvss_v4.specs.declared.vector.Vector.{Vector}
 
 -- a text that names an environmental metric is of no other group
@@ -137,34 +136,13 @@ first_objections_same texts p q one other first second =
     let same = same_place p q (λ before. second.earlier.none p one before first.is) (λ before. first.earlier.none q other before second.is) in
     (same, objections_same texts q one other (subst (λ place. ObjectionAt texts place one) same first.is) second.is)
 
--- a metric that each vector has is a base metric
-pub mandatory_is_base : (kind : MetricType) → Contains mandatory kind → same_group (group_of kind) Base ≡ true
-mandatory_is_base kind is =
-    All-contains (λ each. same_group (group_of each) Base ≡ true) mandatory kind (filter_passes (λ each. same_group (group_of each) Base) declared) is
+-- a vector stays complete where its base metrics are kept
+is_base : (group : MetricGroup) → same_group group Base ≡ true → group ≡ Base
+is_base = elim [ Base ↦ λ is. refl | _ ↦ λ is. absurd cc ]
 
--- so a vector stays complete where environmental metrics replace its own
-pub IsComplete-overridden : (v overrides new : Vector) → IsOverridden v overrides new → IsComplete v4 v → IsComplete v4 new
-IsComplete-overridden v overrides new is complete = record {
-  present = λ kind mandatory. subst IsSome (sym (is.kept kind (λ environment. absurd (true≢false (sym (mandatory_is_base kind mandatory) ∙ ap (λ group. same_group group Base) environment))))) (complete.present kind mandatory);
+pub IsComplete-kept : (v new : Vector) → ((kind : MetricType) → group_of kind ≡ Base → value_at new kind ≡ value_at v kind) → IsComplete v4 v → IsComplete v4 new
+IsComplete-kept v new kept complete = record {
+  present = λ kind is.
+      let base = All-contains (λ each. same_group (group_of each) Base ≡ true) mandatory kind (filter_passes (λ each. same_group (group_of each) Base) declared) is in
+      subst IsSome (sym (kept kind (is_base (group_of kind) base))) (complete.present kind is);
 }
-
--- a vector's value for a metric of this group, where another's environmental metrics replace its own
-abbrev value_by : Vector → Vector → (kind : MetricType) → MetricGroup → Option (Value kind)
-value_by v overrides kind Environmental = option_or (value_at overrides kind) (value_at v kind)
-value_by v overrides kind _ = value_at v kind
-
--- the vector of these values
-abbrev pub overridden : Vector → Vector → Vector
-overridden v overrides = with_values v (λ kind. value_by v overrides kind (group_of kind))
-
-of_other_group : (v overrides : Vector) (kind : MetricType) (group : MetricGroup) → ¬ (group ≡ Environmental) → value_by v overrides kind group ≡ value_at v kind
-of_other_group v overrides kind = elim [ Environmental ↦ λ not. absurd (not refl) | _ ↦ λ _. refl ]
-
-pub IsOverridden-own : (v overrides : Vector) → IsOverridden v overrides (overridden v overrides)
-IsOverridden-own v overrides =
-    let has = vector_has v (λ kind. value_by v overrides kind (group_of kind)) in
-    record {
-      replaced = λ kind is. has kind ∙ ap (value_by v overrides kind) is;
-      kept = λ kind not. has kind ∙ of_other_group v overrides kind (group_of kind) not;
-      minor_version = refl;
-    }

@@ -1,13 +1,11 @@
 -- How long components are.
-use Rattle.std.proofs.Common.{◌≡◌, ℕ, zero, suc, ◌+◌, ◌≤◌, ◌&&◌, true, List, [], ◌∷◌, length, max, slice_get, unwrap_or, refl, arith, length-append}
-use Rattle.std.proofs.Math.Dec.{leb}
-use Rattle.std.proofs.lemmas.Bool.{and_parts, leb-true}
+use Rattle.std.proofs.Common.{◌≡◌, ℕ, zero, suc, ◌+◌, ◌≤◌, List, [], ◌∷◌, length, max, slice_get, unwrap_or, arith, rules, length-append}
 use Rattle.cvss_base.specs.Text.{colon, slash}
 use Rattle.cvss_base.specs.V4Types.{name_of}
 use Rattle.cvss_base.specs.declared.v4.MetricType.{MetricType}
 use Rattle.cvss_base.specs.declared.v4.MetricType.TheVariants.{AC}
 use Rattle.cvss_v4_metric.specs.Table.{metric_component, spelling_at, spellings_of}
-use Rattle.cvss_v4.specs.private.Shown.{width}
+use Rattle.cvss_v4.specs.private.TableLaws.{width}
 
 -- the length of the longest text
 abbrev longest : List (List ℕ) → ℕ
@@ -19,27 +17,22 @@ within_longest [] place = omega arith
 within_longest (text ∷ texts) zero = omega arith
 within_longest (text ∷ texts) (suc place) = omega (arith, within_longest texts place)
 
-most : (kind : MetricType) → leb (2 + length (name_of kind) + longest (spellings_of kind)) (width kind) && leb (width kind) 8 ≡ true
-most AC = refl
-most _ = refl
-
-named : (kind : MetricType) → leb 1 (length (name_of kind)) ≡ true
-named AC = refl
-named _ = refl
+sizes : (kind : MetricType) → (1 ≤ length (name_of kind)) × (2 + length (name_of kind) + longest (spellings_of kind) ≤ width kind) × (width kind ≤ 8)
+sizes AC = search rules
+sizes _ = search rules
 
 -- a slash, a name, a colon and a spelling
 with_slash-length : (kind : MetricType) (rank : ℕ) → length (slash ∷ metric_component kind rank) ≡ 2 + length (name_of kind) + length (spelling_at kind rank)
 with_slash-length kind rank = omega (arith, length-append (name_of kind) (colon ∷ spelling_at kind rank))
 
 pub at_least_three : (kind : MetricType) (rank : ℕ) → 3 ≤ length (slash ∷ metric_component kind rank)
-at_least_three kind rank = omega (arith, with_slash-length kind rank, leb-true 1 (length (name_of kind)) (named kind))
+at_least_three kind rank = omega (arith, with_slash-length kind rank, (sizes kind).0)
 
 pub at_most_width : (kind : MetricType) (rank : ℕ) → length (slash ∷ metric_component kind rank) ≤ width kind
-at_most_width kind rank =
-    omega (arith, with_slash-length kind rank, within_longest (spellings_of kind) rank, leb-true (2 + length (name_of kind) + longest (spellings_of kind)) (width kind) (and_parts _ _ (most kind)).0)
+at_most_width kind rank = omega (arith, with_slash-length kind rank, within_longest (spellings_of kind) rank, (sizes kind).1)
 
 pub at_most_eight : (kind : MetricType) (rank : ℕ) → length (slash ∷ metric_component kind rank) ≤ 8
-at_most_eight kind rank = omega (arith, at_most_width kind rank, leb-true (width kind) 8 (and_parts _ _ (most kind)).1)
+at_most_eight kind rank = omega (arith, at_most_width kind rank, (sizes kind).2)
 
 -- what a component's length is between
 pub ruleset lengths = (at_least_three, at_most_eight, at_most_width)

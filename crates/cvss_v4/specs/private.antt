@@ -1,4 +1,3 @@
 pub mod OverridingSteps
-pub mod Shown
 pub mod TableLaws
 pub mod VectorLaws

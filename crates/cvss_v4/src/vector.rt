@@ -5,13 +5,10 @@ ghost use Rattle.std.specs.Prelude.{◌≡◌, ◌↔◌, IsTrue, IfSome, IsSome
 mod cutting;
 mod groups;
 mod in_order;
-mod listing;
 mod merging;
 mod overriding;
-mod parts;
 mod printing;
 mod reading;
-mod refusing;
 mod scores;
 
 use crate::laws::equality_is_that_of_values;
@@ -20,8 +17,8 @@ use cvss_text::front::read_after;
 use cvss_text::refusing::vector_after;
 use cvss_text::walk::Components;
 use cvss_v4_metric::{base, environmental, supplemental, threat};
-pub use listing::Metrics;
 pub use overriding::OverrideError;
+pub use printing::Metrics;
 use std::alloc::Global;
 
 /// A vector of CVSS v4.0 (v4.0 specification, section 7): at most one value for each metric.

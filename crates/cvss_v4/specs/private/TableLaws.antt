@@ -1,10 +1,10 @@
 -- What holds of each value of a metric of CVSS v4.0, checked value by value.
-use Rattle.std.specs.Prelude.{◌≡◌}
+use Rattle.std.specs.Prelude.{◌≡◌, ℕ}
 use Rattle.std.proofs.Common.{rules}
 use Rattle.cvss_base.specs.Text.{uppercased}
 use Rattle.cvss_base.specs.private.Component.{delimiter_bytes}
 use Rattle.cvss_base.specs.declared.v4.MetricType.{MetricType}
-use Rattle.cvss_base.specs.declared.v4.MetricType.TheVariants.{AC}
+use Rattle.cvss_base.specs.declared.v4.MetricType.TheVariants.{AC, U}
 use Rattle.cvss_v4.specs.Table.{Value, spelling_of}
 
 -- no spelling has a slash or a colon
@@ -16,3 +16,8 @@ plain_spelling _ = search rules
 pub one_value : (kind : MetricType) (x y : Value kind) → uppercased (spelling_of kind x) ≡ uppercased (spelling_of kind y) → x ≡ y
 one_value AC = search rules
 one_value _ = search rules
+
+-- at most so many bytes have the components of a metric, with a slash before each: only a provider urgency has more than six
+abbrev pub width : MetricType → ℕ
+width U = 8
+width _ = 6

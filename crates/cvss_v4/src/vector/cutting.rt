@@ -1,32 +1,14 @@
-//! How a piece is cut after the name of a metric in any ASCII case, where it is as long as a name.
+//! The metrics by their names in any ASCII case, for pieces that are cut after a name.
 
 ghost use Rattle.std.specs.Prelude.{◌≡◌, IfSome, [], ◌∷◌, ◌++◌, codes};
 ghost use Rattle.cvss_base.specs.Text.{uppercased};
 ghost use Rattle.cvss_base.specs.V4Types.{name_of};
-ghost use Rattle.cvss_text.specs.private.Walk.{IsCut};
-ghost use Rattle.cvss_v4.specs.Vector.{v4};
 
 use cvss_v4_metric::MetricType;
 
-/// The metric with whose name and a colon a piece begins, and what follows these. Most names have
-/// two letters, which are looked for first.
-#[inline(always)]
-pub(super) fn cut_named(piece: &[u8]) -> Option<(MetricType, &[u8])>
-    ensures { IfSome result (λ cut. IsCut v4 piece.now cut.0 cut.1.now) }
-{
-    match piece {
-        [first, second, b':', value @ ..] => Some((named_by_two(*first, *second)?, value)),
-        [letter, b':', value @ ..] => Some((named_by_one(*letter)?, value)),
-        [first, second, third, b':', value @ ..] => {
-            Some((named_by_three(*first, *second, *third)?, value))
-        }
-        _ => None,
-    }
-}
-
 /// The metric whose name is this letter, in any ASCII case, as in the functions below.
 #[inline(always)]
-fn named_by_one(letter: u8) -> Option<MetricType>
+pub(super) fn named_by_one(letter: u8) -> Option<MetricType>
     ensures { IfSome result (λ kind. name_of kind ≡ uppercased (letter ∷ [])) }
 {
     match letter {
@@ -41,7 +23,7 @@ fn named_by_one(letter: u8) -> Option<MetricType>
 
 /// The metric whose name is these two letters.
 #[inline(always)]
-fn named_by_two(first: u8, second: u8) -> Option<MetricType>
+pub(super) fn named_by_two(first: u8, second: u8) -> Option<MetricType>
     ensures { IfSome result (λ kind. name_of kind ≡ uppercased (first ∷ second ∷ [])) }
 {
     match first {
@@ -76,7 +58,7 @@ fn named_by_two(first: u8, second: u8) -> Option<MetricType>
 
 /// The metric whose name is these three letters, which is a modified one.
 #[inline(always)]
-fn named_by_three(first: u8, second: u8, third: u8) -> Option<MetricType>
+pub(super) fn named_by_three(first: u8, second: u8, third: u8) -> Option<MetricType>
     ensures { IfSome result (λ kind. name_of kind ≡ uppercased (first ∷ second ∷ third ∷ [])) }
 {
     match first {

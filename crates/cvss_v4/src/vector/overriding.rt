@@ -1,11 +1,8 @@
-//! An organisation's own environmental metrics in place of a vector's (v4.0 specification,
-//! section 4).
+//! An organisation's own environmental metrics, as they are given (v4.0 specification, section 4).
 
 ghost use Rattle.std.specs.Prelude.{◌≡◌, Some, IfOk, IfErr, OnOk, IsOk, IsErrAnd, Ok, ℕ, length, map};
-ghost use Rattle.cvss_base.specs.Version.{IsComplete};
-ghost use Rattle.cvss_v4.specs.Overriding.{AreOverrides, IsOverridden, Objection, HasNoObjectionBefore, IsFirstObjection, ReportsObjection, ReportsFirstObjection, override_error_text};
+ghost use Rattle.cvss_v4.specs.Overriding.{AreOverrides, Objection, HasNoObjectionBefore, IsFirstObjection, ReportsObjection, ReportsFirstObjection, override_error_text};
 ghost use Rattle.cvss_v4.specs.private.OverridingSteps.{IsPrintableFault, objection_of};
-ghost use Rattle.cvss_v4.specs.Vector.{v4};
 
 use crate::overrides::{OverrideFault, read_overrides};
 use crate::vector::Vector;
@@ -70,30 +67,6 @@ impl Vector {
         match read_overrides(overrides) {
             Ok(vector) => Ok(vector),
             Err((index, fault)) => Err(reported(alloc, index, fault)),
-        }
-    }
-
-    /// The vector with the environmental metrics of another where that has them. All else is kept.
-    pub fn overridden_by(&self, overrides: &Vector) -> Vector
-        ensures map { IsOverridden self.now overrides.now result }
-        ensures complete { IsComplete v4 self.now → IsComplete v4 result }
-    {
-        Vector {
-            cr: overrides.cr.or(self.cr),
-            ir: overrides.ir.or(self.ir),
-            ar: overrides.ar.or(self.ar),
-            mav: overrides.mav.or(self.mav),
-            mac: overrides.mac.or(self.mac),
-            mat: overrides.mat.or(self.mat),
-            mpr: overrides.mpr.or(self.mpr),
-            mui: overrides.mui.or(self.mui),
-            mvc: overrides.mvc.or(self.mvc),
-            mvi: overrides.mvi.or(self.mvi),
-            mva: overrides.mva.or(self.mva),
-            msc: overrides.msc.or(self.msc),
-            msi: overrides.msi.or(self.msi),
-            msa: overrides.msa.or(self.msa),
-            ..*self
         }
     }
 }

@@ -1,18 +1,32 @@
-//! How a vector is printed.
+//! How a vector is printed, and its metrics as a list.
 
 ghost use Rattle.std.specs.Prelude.{◌≡◌, ◌++◌, Some, codes};
 ghost use Rattle.std.specs.Fmt.{WritesOnOk};
+ghost use Rattle.cvss_base.specs.V4Types.{declared};
 ghost use Rattle.cvss_base.specs.Version.{numeral, canonical_text, version_piece};
+ghost use Rattle.cvss_text.specs.Listing.{listed_metrics, metrics_left};
 ghost use Rattle.cvss_v4.specs.Vector.{v4};
 
 use crate::each_metric;
 use crate::vector::Vector;
 use cvss_text::buffer::TextBuffer;
+use cvss_text::metrics::{self, Listed};
 use cvss_text::print::{Printed, write_components};
 use cvss_text::values::{shown_at, write_value};
 use cvss_text::{show_at, write_each};
 use cvss_v4_metric::MetricType;
 use std::fmt;
+
+/// The metrics that a vector has, each with the spelling of its value.
+pub type Metrics = metrics::Metrics<Vector>;
+
+impl Listed for Vector {
+    ghost order = { declared };
+
+    fn listed() -> &'static [MetricType] {
+        MetricType::all()
+    }
+}
 
 impl Printed for Vector {
     fn with_slash(&self, kind: MetricType) -> Option<&'static str> {
@@ -25,6 +39,13 @@ impl Printed for Vector {
 }
 
 impl Vector {
+    /// The type and the spelling of each metric that the vector has. It takes no memory.
+    pub fn metrics(&self) -> Metrics
+        ensures { metrics_left v4 declared result ≡ listed_metrics v4 self.now declared }
+    {
+        Metrics::of(self)
+    }
+
     /// Writes the piece that says the version.
     #[tactic(auto, using(cvss_text::proofs::NumeralLemmas::decimal_numeral))]
     fn write_version<W: fmt::Write>(&self, f: &mut fmt::Formatter<W>) -> fmt::Result

@@ -1,22 +1,25 @@
-//! How a vector is filled from its components.
+//! How a vector is read from a text, and the errors that say why a text is none.
 
 ghost use Rattle.std.specs.Prelude.{◌≡◌, true, ⊤};
-ghost use Rattle.cvss_base.specs.V4Types.{name_of};
+ghost use Rattle.cvss_base.specs.V4Types.{name_of, v4_reason};
 ghost use Rattle.cvss_text.specs.private.Walk.{HasNoValue, IsFilled, IsPut, elsewhere};
 ghost use Rattle.cvss_base.specs.Version.{read, reading};
 ghost use Rattle.cvss_v4_metric.specs.Table.{spelling_at};
 ghost use Rattle.cvss_v4.specs.Table.{value_at};
 ghost use Rattle.cvss_v4.specs.Vector.{v4};
-ghost use Rattle.cvss_v4.specs.private.Shown.{width};
+ghost use Rattle.cvss_v4.specs.private.TableLaws.{width};
 ghost use Rattle.cvss_v4.specs.private.VectorLaws.{v4_laws, v4_front_laws};
 
-use super::cutting::cut_named;
-use super::in_order::{begun_in_order, whole_in_order};
+use super::cutting::{named_by_one, named_by_three, named_by_two};
+use super::in_order::first_three_in_order;
 use crate::each_metric;
 use crate::laws::default_vectors_have_no_metric;
 use crate::vector::Vector;
+use cvss_base::Error;
 use cvss_text::front::Prefixed;
-use cvss_text::values::Spells;
+use cvss_text::in_order::{whole, with_others};
+use cvss_text::refusing::Refused;
+use cvss_text::values::{Spells, three_in_order, two_in_order};
 use cvss_text::walk::{ComponentError, Components};
 use cvss_text::{fill_at, kinds};
 use cvss_v4_metric::{MetricType, MetricValue};
@@ -45,19 +48,75 @@ impl Components for Vector {
         kind.name()
     }
 
+    // Most names have two letters, which are looked for first.
     #[inline(always)]
     fn cut(piece: &[u8]) -> Option<(MetricType, &[u8])> {
-        cut_named(piece)
+        match piece {
+            [first, second, b':', value @ ..] => Some((named_by_two(*first, *second)?, value)),
+            [letter, b':', value @ ..] => Some((named_by_one(*letter)?, value)),
+            [first, second, third, b':', value @ ..] => {
+                Some((named_by_three(*first, *second, *third)?, value))
+            }
+            _ => None,
+        }
     }
 
     #[inline(always)]
     fn whole_in_order(self, text: &[u8]) -> Option<Vector> {
-        whole_in_order(self, text)
+        // No eleven base metrics are shorter, so their lengths are compared once.
+        if text.len() < 54 {
+            return None;
+        }
+        let (av, ac, at, text) = first_three_in_order(text)?;
+        let (pr, ui, text) = two_in_order::<Vector, _, _>(text)?;
+        let (vc, vi, va, text) = three_in_order::<Vector, _, _, _>(text)?;
+        let (sc, si, sa, text) = three_in_order::<Vector, _, _, _>(text)?;
+        let base = Vector {
+            av: Some(av),
+            ac: Some(ac),
+            at: Some(at),
+            pr: Some(pr),
+            ui: Some(ui),
+            vc: Some(vc),
+            vi: Some(vi),
+            va: Some(va),
+            sc: Some(sc),
+            si: Some(si),
+            sa: Some(sa),
+            ..self
+        };
+        whole(base, text)
     }
 
-    #[inline(always)]
+    // Where not all are in order, the first five are read again: kept, they would cost the others more.
+    #[inline(never)]
     fn begun_in_order<'a>(self, text: &'a [u8]) -> Option<(Vector, &'a [u8])> {
-        begun_in_order(self, text)
+        let (av, ac, at, text) = first_three_in_order(text)?;
+        let (pr, ui, text) = two_in_order::<Vector, _, _>(text)?;
+        let begun = Vector {
+            av: Some(av),
+            ac: Some(ac),
+            at: Some(at),
+            pr: Some(pr),
+            ui: Some(ui),
+            ..self
+        };
+        let Some((vc, vi, va, rest)) = three_in_order::<Vector, _, _, _>(text) else {
+            return Some((begun, text));
+        };
+        let Some((sc, si, sa, rest)) = three_in_order::<Vector, _, _, _>(rest) else {
+            return Some((begun, text));
+        };
+        let base = Vector {
+            vc: Some(vc),
+            vi: Some(vi),
+            va: Some(va),
+            sc: Some(sc),
+            si: Some(si),
+            sa: Some(sa),
+            ..begun
+        };
+        Some(with_others(base, rest))
     }
 
     fn reported_kind(kind: MetricType) -> MetricType {
@@ -97,6 +156,22 @@ impl Prefixed for Vector {
         } else {
             None
         }
+    }
+}
+
+impl Refused for Vector {
+    ghost reason = { v4_reason };
+
+    fn invalid_metric(metric_type: MetricType, value: String) -> Error {
+        Error::InvalidMetricV4 { metric_type, value }
+    }
+
+    fn duplicate_metric(metric_type: MetricType) -> Error {
+        Error::DuplicateMetricV4 { metric_type }
+    }
+
+    fn missing_metric(metric_type: MetricType) -> Option<Error> {
+        Some(Error::MissingMandatoryMetricV4 { metric_type })
     }
 }
 

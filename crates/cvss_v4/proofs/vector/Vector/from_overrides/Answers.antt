@@ -1,17 +1,14 @@
-use Rattle.std.proofs.Common.{ℕ, List, map, Bor, ap, subst}
+use Rattle.std.proofs.Common.{ap, subst}
 use Rattle.std.specs.Prelude.{Ok}
 use Rattle.cvss_v4.specs.Overriding.{ReportsObjection}
 use Rattle.cvss_v4.specs.private.OverridingSteps.{objection_of}
 use Rattle.cvss_v4.proofs.OverridingLemmas.{one_overrides, no_objection_held, first_objections_same}
 use Rattle.cvss_v4.proofs.vector.Vector.from_overrides.Goals as goal
 
-abbrev texts_of : List (Bor (List ℕ)) → List (List ℕ)
-texts_of overrides = map (λ text. text.now) overrides
-
 pub returns-in-Ok-clause-given : goal.returns-in-Ok-clause-given
 returns-in-Ok-clause-given c = λ vector are version.
     let read = c.in-Ok.ensures in
-    ap Ok (one_overrides (texts_of c.args.overrides.now) c.in-Ok.vector vector read.version version read.accepted are)
+    ap Ok (one_overrides _ c.in-Ok.vector vector read.version version read.accepted are)
 
 pub returns-in-Ok-clause-refuses : goal.returns-in-Ok-clause-refuses
 returns-in-Ok-clause-refuses c = λ place objection is. absurd (c.in-Ok.ensures.faultless.none place objection is.within is.is)
@@ -19,7 +16,7 @@ returns-in-Ok-clause-refuses c = λ place objection is. absurd (c.in-Ok.ensures.
 pub returns-in-Err-clause-given : goal.returns-in-Err-clause-given
 returns-in-Err-clause-given c = λ vector are version.
     let is = c.in-Err.ensures.refused in
-    absurd (no_objection_held (texts_of c.args.overrides.now) vector c.in-Err.index are is.within _ is.is)
+    absurd (no_objection_held _ vector c.in-Err.index are is.within _ is.is)
 
 pub returns-in-Err-clause-refused : goal.returns-in-Err-clause-refused
 returns-in-Err-clause-refused c =
@@ -27,5 +24,5 @@ returns-in-Err-clause-refused c =
 
 pub returns-in-Err-clause-refuses : goal.returns-in-Err-clause-refuses
 returns-in-Err-clause-refuses c = λ place objection is.
-    let same = first_objections_same (texts_of c.args.overrides.now) c.in-Err.index place (objection_of c.in-Err.fault) objection c.in-Err.ensures.refused is in
+    let same = first_objections_same _ c.in-Err.index place (objection_of c.in-Err.fault) objection c.in-Err.ensures.refused is in
     subst (λ each. ReportsObjection each objection c.reported.result) same.0 (subst (λ each. ReportsObjection c.in-Err.index each c.reported.result) same.1 c.reported.ensures)

@@ -1,5 +1,14 @@
-use Rattle.cvss_v4.proofs.PartsLemmas.{complete_part}
+use Rattle.std.proofs.Common.{◌≡◌, true, refl}
+use Rattle.cvss_base.specs.declared.group.MetricGroup.TheVariants.{Base}
+use Rattle.cvss_score.specs.declared.v4.nomenclature.Nomenclature.{Nomenclature}
+use Rattle.cvss_score.specs.declared.v4.nomenclature.Nomenclature.TheVariants.{CvssB}
+use Rattle.cvss_v4.specs.Parts.{counts}
+use Rattle.cvss_v4.proofs.OverridingLemmas.{IsComplete-kept}
 use Rattle.cvss_v4.proofs.vector.Vector.part.Goals as goal
 
+base_counts : (nomenclature : Nomenclature) → counts nomenclature Base ≡ true
+base_counts = elim [ CvssB ↦ refl | _ ↦ refl ]
+
 pub returns-clause-complete : goal.returns-clause-complete
-returns-clause-complete c = complete_part c.args.nomenclature c.args.self.now _ c.counted_by.ensures.part
+returns-clause-complete c =
+    IsComplete-kept c.args.self.now _ (λ kind base. rw (base, base_counts c.args.nomenclature) at (c.counted_by.ensures.part.values kind))

@@ -2,7 +2,7 @@ use Rattle.std.proofs.Common.{arith}
 use Rattle.cvss_text.proofs.LawLemmas.{IsCut_at}
 use Rattle.cvss_v4.specs.Vector.{v4}
 use Rattle.cvss_v4.specs.private.VectorLaws.{v4_laws}
-use Rattle.cvss_v4.proofs.vector.cutting.cut_named.Goals as goal
+use Rattle.cvss_v4.proofs.vector.reading.VectorComponents.cut.Goals as goal
 
 pub returns-in_ok-named_by_two-in-58 : goal.returns-in_ok-named_by_two-in-58
 returns-in_ok-named_by_two-in-58 c = IsCut_at v4 v4_laws c.args.piece.now 2 _ (grind arith) c.in_ok-named_by_two-in-58.ensures
