@@ -1,27 +1,28 @@
 -- Overrides: the environmental metrics, and texts that are read one after another.
-use Rattle.std.proofs.Common.{◌≡◌, true, ℕ, ◌+◌, ◌<◌, ◌≤◌, All, List, [], ◌∷◌, ◌++◌, codes, length, IsSome, append_assoc, length-append, refl, sym, ap, ◌∙◌, subst, arith}
-use Rattle.std.proofs.lemmas.List.{get_or-append-add, get_or_append_left}
-use Rattle.std.proofs.lemmas.List.Elements.{filter_passes, All-contains, All-get_or, All-nil, All-push}
-use Rattle.cvss_base.specs.Refusal.{Refusal, piece_at}
-use Rattle.cvss_base.specs.Text.{name_part}
+use Rattle.std.proofs.Common.{◌≡◌, true, inl, inr, ℕ, ◌+◌, ◌<◌, ◌≤◌, List, [], ◌∷◌, ◌++◌, codes, length, take, IsSome, refl, sym, ap, ◌∙◌, subst, arith, length-append}
+use Rattle.std.proofs.lemmas.List.{get_or-take, length-take-le}
+use Rattle.std.proofs.lemmas.List.Elements.{filter_passes, All-contains}
+use Rattle.cvss_base.specs.Refusal.{BadComponent, piece_at}
+use Rattle.cvss_base.specs.Text.{IsComponent, name_part}
 use Rattle.cvss_base.specs.Groups.{same_group}
 use Rattle.cvss_base.specs.V4Types.{name_of, group_of, declared}
-use Rattle.cvss_base.specs.Version.{AreComponentsOf, numeral, read, version_piece, IsComplete}
+use Rattle.cvss_base.specs.Version.{numeral, read, version_piece, IsComplete}
 use Rattle.cvss_base.specs.declared.group.MetricGroup.{MetricGroup}
 use Rattle.cvss_base.specs.declared.group.MetricGroup.TheVariants.{Base, Environmental}
 use Rattle.cvss_base.specs.declared.v4.MetricType.{MetricType}
-use Rattle.cvss_text.specs.Setting.{AreRightBefore, IsFirstWrong}
-use Rattle.cvss_text.proofs.ComponentLemmas.{held_stands, name_from, piece_held, piece_is_component, value_from}
-use Rattle.cvss_text.proofs.DenotesLemmas.{vectors_same}
+use Rattle.cvss_text.specs.private.Walk.{HasNoValue, HasReadTo}
+use Rattle.cvss_text.proofs.ComponentLemmas.{all_taken, name_from, piece_held, piece_is_component}
+use Rattle.cvss_text.proofs.DenotesLemmas.{no_fault_before, vectors_same}
 use Rattle.cvss_text.proofs.LawLemmas.{names_differ}
 use Rattle.cvss_text.proofs.RefusalLemmas.{same_place}
-use Rattle.cvss_text.proofs.SettingLemmas.{right_held, wrongs_same}
+use Rattle.cvss_text.proofs.SettingLemmas.{IsFirstWrong-at, wrongs_same}
+use Rattle.cvss_text.proofs.WalkLemmas.{first_left, taken, HasReadTo-all, HasReadTo-more, HasReadTo-start}
 use Rattle.cvss_v4_metric.specs.Table.{mandatory}
-use Rattle.cvss_v4.specs.Overriding.{AreOverrides, HasNoObjectionBefore, IsFirstObjection, IsOfOtherGroup, Objection, OfOtherGroup, OfText, ObjectionAt}
-use Rattle.cvss_v4.specs.private.OverridingSteps.{HasNoOtherBefore, IsFirstOther}
+use Rattle.cvss_v4.specs.Overriding.{AreOverrides, HasNoObjectionBefore, IsEnvironmental, IsFirstObjection, IsOfOtherGroup, Objection, OfOtherGroup, OfText, ObjectionAt}
+use Rattle.cvss_v4.specs.private.OverridingSteps.{AddsOverride, IsObjectionTo}
 use Rattle.cvss_v4.specs.Table.{value_at}
 use Rattle.cvss_v4.specs.Vector.{v4}
-use Rattle.cvss_v4.specs.private.VectorLaws.{v4_laws}
+use Rattle.cvss_v4.specs.private.VectorLaws.{one_minor_version, v4_laws}
 use Rattle.cvss_v4.specs.declared.vector.Vector.{Vector}
 
 -- a text that names an environmental metric is of no other group
@@ -29,58 +30,9 @@ pub names_no_other : (kind : MetricType) (text : List ℕ) → name_of kind ≡ 
 names_no_other kind text named is other =
     other.other (subst (λ each. group_of each ≡ Environmental) (names_differ v4 v4_laws kind other.kind (named ∙ sym other.named)) is)
 
--- the texts before those that are left are of no other group
-pub record HasPassed (texts left : List (List ℕ)) : Type 0 where
-  pub before : List (List ℕ)
-  pub cut : texts ≡ before ++ left
-  pub none : All (λ text. ¬ (IsOfOtherGroup text)) before
-
-pub HasPassed-start : (texts : List (List ℕ)) → HasPassed texts texts
-HasPassed-start texts = record { before = []; cut = refl; none = All-nil (λ text. ¬ (IsOfOtherGroup text)) }
-
-module _ (texts left : List (List ℕ)) (passed : HasPassed texts left) where
-  none_before : HasNoOtherBefore texts (length passed.before)
-  none_before = record {
-    none = λ earlier below. subst (λ text. ¬ (IsOfOtherGroup text)) (sym (ap (λ list. piece_at list earlier) passed.cut ∙ get_or_append_left passed.before left [] earlier below)) (All-get_or (λ text. ¬ (IsOfOtherGroup text)) passed.before earlier [] below passed.none);
-  }
-
-  pub none_at_all : left ≡ [] → HasNoOtherBefore texts (length texts)
-  none_at_all none = subst (HasNoOtherBefore texts) (omega (arith, ap length passed.cut, ap length none, length-append passed.before left)) none_before
-
-  module _ (text : List ℕ) (after : List (List ℕ)) (next : left ≡ text ∷ after) where
-    pub HasPassed-more : ¬ (IsOfOtherGroup text) → HasPassed texts after
-    HasPassed-more none = record {
-      before = passed.before ++ text ∷ [];
-      cut = passed.cut ∙ ap (λ rest. passed.before ++ rest) next ∙ sym (append_assoc passed.before (text ∷ []) after);
-      none = All-push (λ text. ¬ (IsOfOtherGroup text)) passed.before text passed.none none;
-    }
-
-    pub IsFirstOther-here : (place : ℕ) → place + length left ≡ length texts → IsOfOtherGroup text → IsFirstOther texts place
-    IsFirstOther-here place at is =
-        let here : length passed.before ≡ place = omega (arith, at, ap length passed.cut, length-append passed.before left) in
-        subst (IsFirstOther texts) here (record {
-          within = omega (arith, here, at, ap length next);
-          is = subst IsOfOtherGroup (sym (ap (λ list. piece_at list (length passed.before)) (passed.cut ∙ ap (λ rest. passed.before ++ rest) next) ∙ ap (piece_at (passed.before ++ text ∷ after)) (omega arith) ∙ get_or-append-add passed.before (text ∷ after) 0 [])) is;
-          earlier = none_before;
-        })
-
 -- a group that is no other is the environmental one
 environmental : (group : MetricGroup) → ¬ (¬ (group ≡ Environmental)) → group ≡ Environmental
 environmental = elim [ Environmental ↦ λ not. refl | _ ↦ λ not. absurd (not (λ same. absurd cc)) ]
-
--- the components of a vector none of which is of another group are overrides
-pub AreOverrides-all : (texts : List (List ℕ)) (v : Vector) → AreComponentsOf v4 texts v → HasNoOtherBefore texts (length texts) → AreOverrides texts v
-AreOverrides-all texts v components none = record { components = components; environmental = record { each = each } } where
-  each : (kind : MetricType) → IsSome (value_at v kind) → group_of kind ≡ Environmental
-  each kind some =
-      let value = value_from (value_at v kind) some in
-      let at = held_stands v4 v4_laws v texts kind value.0 components value.1 in
-      environmental (group_of kind) (λ other. none.none at.place at.within (record {
-        component = piece_is_component v4 v4_laws v texts components at.place at.within;
-        kind = kind;
-        named = sym (name_from v4 v4_laws (piece_at texts at.place) kind _ at.is);
-        other = other;
-      }))
 
 -- texts are the overrides of one vector with minor version 0
 pub one_overrides : (texts : List (List ℕ)) (v w : Vector) → v.minor_version ≡ 0 → w.minor_version ≡ 0 → AreOverrides texts v → AreOverrides texts w → v ≡ w
@@ -88,39 +40,73 @@ one_overrides texts v w of_v of_w are_v are_w =
     let front : v4.front v ≡ v4.front w = ap (λ n. version_piece (codes "4." ++ numeral n) ∷ []) (of_v ∙ sym of_w) in
     vectors_same v4 v4_laws v w texts front are_v.components are_w.components
 
+-- nothing is wrong with the first texts, where they are a vector of environmental metrics
+no_objection_taken : (texts : List (List ℕ)) (v : Vector) (n : ℕ) → n ≤ length texts → AreOverrides (take n texts) v → HasNoObjectionBefore texts n
+no_objection_taken texts v n fits are = record { none = none } where
+  inside : (earlier : ℕ) → earlier < n → earlier < length (take n texts)
+  inside earlier below = omega (arith, below, length-take-le n texts fits)
+
+  none : (earlier : ℕ) (objection : Objection) → earlier < n → ObjectionAt texts earlier objection → ⊥
+  none earlier OfOtherGroup below is =
+      let held = piece_held v4 v4_laws v (take n texts) earlier are.components (inside earlier below) in
+      names_no_other held.kind (piece_at (take n texts) earlier) (sym (name_from v4 v4_laws (piece_at (take n texts) earlier) held.kind _ held.is)) (are.environmental.each held.kind (rw held.held)) (subst IsOfOtherGroup (sym (get_or-take n texts earlier [] below)) is)
+  none earlier (OfText (BadComponent piece)) below is =
+      is.1.1 (subst IsComponent (get_or-take n texts earlier [] below) (piece_is_component v4 v4_laws v (take n texts) are.components earlier (inside earlier below)))
+  none earlier (OfText reason) below is = (no_fault_before v4 v4_laws v texts n fits are.components).none earlier reason below is.1.1
+
 -- nothing is wrong with overrides
-pub no_objection_held : (texts : List (List ℕ)) (v : Vector) (place : ℕ) → AreOverrides texts v → place < length texts → (objection : Objection) → ObjectionAt texts place objection → ⊥
-no_objection_held texts v place are within OfOtherGroup is =
-    let held = piece_held v4 v4_laws v texts place are.components within in
-    names_no_other held.kind (piece_at texts place) (sym (name_from v4 v4_laws (piece_at texts place) held.kind _ held.is)) (are.environmental.each held.kind (rw held.held)) is
-no_objection_held texts v place are within (OfText reason) is = right_held v4 v4_laws v texts place are.components within reason is.1
+pub no_objection_held : (texts : List (List ℕ)) (v : Vector) → AreOverrides texts v → HasNoObjectionBefore texts (length texts)
+no_objection_held texts v are =
+    no_objection_taken texts v (length texts) (omega arith) (record { components = all_taken v4 v texts are.components; environmental = are.environmental })
 
 pub no_overrides : (texts : List (List ℕ)) (place : ℕ) (objection : Objection) → IsFirstObjection texts place objection → (v : Vector) → ¬ (AreOverrides texts v)
-no_overrides texts place objection first v are = no_objection_held texts v place are first.within objection first.is
+no_overrides texts place objection first v are = (no_objection_held texts v are).none place objection first.within first.is
 
-module _ (texts : List (List ℕ)) (place : ℕ) where
-  -- nothing is wrong with texts that are right as components, none of which is of another group
-  pub HasNoObjectionBefore-both : HasNoOtherBefore texts place → AreRightBefore v4 texts place → HasNoObjectionBefore texts place
-  HasNoObjectionBefore-both none right = record { none = each } where
-    each : (earlier : ℕ) (objection : Objection) → earlier < place → ¬ (ObjectionAt texts earlier objection)
-    each earlier OfOtherGroup below is = none.none earlier below is
-    each earlier (OfText reason) below is = right.none earlier reason below is.1
+-- the vector has minor version 0 and holds the overrides before those that are left
+pub record HasReadOverrides (texts left : List (List ℕ)) (v : Vector) : Type 0 where
+  pub version : v.minor_version ≡ 0
+  pub read : HasReadTo v4 texts left v
+  pub environmental : IsEnvironmental v
 
-  -- the first text of another group, where nothing else is wrong before it
-  pub IsFirstObjection-other : (wrong : ℕ) → AreRightBefore v4 texts wrong → place ≤ wrong → IsFirstOther texts place → IsFirstObjection texts place OfOtherGroup
-  IsFirstObjection-other wrong right before first = record {
-    within = first.within;
-    is = first.is;
-    earlier = HasNoObjectionBefore-both first.earlier (record { none = λ earlier reason below. right.none earlier reason (omega (arith, below, before)) });
-  }
+pub HasReadOverrides-start : (texts : List (List ℕ)) (v : Vector) → v.minor_version ≡ 0 → HasNoValue v4 v → HasReadOverrides texts texts v
+HasReadOverrides-start texts v version empty = record {
+  version = version;
+  read = HasReadTo-start v4 v4_laws texts v empty;
+  environmental = record { each = λ kind some. let no = subst IsSome (empty.none kind) some in absurd cc };
+}
 
-  -- the first text with which something else is wrong, where none up to it is of another group
-  pub IsFirstObjection-wrong : (other : ℕ) (reason : Refusal MetricType) → HasNoOtherBefore texts other → place < other → IsFirstWrong v4 texts place reason → IsFirstObjection texts place (OfText reason)
-  IsFirstObjection-wrong other reason none below first = record {
-    within = first.within;
-    is = (none.none place below, first.is);
-    earlier = HasNoObjectionBefore-both (record { none = λ earlier before. none.none earlier (omega (arith, before, below)) }) first.earlier;
-  }
+module _ (texts left : List (List ℕ)) (v : Vector) (before : HasReadOverrides texts left v) where
+  pub AreOverrides-all : left ≡ [] → AreOverrides texts v
+  AreOverrides-all none = record { components = HasReadTo-all v4 v4_laws texts left v before.read none; environmental = before.environmental }
+
+  module _ (text : List ℕ) (after : List (List ℕ)) (next : left ≡ text ∷ after) where
+    pub HasReadOverrides-more : (new : Vector) → AddsOverride v text new → HasReadOverrides texts after new
+    HasReadOverrides-more new is =
+        let adds = is.adds in
+        let here = environmental (group_of adds.kind) (λ other. is.none (record { component = is.component; kind = adds.kind; named = adds.named; other = other })) in
+        record {
+          version = one_minor_version new v adds.puts.front ∙ before.version;
+          read = HasReadTo-more v4 v4_laws texts left v before.read new text after next adds;
+          environmental = record { each = λ kind some. elim (adds.puts.others kind) [ inl same ↦ subst (λ each. group_of each ≡ Environmental) (sym same) here | inr same ↦ before.environmental.each kind (subst IsSome same some) ] };
+        }
+
+    -- what is wrong with the next text is the first that is
+    pub IsFirstObjection-next : (place : ℕ) → place + length left ≡ length texts → (objection : Objection) → IsObjectionTo v text objection → IsFirstObjection texts place objection
+    IsFirstObjection-next place at objection is = record { within = omega (arith, at, ap length next); is = objection_at objection is; earlier = earlier } where
+      at_place : length before.read.before ≡ place
+      at_place = omega (arith, at, ap length before.read.cut, length-append before.read.before left)
+
+      here : text ≡ piece_at texts place
+      here = ap (λ list. piece_at list 0) (sym next) ∙ first_left v4 v4_laws texts left v before.read ∙ ap (piece_at texts) at_place
+
+      objection_at : (objection : Objection) → IsObjectionTo v text objection → ObjectionAt texts place objection
+      objection_at OfOtherGroup is = subst IsOfOtherGroup here is
+      objection_at (OfText reason) is = (subst (λ each. ¬ (IsOfOtherGroup each)) here is.0, (IsFirstWrong-at v4 v4_laws texts left v before.read place at text after next reason is.1).is)
+
+      earlier : HasNoObjectionBefore texts place
+      earlier =
+          subst (HasNoObjectionBefore texts) at_place
+          (no_objection_taken texts v (length before.read.before) (omega (arith, at, at_place)) (record { components = taken v4 v4_laws texts left v before.read; environmental = before.environmental }))
 
 -- one objection at a place
 objections_same : (texts : List (List ℕ)) (place : ℕ) (one other : Objection) → ObjectionAt texts place one → ObjectionAt texts place other → one ≡ other

@@ -1,17 +1,17 @@
 //! How the texts of environmental metrics are read. It takes no memory: a fault borrows the part of
 //! the text that it names.
 
-ghost use Rattle.std.specs.Prelude.{◌≡◌, ◌↔◌, IsTrue, IfOk, IfErr, IsOk, OnOk, MatchOption, length};
+ghost use Rattle.std.specs.Prelude.{◌≡◌, ◌↔◌, IsTrue, IfOk, IfErr, IsOk, OnOk, IsUtf8, length};
+ghost use Rattle.cvss_base.specs.Text.{IsComponent};
 ghost use Rattle.cvss_v4.specs.Overriding.{AreOverrides, HasNoObjectionBefore, IsFirstObjection, IsOfOtherGroup};
-ghost use Rattle.cvss_v4.specs.private.OverridingSteps.{HasNoOtherBefore, IsFirstOther, IsPrintableFault, objection_of};
+ghost use Rattle.cvss_v4.specs.private.OverridingSteps.{AddsOverride, IsObjectionTo, IsPrintableFault, objection_of};
 
 use crate::vector::Vector;
 use cvss_base::MetricGroup;
 use cvss_text::cutting::cut_component;
 use cvss_text::pieces::is_component;
-use cvss_text::setting::read_given;
 use cvss_text::texts::Texts;
-use cvss_text::walk::Fault;
+use cvss_text::walk::{Fault, read_component};
 use cvss_v4_metric::MetricType;
 
 /// Why a text is no override, with the part of the text that is at fault.
@@ -35,49 +35,43 @@ pub fn read_overrides<'a, T: Texts<'a>>(texts: T) -> Result<Vector, (usize, Over
         (λ refused. IsFirstObjection (T.texts texts) refused.0 (objection_of refused.1)) }
     ensures printable { T.are_utf8 → IfErr result (λ refused. IsPrintableFault refused.1) }
 {
-    let read = read_given(texts, Vector::empty());
-    let Some(other) = first_of_other_group(texts) else {
-        return match read {
-            Ok(vector) => Ok(vector),
-            Err((index, fault)) => Err((index, OverrideFault::Component(fault))),
-        };
-    };
-    match read {
-        Ok(_) => Err((other, OverrideFault::OtherGroup)),
-        Err((index, fault)) => {
-            if index < other {
-                Err((index, OverrideFault::Component(fault)))
-            } else {
-                Err((other, OverrideFault::OtherGroup))
-            }
-        }
-    }
-}
-
-/// The index of the first text that is a component of a metric of another group.
-fn first_of_other_group<'a, T: Texts<'a>>(texts: T) -> Option<usize>
-    ensures { MatchOption result (HasNoOtherBefore (T.texts texts) (length (T.texts texts)))
-        (IsFirstOther (T.texts texts)) }
-{
+    let mut given = Vector::empty();
     let mut left = texts;
     while let Some(cut) = left.first_text() {
         let (text, after) = cut;
-        if is_of_other_group(text) {
-            return Some(texts.count() - left.count());
+        if let Err(fault) = read_override(text, &mut given) {
+            return Err((texts.count() - left.count(), fault));
         }
         left = after;
     }
-    None
+    Ok(given)
 }
 
-/// Whether the text is a component of a metric of another group.
-fn is_of_other_group(text: &[u8]) -> bool
-    ensures { IsTrue result ↔ IsOfOtherGroup text.now }
+/// Reads one override into the vector that holds those before it.
+fn read_override<'a>(text: &'a [u8], given: &mut Vector) -> Result<(), OverrideFault<'a>>
+    ensures read { OnOk result (AddsOverride given.old text.now given.new) }
+    ensures refused { IfErr result
+        (λ fault. IsObjectionTo given.old text.now (objection_of fault)) }
+    ensures printable { IsUtf8 text.now → IfErr result IsPrintableFault }
 {
     if !is_component(text) {
-        return false;
+        return Err(OverrideFault::Component(Fault::InvalidComponent(text)));
     }
-    match cut_component::<Vector>(text) {
+    if is_of_other_group(text) {
+        return Err(OverrideFault::OtherGroup);
+    }
+    match read_component(text, given) {
+        Ok(()) => Ok(()),
+        Err(fault) => Err(OverrideFault::Component(fault)),
+    }
+}
+
+/// Whether the component is of a metric of another group.
+fn is_of_other_group(component: &[u8]) -> bool
+    requires { IsComponent component.now }
+    ensures { IsTrue result ↔ IsOfOtherGroup component.now }
+{
+    match cut_component::<Vector>(component) {
         Ok((kind, _)) => !matches!(kind.group(), MetricGroup::Environmental),
         Err(_) => false,
     }

@@ -1,21 +1,24 @@
 -- What the private code that reads overrides does at each step. No public clause cites it.
-use Rattle.std.specs.Prelude.{ℕ, ◌<◌, List, length, ⊤}
-use Rattle.cvss_base.specs.Refusal.{piece_at}
-use Rattle.cvss_text.specs.private.Walk.{IsPrintable, reason_of}
+use Rattle.std.specs.Prelude.{ℕ, List, ⊤}
+use Rattle.cvss_base.specs.Text.{IsComponent}
+use Rattle.cvss_text.specs.private.SettingSteps.{IsWrongFor}
+use Rattle.cvss_text.specs.private.Walk.{Adds, IsPrintable, reason_of}
 use Rattle.cvss_v4.specs.Overriding.{IsOfOtherGroup, Objection, OfOtherGroup, OfText}
 use Rattle.cvss_v4.specs.Vector.{v4}
+use Rattle.cvss_v4.specs.declared.vector.Vector.{Vector}
 use Rattle.cvss_v4.specs.declared.overrides.OverrideFault.{OverrideFault}
 use Rattle.cvss_v4.specs.declared.overrides.OverrideFault.TheVariants.{OtherGroup, Component}
 
--- no text before this place is of another group
-pub record HasNoOtherBefore (texts : List (List ℕ)) (place : ℕ) : Type 0 where
-  pub none : (earlier : ℕ) → earlier < place → ¬ (IsOfOtherGroup (piece_at texts earlier))
+-- the text, which is of no other group, goes into the vector
+pub record AddsOverride (old : Vector) (text : List ℕ) (new : Vector) : Type 0 where
+  pub component : IsComponent text
+  pub none : ¬ (IsOfOtherGroup text)
+  pub adds : Adds v4 old text new
 
--- the first text that is of another group
-pub record IsFirstOther (texts : List (List ℕ)) (place : ℕ) : Type 0 where
-  pub within : place < length texts
-  pub is : IsOfOtherGroup (piece_at texts place)
-  pub earlier : HasNoOtherBefore texts place
+-- what is wrong with a text, where the vector holds those before it
+abbrev pub IsObjectionTo : Vector → List ℕ → Objection → Type 0
+IsObjectionTo v text OfOtherGroup = IsOfOtherGroup text
+IsObjectionTo v text (OfText reason) = ¬ (IsOfOtherGroup text) × IsWrongFor v4 v text reason
 
 -- the objection that a fault stands for
 abbrev pub objection_of : OverrideFault → Objection

@@ -1,47 +1,34 @@
-use Rattle.std.proofs.Common.{◌∙◌, arith}
-use Rattle.cvss_text.specs.private.Walk.{reason_of}
-use Rattle.cvss_text.proofs.SettingLemmas.{right_all}
-use Rattle.cvss_v4.specs.Vector.{v4}
-use Rattle.cvss_v4.specs.private.VectorLaws.{one_minor_version, v4_laws}
-use Rattle.cvss_v4.proofs.OverridingLemmas.{AreOverrides-all, HasNoObjectionBefore-both, IsFirstObjection-other, IsFirstObjection-wrong, no_overrides}
+use Rattle.std.proofs.Common.{ap, arith, length, length-append}
+use Rattle.cvss_v4.specs.private.OverridingSteps.{objection_of}
+use Rattle.cvss_v4.proofs.OverridingLemmas.{AreOverrides-all, HasReadOverrides-more, HasReadOverrides-start, IsFirstObjection-next, no_objection_held, no_overrides}
 use Rattle.cvss_v4.proofs.overrides.read_overrides.Goals as goal
 
-pub returns-in-Ok-clause-accepted : goal.returns-in-Ok-clause-accepted
-returns-in-Ok-clause-accepted g c = AreOverrides-all (g.T.Texts.texts c.args.texts) c.in-Ok.vector c.in-Ok.ensures.components c.in_default.ensures
+pub loop-cut-init : goal.loop-cut-init
+loop-cut-init g c = HasReadOverrides-start (g.T.Texts.texts c.args.texts) c.empty-given.result c.empty-given.ensures.version c.empty-given.ensures.valueless
 
-pub returns-in-Ok-clause-version : goal.returns-in-Ok-clause-version
-returns-in-Ok-clause-version g c = one_minor_version c.in-Ok.vector c.empty.result c.in-Ok.ensures.front ∙ c.empty.ensures.version
-
-pub returns-in-Ok-clause-faultless : goal.returns-in-Ok-clause-faultless
-returns-in-Ok-clause-faultless g c =
-    HasNoObjectionBefore-both (g.T.Texts.texts c.args.texts) _ c.in_default.ensures (right_all v4 v4_laws c.in-Ok.vector (g.T.Texts.texts c.args.texts) c.in-Ok.ensures.components)
+pub loop-cut-preserved : goal.loop-cut-preserved
+loop-cut-preserved g c =
+    HasReadOverrides-more (g.T.Texts.texts c.args.texts) _ c.loop-cut.given c.loop-cut.invariant c.in-Some.cut.0.now _ c.in-Some.ensures.cut c.read_override.new.given c.in_default-read_override.ensures.read
 
 pub returns-in-Err-clause-refused : goal.returns-in-Err-clause-refused
 returns-in-Err-clause-refused g c =
-    let wrong = c.in-Err.ensures.refused in
-    IsFirstObjection-wrong (g.T.Texts.texts c.args.texts) c.in-Err.index _ (reason_of v4 c.in-Err.fault) c.in_default.ensures wrong.within wrong
+    let texts = g.T.Texts.texts c.args.texts in
+    let read = c.loop-cut.invariant.read in
+    IsFirstObjection-next texts _ c.loop-cut.given c.loop-cut.invariant c.in-Some.cut.0.now _ c.in-Some.ensures.cut _
+    (omega (arith, c.count.ensures, c.count-in-Err.ensures, ap length read.cut, length-append read.before (g.T.Texts.texts c.loop-cut.left)))
+    (objection_of c.in-Err.fault) c.in-Err.ensures.refused
 
 pub returns-in-Err-clause-accepts : goal.returns-in-Err-clause-accepts
 returns-in-Err-clause-accepts g c = λ vector are. absurd (no_overrides _ _ _ (returns-in-Err-clause-refused g c) vector are)
 
-pub returns-in-Ok-read-clause-refused : goal.returns-in-Ok-read-clause-refused
-returns-in-Ok-read-clause-refused g c =
-    let first = c.in-Some.ensures in
-    IsFirstObjection-other (g.T.Texts.texts c.args.texts) c.in-Some.other _ (right_all v4 v4_laws c.in-Ok-read.field-0 (g.T.Texts.texts c.args.texts) c.in-Ok-read.ensures.components) (omega (arith, first.within)) first
+pub returns-in-Err-clause-printable : goal.returns-in-Err-clause-printable
+returns-in-Err-clause-printable g c = λ is. c.in-Err.ensures.printable (c.in-Some.ensures.utf8 is)
 
-pub returns-in-Ok-read-clause-accepts : goal.returns-in-Ok-read-clause-accepts
-returns-in-Ok-read-clause-accepts g c = λ vector are. absurd (no_overrides _ _ _ (returns-in-Ok-read-clause-refused g c) vector are)
+pub returns-clause-accepted : goal.returns-clause-accepted
+returns-clause-accepted g c = AreOverrides-all (g.T.Texts.texts c.args.texts) _ c.loop-cut.given c.loop-cut.invariant c.in_default.ensures.cut
 
-pub returns-then-index-other-clause-refused : goal.returns-then-index-other-clause-refused
-returns-then-index-other-clause-refused g c =
-    IsFirstObjection-wrong (g.T.Texts.texts c.args.texts) c.in-Err-read.index _ (reason_of v4 c.in-Err-read.fault) c.in-Some.ensures.earlier c.if-index-other.true c.in-Err-read.ensures.refused
+pub returns-clause-version : goal.returns-clause-version
+returns-clause-version g c = c.loop-cut.invariant.version
 
-pub returns-then-index-other-clause-accepts : goal.returns-then-index-other-clause-accepts
-returns-then-index-other-clause-accepts g c = λ vector are. absurd (no_overrides _ _ _ (returns-then-index-other-clause-refused g c) vector are)
-
-pub returns-else-index-other-clause-refused : goal.returns-else-index-other-clause-refused
-returns-else-index-other-clause-refused g c =
-    IsFirstObjection-other (g.T.Texts.texts c.args.texts) c.in-Some.other _ c.in-Err-read.ensures.refused.earlier (omega (arith, c.if-index-other.false)) c.in-Some.ensures
-
-pub returns-else-index-other-clause-accepts : goal.returns-else-index-other-clause-accepts
-returns-else-index-other-clause-accepts g c = λ vector are. absurd (no_overrides _ _ _ (returns-else-index-other-clause-refused g c) vector are)
+pub returns-clause-faultless : goal.returns-clause-faultless
+returns-clause-faultless g c = no_objection_held (g.T.Texts.texts c.args.texts) c.loop-cut.given (returns-clause-accepted g c)

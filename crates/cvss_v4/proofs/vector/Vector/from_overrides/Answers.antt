@@ -16,7 +16,7 @@ returns-in-Ok-clause-refuses c = λ place objection is. absurd (c.in-Ok.ensures.
 pub returns-in-Err-clause-given : goal.returns-in-Err-clause-given
 returns-in-Err-clause-given c = λ vector are version.
     let is = c.in-Err.ensures.refused in
-    absurd (no_objection_held _ vector c.in-Err.index are is.within _ is.is)
+    absurd ((no_objection_held _ vector are).none c.in-Err.index _ is.within is.is)
 
 pub returns-in-Err-clause-refused : goal.returns-in-Err-clause-refused
 returns-in-Err-clause-refused c =
