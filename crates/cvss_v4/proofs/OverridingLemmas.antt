@@ -1,5 +1,5 @@
 -- Overrides: the environmental metrics, and texts that are read one after another.
-use Rattle.std.proofs.Common.{◌≡◌, true, inl, inr, ℕ, ◌+◌, ◌<◌, ◌≤◌, List, [], ◌∷◌, ◌++◌, codes, length, take, IsSome, refl, sym, ap, ◌∙◌, subst, arith, length-append}
+use Rattle.std.proofs.Common.{◌≡◌, true, inl, inr, ℕ, ◌+◌, ◌-◌, ◌<◌, ◌≤◌, List, [], ◌∷◌, ◌++◌, codes, length, take, IsSome, refl, sym, ap, ◌∙◌, subst, arith, length-append}
 use Rattle.std.proofs.lemmas.List.{get_or-take, length-take-le}
 use Rattle.std.proofs.lemmas.List.Elements.{filter_passes, All-contains}
 use Rattle.cvss_base.specs.Refusal.{BadComponent, piece_at}
@@ -10,6 +10,7 @@ use Rattle.cvss_base.specs.Version.{numeral, read, version_piece, IsComplete}
 use Rattle.cvss_base.specs.declared.group.MetricGroup.{MetricGroup}
 use Rattle.cvss_base.specs.declared.group.MetricGroup.TheVariants.{Base, Environmental}
 use Rattle.cvss_base.specs.declared.v4.MetricType.{MetricType}
+use Rattle.cvss_text.specs.Setting.{IsWrongAt}
 use Rattle.cvss_text.specs.private.Walk.{HasNoValue, HasReadTo}
 use Rattle.cvss_text.proofs.ComponentLemmas.{all_taken, name_from, piece_held, piece_is_component}
 use Rattle.cvss_text.proofs.DenotesLemmas.{no_fault_before, vectors_same}
@@ -99,9 +100,12 @@ module _ (texts left : List (List ℕ)) (v : Vector) (before : HasReadOverrides 
       here : text ≡ piece_at texts place
       here = ap (λ list. piece_at list 0) (sym next) ∙ first_left v4 v4_laws texts left v before.read ∙ ap (piece_at texts) at_place
 
+      at_same : length texts - length left ≡ place
+      at_same = omega (arith, at)
+
       objection_at : (objection : Objection) → IsObjectionTo v text objection → ObjectionAt texts place objection
       objection_at OfOtherGroup is = subst IsOfOtherGroup here is
-      objection_at (OfText reason) is = (subst (λ each. ¬ (IsOfOtherGroup each)) here is.0, (IsFirstWrong-at v4 v4_laws texts left v before.read place at text after next reason is.1).is)
+      objection_at (OfText reason) is = (subst (λ each. ¬ (IsOfOtherGroup each)) here is.0, subst (λ n. IsWrongAt v4 texts n reason) at_same (IsFirstWrong-at v4 v4_laws texts left v before.read (length texts) (length left) refl refl text after next reason is.1).is)
 
       earlier : HasNoObjectionBefore texts place
       earlier =
