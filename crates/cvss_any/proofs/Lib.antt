@@ -1,4 +1,3 @@
 pub mod ErrorLemmas
 pub mod ReadLemmas
-pub mod RouteLemmas
 mod SettingLemmas

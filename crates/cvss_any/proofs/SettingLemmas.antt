@@ -1,6 +1,6 @@
 -- What is answered of a vector of any version, from what its version answers, where metrics are set; and a vector that is
 -- built is what the text of its version and its components denotes.
-use Rattle.std.proofs.Common.{◌≡◌, ℕ, ◌≤◌, List, Option, IfSome, Ok, Err, length, refl, sym, ap, ◌∙◌, subst, arith, ◌≢◌, false, [], ◌∷◌, ◌++◌, codes, length-append, lit<, Contains}
+use Rattle.std.proofs.Common.{◌≡◌, ℕ, ◌≤◌, List, Option, IfSome, Ok, Err, length, refl, sym, ap, ◌∙◌, subst, arith, false, [], ◌∷◌, ◌++◌, codes, length-append, lit<, Contains}
 use Rattle.std.proofs.lemmas.Option.{IfSome_then}
 use Rattle.cvss_base.specs.V4Types.{most_metrics}
 use Rattle.cvss_base.specs.Refusal.{Refusal}
@@ -12,7 +12,7 @@ use Rattle.cvss_any.specs.Dispatch.{IsReasonOf, wrapped, DenotesCvss, DenotesV3}
 use Rattle.cvss_any.specs.Refusals.{refusal_of}
 use Rattle.cvss_any.specs.Answers.{HasScore}
 use Rattle.cvss_any.specs.Setting.{IsOf, IsWith, IsBuiltAs, text_with}
-use Rattle.cvss_any.specs.private.SettingSteps.{IsAnsweredBy}
+use Rattle.cvss_any.specs.private.{IsAnsweredBy, front_of}
 use Rattle.cvss_any.specs.declared.metric_type.MetricType.{MetricType}
 use Rattle.cvss_any.specs.declared.setting.SetError.{SetError}
 use Rattle.cvss_any.specs.declared.vector.Cvss.{Cvss}
@@ -23,16 +23,13 @@ use Rattle.cvss_v4.specs.Vector.{v4}
 use Rattle.cvss_v4.specs.private.VectorLaws.{v4_laws}
 use Rattle.cvss_base.specs.Text.{has, pieces, slash}
 use Rattle.cvss_base.specs.Version as base
-use Rattle.cvss_any.specs.private.Versions.{front_of}
 use Rattle.cvss_any.specs.declared.setting.Version.{Version}
 use Rattle.cvss_any.specs.declared.setting.Version.TheVariants.{V20, V30, V31, V40}
-use Rattle.cvss_any.proofs.ReadLemmas.{scored}
-use Rattle.cvss_any.proofs.RouteLemmas.{same_minor}
+use Rattle.cvss_any.proofs.ReadLemmas.{same_minor, scored}
 use Rattle.cvss_text.proofs.PieceLemmas.{pieces_after}
 use Rattle.cvss_text.proofs.FrontLemmas.{Denotes-pieces}
 use Rattle.cvss_v2.specs.Vector.{v2}
 use Rattle.cvss_v3.specs.Vector.{v3}
-use Rattle.cvss_v3.specs.declared.vector.Vector as vector_v3
 
 module _ {V K : Type 0} {version : base.Version V K} {IsIt : V → Type 0} {IsReason : Option ℕ → Refusal K → Type 0} (wrap : V → Cvss) (of_any : K → MetricType) where
   pub answered_ok : (v : V) → IsAnswered version IsIt IsReason (Ok v) → IsAnsweredBy (IsOf wrap IsIt) (λ index. IsReasonOf of_any (IsReason index)) (Ok (wrap v))
@@ -65,15 +62,12 @@ denoted_after : {V K : Type 0} (version : base.Version V K) (text : List ℕ) (v
 denoted_after version text v reported plain built =
     Denotes-pieces version (version_piece reported ++ slash ∷ text) (version_piece reported ∷ []) (pieces text) (pieces_after (version_piece reported) text plain) v built.front_is built.components
 
-longer : (piece text : List ℕ) → piece ++ slash ∷ text ≢ piece
-longer piece text same = omega (arith, ap length same, length-append piece (slash ∷ text))
-
-built_v3 : (minor : ℕ) (text : List ℕ) (v : vector_v3.Vector) → Contains v3.supported (codes "3." ++ numeral minor) → has slash (version_piece (codes "3." ++ numeral minor)) ≡ false → IsBuilt v3 (front_of (codes "3.") minor) (pieces text) v → DenotesV3 (version_piece (codes "3." ++ numeral minor) ++ slash ∷ text) (version_piece (codes "3." ++ numeral minor)) minor v
+built_v3 : (minor : ℕ) (text : List ℕ) (v : _) → Contains v3.supported (codes "3." ++ numeral minor) → has slash (version_piece (codes "3." ++ numeral minor)) ≡ false → IsBuilt v3 (front_of (codes "3.") minor) (pieces text) v → DenotesV3 (version_piece (codes "3." ++ numeral minor) ++ slash ∷ text) (version_piece (codes "3." ++ numeral minor)) minor v
 built_v3 minor text v supported plain built = record {
   denoted = denoted_after v3 text v (codes "3." ++ numeral minor) plain built;
   well_formed = record { complete = built.complete; supported = record { reported = codes "3." ++ numeral minor; front_is = built.front_is; supported = supported } };
   version = same_minor v.minor_version minor [] [] built.front_is;
-  more = longer (version_piece (codes "3." ++ numeral minor)) text;
+  more = λ same. omega (arith, ap length same, length-append (version_piece (codes "3." ++ numeral minor)) (slash ∷ text));
 }
 
 pub denoted_built : (version : Version) (new : Cvss) (text : List ℕ) → IsBuiltAs version text new → DenotesCvss (text_with version text) new

@@ -48,20 +48,11 @@ pub record IsMissingError (allow_incomplete : Bool) (text : List ℕ) (error : R
 abbrev pub IsReadErrorBy : Bool → List ℕ → ReadError → Type 0
 IsReadErrorBy allow_incomplete text error = IsReadError text error ⊎ IsMissingError allow_incomplete text error
 
--- what is published of the vector that a text denotes is appended, where this is what is written of a canonical text
-pub record IsPublishedOnto (accepted : List ℕ → Published → List ℕ) (allow_incomplete : Bool) (text old new : List ℕ) : Type 0 where
-  pub canonical : List ℕ
-  pub published : Published
-  pub is : IsPublishedBy allow_incomplete text canonical published
-  pub appended : new ≡ old ++ accepted canonical published
-
--- an error that is right is appended, where this is what is written of an error
-pub record IsRejectedOnto (rejected : ReadError → List ℕ) (allow_incomplete : Bool) (text old new : List ℕ) : Type 0 where
-  pub error : ReadError
-  pub is : IsReadErrorBy allow_incomplete text error
-  pub appended : new ≡ old ++ rejected error
-
--- what is appended where a text is published, and where it is rejected
+-- what is appended: what is written of the canonical text and of what is published of the vector that the text denotes, or
+-- of an error that is right
 abbrev pub IsPublishedTo : (List ℕ → Published → List ℕ) → (ReadError → List ℕ) → Bool → List ℕ → List ℕ → Bool → List ℕ → Type 0
-IsPublishedTo accepted rejected allow_incomplete text old true new = IsPublishedOnto accepted allow_incomplete text old new
-IsPublishedTo accepted rejected allow_incomplete text old false new = IsRejectedOnto rejected allow_incomplete text old new
+IsPublishedTo accepted rejected allow_incomplete text old true new =
+    (canonical : List ℕ) × (published : Published) × IsPublishedBy allow_incomplete text canonical published
+    × (new ≡ old ++ accepted canonical published)
+IsPublishedTo accepted rejected allow_incomplete text old false new =
+    (error : ReadError) × IsReadErrorBy allow_incomplete text error × (new ≡ old ++ rejected error)

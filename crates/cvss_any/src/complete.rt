@@ -1,9 +1,14 @@
-//! Which base metrics a vector lacks. Only a vector of CVSS v3 that was read from a text may lack some.
+//! Which base metrics a vector lacks, and vectors that may have to have all. Only a vector of CVSS v3 that
+//! was read from a text may lack some.
 
-ghost use Rattle.std.specs.Prelude.{◌≡◌};
-ghost use Rattle.cvss_any.specs.Complete.{first_missing, missing_by};
+ghost use Rattle.std.specs.Prelude.{◌≡◌, IfErr, IfOk, IsUtf8, None, OnOk};
+ghost use Rattle.cvss_any.specs.Answers.{HasScore};
+ghost use Rattle.cvss_any.specs.Complete.{IsReadErrorBy, first_missing, missing_by};
+ghost use Rattle.cvss_any.specs.Dispatch.{DenotesCvss};
 
 use crate::metric_type::MetricType;
+use crate::refusal::{ReadError, Refusal};
+use crate::v3;
 use crate::vector::Cvss;
 use cvss_base::v3::MetricType::{A, AC, AV, C, I, PR, S, UI};
 
@@ -17,27 +22,17 @@ impl Cvss {
     {
         match self {
             Cvss::CvssV20(_) | Cvss::CvssV40(_) => None,
-            Cvss::CvssV30(vector) | Cvss::CvssV31(vector) => {
-                if vector.av.is_none() {
-                    Some(MetricType::V3(AV))
-                } else if vector.ac.is_none() {
-                    Some(MetricType::V3(AC))
-                } else if vector.pr.is_none() {
-                    Some(MetricType::V3(PR))
-                } else if vector.ui.is_none() {
-                    Some(MetricType::V3(UI))
-                } else if vector.s.is_none() {
-                    Some(MetricType::V3(S))
-                } else if vector.c.is_none() {
-                    Some(MetricType::V3(C))
-                } else if vector.i.is_none() {
-                    Some(MetricType::V3(I))
-                } else if vector.a.is_none() {
-                    Some(MetricType::V3(A))
-                } else {
-                    None
-                }
-            }
+            Cvss::CvssV30(vector) | Cvss::CvssV31(vector) => match vector {
+                v3::Vector { av: None, .. } => Some(MetricType::V3(AV)),
+                v3::Vector { ac: None, .. } => Some(MetricType::V3(AC)),
+                v3::Vector { pr: None, .. } => Some(MetricType::V3(PR)),
+                v3::Vector { ui: None, .. } => Some(MetricType::V3(UI)),
+                v3::Vector { s: None, .. } => Some(MetricType::V3(S)),
+                v3::Vector { c: None, .. } => Some(MetricType::V3(C)),
+                v3::Vector { i: None, .. } => Some(MetricType::V3(I)),
+                v3::Vector { a: None, .. } => Some(MetricType::V3(A)),
+                _ => None,
+            },
         }
     }
 
@@ -50,6 +45,25 @@ impl Cvss {
             None
         } else {
             self.first_missing()
+        }
+    }
+
+    /// The vector that a text denotes, which lacks no base metric unless it may.
+    ///
+    /// # Errors
+    ///
+    /// Why there is none, or else the first base metric of CVSS v3 that the vector lacks.
+    pub fn read_by(text: &[u8], allow_incomplete: bool) -> Result<Cvss, ReadError<'_>>
+        ensures utf8 { OnOk result (IsUtf8 text.now) }
+        ensures denoted { IfOk result (DenotesCvss text.now) }
+        ensures complete { IfOk result (λ cvss. missing_by allow_incomplete cvss ≡ None) }
+        ensures scored { IfOk result (λ cvss. HasScore cvss) }
+        ensures error { IfErr result (IsReadErrorBy allow_incomplete text.now) }
+    {
+        let cvss = Cvss::read(text)?;
+        match cvss.missing_by(allow_incomplete) {
+            Some(metric) => Err(ReadError::Invalid(Refusal::Missing(metric))),
+            None => Ok(cvss),
         }
     }
 }

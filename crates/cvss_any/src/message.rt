@@ -1,13 +1,10 @@
 //! What an error says to a reader, as segments.
 
-ghost use Rattle.std.specs.Prelude.{◌≡◌, ◌++◌, ◌≤◌, ◌<◌, ◌+◌, ◌^◌, codes, length};
-ghost use Rattle.cvss_base.specs.ErrorText.{quoted as quoted_text};
-ghost use Rattle.cvss_any.specs.MetricTypes.{words_of};
+ghost use Rattle.std.specs.Prelude.{◌≡◌, ◌++◌, ◌≤◌, ◌<◌, ◌+◌, ◌^◌, length};
 ghost use Rattle.cvss_any.specs.Reasons.{error_message, reason_text};
 ghost use Rattle.cvss_any.specs.Refusals.{refusal_of};
 ghost use Rattle.cvss_any.specs.Segments.{segment_text, text_of};
 
-use crate::metric_type::MetricType;
 use crate::refusal::{ReadError, Refusal};
 use crate::segment::Segment;
 
@@ -24,7 +21,7 @@ impl<'a> Message<'a> {
         ensures bound { length (text_of result.segments) < 2 ^ 63 + 300 }
     {
         match error {
-            ReadError::NotUtf8 => two("not UTF-8", Segment::words("")),
+            ReadError::NotUtf8 => said("not UTF-8", "", "", Segment::words(""), ""),
             ReadError::Invalid(refusal) => Message::of_refusal(refusal),
         }
     }
@@ -34,52 +31,40 @@ impl<'a> Message<'a> {
         ensures text { text_of result.segments ≡ reason_text (refusal_of refusal.entry) }
         ensures bound { length (text_of result.segments) < 2 ^ 63 + 300 }
     {
+        let none = Segment::words("");
         match refusal {
-            Refusal::BadComponent(component) => {
-                quoted("invalid CVSS metric group component: `", component)
+            Refusal::BadComponent(text) => {
+                said("invalid CVSS metric group component: `", "", "", text, "`")
             }
-            Refusal::WrongPrefix(prefix) => quoted("invalid CVSS string prefix: `", prefix),
-            Refusal::WrongVersion(version) => { two("unsupported CVSS version: ", version) }
-            Refusal::UnknownName(name) => quoted("unknown CVSS metric name: `", name),
-            Refusal::BadValue(metric, value) => invalid(metric, value),
-            Refusal::Repeated(metric) => two("duplicate ", Segment::words(metric.words())),
-            Refusal::Missing(metric) => two("missing mandatory ", Segment::words(metric.words())),
+            Refusal::WrongPrefix(text) => said("invalid CVSS string prefix: `", "", "", text, "`"),
+            Refusal::WrongVersion(text) => said("unsupported CVSS version: ", "", "", text, ""),
+            Refusal::UnknownName(text) => said("unknown CVSS metric name: `", "", "", text, "`"),
+            Refusal::BadValue(kind, text) => said("invalid ", kind.words(), ": `", text, "`"),
+            Refusal::Repeated(kind) => said("duplicate ", kind.words(), "", none, ""),
+            Refusal::Missing(kind) => said("missing mandatory ", kind.words(), "", none, ""),
         }
     }
 }
 
-/// Words and a text.
-fn two<'a>(words: &'static str, text: Segment<'a>) -> Message<'a>
-    ensures { text_of result.segments ≡ words.now ++ segment_text text.entry }
-{
-    let none = Segment::words("");
-    let segments = [Segment::words(words), text, none, none, none];
-    Message { segments }
-}
-
-/// Words that end in a back tick, a text, and a back tick.
-fn quoted<'a>(words: &'static str, text: Segment<'a>) -> Message<'a>
-    requires { length words.now ≤ 64 }
-    ensures text { text_of result.segments ≡ words.now ++ (segment_text text.entry ++ codes "`") }
-    ensures bound { length (text_of result.segments) < 2 ^ 63 + 300 }
-{
-    let none = Segment::words("");
-    let segments = [Segment::words(words), text, Segment::words("`"), none, none];
-    Message { segments }
-}
-
-/// That a metric has no such value.
-fn invalid<'a>(metric: MetricType, value: Segment<'a>) -> Message<'a>
-    ensures text { text_of result.segments ≡ codes "invalid " ++ words_of metric ++ codes ": "
-        ++ quoted_text (segment_text value.entry) }
+/// Words, those of a metric, what is before a text, the text, and what is after it.
+fn said<'a>(
+    words: &'static str,
+    metric: &'static str,
+    before: &'static str,
+    text: Segment<'a>,
+    after: &'static str,
+) -> Message<'a>
+    requires { length words.now + length metric.now + length before.now + length after.now ≤ 200 }
+    ensures text { text_of result.segments
+        ≡ words.now ++ metric.now ++ before.now ++ segment_text text.entry ++ after.now }
     ensures bound { length (text_of result.segments) < 2 ^ 63 + 300 }
 {
     let segments = [
-        Segment::words("invalid "),
-        Segment::words(metric.words()),
-        Segment::words(": `"),
-        value,
-        Segment::words("`"),
+        Segment::words(words),
+        Segment::words(metric),
+        Segment::words(before),
+        text,
+        Segment::words(after),
     ];
     Message { segments }
 }

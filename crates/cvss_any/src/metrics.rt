@@ -24,15 +24,9 @@ impl Iterator for Metrics {
 
     fn next(&mut self) -> Option<(MetricType, &'static str)> {
         match self {
-            Metrics::V2(metrics) => metrics
-                .next()
-                .map(|(kind, spelling)| (MetricType::V2(kind), spelling)),
-            Metrics::V3(metrics) => metrics
-                .next()
-                .map(|(kind, spelling)| (MetricType::V3(kind), spelling)),
-            Metrics::V4(metrics) => metrics
-                .next()
-                .map(|(kind, spelling)| (MetricType::V4(kind), spelling)),
+            Metrics::V2(own) => own.next().map(|(kind, text)| (MetricType::V2(kind), text)),
+            Metrics::V3(own) => own.next().map(|(kind, text)| (MetricType::V3(kind), text)),
+            Metrics::V4(own) => own.next().map(|(kind, text)| (MetricType::V4(kind), text)),
         }
     }
 }

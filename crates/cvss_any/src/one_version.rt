@@ -1,33 +1,39 @@
 //! What each version brings to a vector of any version. CVSS v3.0 and v3.1 are one version here, with
 //! two minor versions.
 
-ghost use Rattle.std.specs.Prelude.{◌≡◌, ◌≤◌, [], ℕ, Bool, None, Result, ⊤};
+ghost use Rattle.std.specs.Prelude.{◌≡◌, ◌≤◌, [], ℕ, Bool, List, None, Result, codes, ⊤};
 ghost use Rattle.cvss_base.specs.Text.{pieces};
 ghost use Rattle.cvss_base.specs.Version.{canonical_text};
 ghost use Rattle.cvss_text.specs.Route.{Route, ToV20, ToV40};
 ghost use Rattle.cvss_text.specs.declared.walk.Fault.{Fault};
 ghost use Rattle.cvss_text.specs.private.Walk.{IsReadLeft};
-ghost use Rattle.cvss_any.specs.Answers.{HasScore, text_of};
+ghost use Rattle.cvss_any.specs.Answers.{text_of};
 ghost use Rattle.cvss_any.specs.Complete.{missing_by};
-ghost use Rattle.cvss_any.specs.Published.{IsPublished};
 ghost use Rattle.cvss_any.specs.declared.metric_type.MetricType.{MetricType};
 ghost use Rattle.cvss_any.specs.declared.metric_type.MetricType.TheVariants as of;
 ghost use Rattle.cvss_any.specs.declared.reading.ReadFault.{ReadFault};
 ghost use Rattle.cvss_any.specs.declared.reading.ReadFault.TheVariants as read;
 ghost use Rattle.cvss_any.specs.declared.vector.Cvss.{Cvss};
 ghost use Rattle.cvss_any.specs.declared.vector.Cvss.TheVariants as wrapped;
-ghost use Rattle.cvss_any.specs.private.Steps.{IsRead, read_as};
-ghost use Rattle.cvss_any.specs.private.Versions.{IsRouted, route_v3, wrapped_v3};
+ghost use Rattle.cvss_any.specs.private.{IsRead, IsRouted, front_of, read_as, route_v3, wrapped_v3};
 
 use crate::metric_type::MetricType;
-use crate::published::{Bounds, Published};
 use crate::reading::ReadFault;
 use crate::vector::Cvss;
-use crate::versioned::Versioned;
 use crate::{v2, v3, v4};
 use cvss_text::buffer::TextBuffer;
-use cvss_text::print::text_after;
+use cvss_text::print::{Printed, text_after};
 use cvss_text::walk::Fault;
+
+/// A vector of some version, which has minor versions. CVSS v2 has one.
+pub trait Versioned: Printed {
+    ghost front: { ℕ → List (List ℕ) };
+
+    /// The vector without metrics, of a minor version.
+    fn without_metrics(minor_version: usize) -> Self
+        ensures front { Self.version.front result ≡ front minor_version }
+        ensures valueless { (kind : Self.Kind) → Self.version.value_of result kind ≡ None };
+}
 
 /// A version, whose metrics and vectors are also those of any version.
 pub(crate) trait OneVersion: Versioned {
@@ -65,17 +71,21 @@ pub(crate) trait OneVersion: Versioned {
         ensures complete { (allow_incomplete : Bool) (v : Self) → Self.has_base v
             → missing_by allow_incomplete (joined minor_version v) ≡ None };
 
-    /// What is published of a vector of the minor version that is said.
-    fn published_as(&self, minor_version: usize) -> Published
-        requires { HasScore (joined minor_version self.now) }
-        ensures { IsPublished (joined minor_version self.now) result };
-
     /// Writes the vector's canonical text into an empty buffer, and gives it.
     fn canonical<'a>(&self, minor_version: usize, buffer: &'a mut TextBuffer) -> &'a [u8]
         requires minor { has_minor minor_version }
         requires front { Self.version.front self.now ≡ Self.front minor_version }
         requires empty { buffer.old ≡ [] }
         ensures { result.now ≡ canonical_text Self.version self.now };
+}
+
+impl Versioned for v2::Vector {
+    ghost front = { λ _. [] };
+
+    fn without_metrics(_minor_version: usize) -> v2::Vector {
+        v2::laws::vectors_are_their_values();
+        v2::Vector::default()
+    }
 }
 
 impl OneVersion for v2::Vector {
@@ -93,6 +103,7 @@ impl OneVersion for v2::Vector {
         MetricType::V2(kind)
     }
 
+    #[inline(always)]
     fn join(self, _minor_version: usize) -> Cvss {
         Cvss::CvssV20(self)
     }
@@ -108,16 +119,19 @@ impl OneVersion for v2::Vector {
     fn reads_by_its_rules(_text: &[u8], _components: &[u8], _minor: usize, _empty: v2::Vector) {}
 
     #[inline(always)]
-    fn published_as(&self, _minor_version: usize) -> Published {
-        Published {
-            tenths: self.tenths(),
-            bounds: Bounds::OfV2,
-        }
-    }
-
-    #[inline(always)]
     fn canonical<'a>(&self, _minor_version: usize, buffer: &'a mut TextBuffer) -> &'a [u8] {
         self.text(buffer)
+    }
+}
+
+impl Versioned for v3::Vector {
+    ghost front = { front_of (codes "3.") };
+
+    #[inline(always)]
+    fn without_metrics(minor_version: usize) -> v3::Vector {
+        let mut empty = v3::Vector::default();
+        empty.minor_version = minor_version;
+        empty
     }
 }
 
@@ -155,19 +169,22 @@ impl OneVersion for v3::Vector {
     fn reads_by_its_rules(_text: &[u8], _components: &[u8], _minor: usize, _empty: v3::Vector) {}
 
     #[inline(always)]
-    fn published_as(&self, _minor_version: usize) -> Published {
-        Published {
-            tenths: self.tenths(),
-            bounds: Bounds::SinceV3,
-        }
-    }
-
-    #[inline(always)]
     fn canonical<'a>(&self, minor_version: usize, buffer: &'a mut TextBuffer) -> &'a [u8] {
         match minor_version {
             0 => text_after(*b"CVSS:3.0", self, buffer),
             _ => text_after(*b"CVSS:3.1", self, buffer),
         }
+    }
+}
+
+impl Versioned for v4::Vector {
+    ghost front = { front_of (codes "4.") };
+
+    #[inline(always)]
+    fn without_metrics(minor_version: usize) -> v4::Vector {
+        let mut empty = v4::Vector::default();
+        empty.minor_version = minor_version;
+        empty
     }
 }
 
@@ -186,6 +203,7 @@ impl OneVersion for v4::Vector {
         MetricType::V4(kind)
     }
 
+    #[inline(always)]
     fn join(self, _minor_version: usize) -> Cvss {
         Cvss::CvssV40(self)
     }
@@ -199,14 +217,6 @@ impl OneVersion for v4::Vector {
 
     #[inline(always)]
     fn reads_by_its_rules(_text: &[u8], _components: &[u8], _minor: usize, _empty: v4::Vector) {}
-
-    #[inline(always)]
-    fn published_as(&self, _minor_version: usize) -> Published {
-        Published {
-            tenths: self.tenths(),
-            bounds: Bounds::SinceV3,
-        }
-    }
 
     #[inline(always)]
     fn canonical<'a>(&self, _minor_version: usize, buffer: &'a mut TextBuffer) -> &'a [u8] {

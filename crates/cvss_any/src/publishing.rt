@@ -8,8 +8,7 @@ ghost use Rattle.cvss_text.specs.private.Routing.{IsAfterVersion, as_route};
 ghost use Rattle.cvss_any.specs.Complete.{IsPublishedBy, IsPublishedOfComplete, IsPublishedTo};
 ghost use Rattle.cvss_any.specs.declared.published.Published.{Published};
 ghost use Rattle.cvss_any.specs.declared.refusal.ReadError.{ReadError};
-ghost use Rattle.cvss_any.specs.private.Steps.{IsUnpublished};
-ghost use Rattle.cvss_any.specs.private.Versions.{IsRouted};
+ghost use Rattle.cvss_any.specs.private.{IsRouted, IsUnpublished};
 
 use crate::one_version::OneVersion;
 use crate::published::Published;
@@ -66,15 +65,9 @@ impl Cvss {
         }
         match route {
             Route::V20 => publish_rest::<v2::Vector, P>(text, text, 0, allow_incomplete, out),
-            Route::V30(components) => {
-                publish_rest::<v3::Vector, P>(text, components, 0, allow_incomplete, out)
-            }
-            Route::V31(components) => {
-                publish_rest::<v3::Vector, P>(text, components, 1, allow_incomplete, out)
-            }
-            Route::V40(components) => {
-                publish_rest::<v4::Vector, P>(text, components, 0, allow_incomplete, out)
-            }
+            Route::V30(left) => publish_rest::<v3::Vector, P>(text, left, 0, allow_incomplete, out),
+            Route::V31(left) => publish_rest::<v3::Vector, P>(text, left, 1, allow_incomplete, out),
+            Route::V40(left) => publish_rest::<v4::Vector, P>(text, left, 0, allow_incomplete, out),
             Route::Unversioned(why) => {
                 reject::<P>(text, allow_incomplete, Refusal::of(unread(text, why)), out)
             }
@@ -126,7 +119,7 @@ fn published_whole<V: OneVersion>(
     let empty = V::without_metrics(minor_version);
     V::reads_by_its_rules(text, components, minor_version, empty);
     let vector = empty.whole_in_order(components)?;
-    Some(vector.published_as(minor_version))
+    Some(vector.join(minor_version).published())
 }
 
 /// Publishes what a text denotes that is not seen to be canonical.
@@ -153,7 +146,7 @@ fn publish_rest<V: OneVersion, P: Publishing>(
     }
     let mut buffer = TextBuffer::new();
     let canonical = vector.canonical(minor_version, &mut buffer);
-    P::accept(canonical, vector.published_as(minor_version), out)?;
+    P::accept(canonical, vector.join(minor_version).published(), out)?;
     Ok(true)
 }
 

@@ -9,8 +9,7 @@ ghost use Rattle.cvss_text.specs.private.Routing.{why_of};
 ghost use Rattle.cvss_any.specs.Bytes.{IsRefusedAs};
 ghost use Rattle.cvss_any.specs.Dispatch.{cvss_reason, without_version};
 ghost use Rattle.cvss_any.specs.Refusals.{IsReadErrorFor, refusal_of};
-ghost use Rattle.cvss_any.specs.private.Steps.{IsPrintableFault, IsRead, reason_read};
-ghost use Rattle.cvss_any.specs.private.Versions.{IsRouted};
+ghost use Rattle.cvss_any.specs.private.{IsPrintableFault, IsRead, IsRouted, reason_read};
 
 use crate::bytes_error::BytesError;
 use crate::one_version::OneVersion;

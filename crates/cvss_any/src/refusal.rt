@@ -5,7 +5,7 @@ ghost use Rattle.cvss_text.specs.private.Walk.{reason_of};
 ghost use Rattle.cvss_any.specs.Dispatch.{wrapped};
 ghost use Rattle.cvss_any.specs.Refusals.{refusal_of};
 ghost use Rattle.cvss_any.specs.declared.metric_type.MetricType.TheVariants as of;
-ghost use Rattle.cvss_any.specs.private.Steps.{reason_read};
+ghost use Rattle.cvss_any.specs.private.{reason_read};
 ghost use Rattle.cvss_v4.specs.Vector.{v4};
 
 use crate::metric_type::MetricType;

@@ -12,7 +12,7 @@ ghost use Rattle.cvss_any.specs.Dispatch.{DenotesCvss, IsReasonOf, wrapped};
 ghost use Rattle.cvss_any.specs.Refusals.{refusal_of};
 ghost use Rattle.cvss_any.specs.Setting.{IsBuiltAs, IsBuiltReason, IsOf, IsWith, IsWithReason, text_with};
 ghost use Rattle.cvss_any.specs.declared.metric_type.MetricType.{MetricType};
-ghost use Rattle.cvss_any.specs.private.SettingSteps.{IsAnsweredBy};
+ghost use Rattle.cvss_any.specs.private.{IsAnsweredBy};
 
 use crate::one_version::OneVersion;
 use crate::refusal::Refusal;

@@ -28,7 +28,7 @@ use Rattle.cvss_v3.specs.declared.vector.Vector as vector_v3
 use Rattle.cvss_v4.specs.Vector.{v4}
 use Rattle.cvss_v4.specs.private.VectorLaws.{v4_laws}
 use Rattle.cvss_v4.specs.declared.vector.Vector as vector_v4
-use Rattle.cvss_any.proofs.RouteLemmas.{only_one, v2_parts, v3_parts, v4_parts}
+use Rattle.cvss_any.proofs.ReadLemmas.{only_one, v2_parts, v3_parts, v4_parts}
 use Rattle.cvss_scan.specs.Mentions.{IsAccepted, mentions_of}
 use Rattle.cvss_scan.specs.Parts.{begins_with_prefix, is_vector_byte, label_length}
 use Rattle.cvss_scan.specs.laws.Whole.{IsMentionedBetween, IsWhole}

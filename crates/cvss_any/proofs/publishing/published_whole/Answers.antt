@@ -4,10 +4,10 @@ use Rattle.cvss_text.proofs.InOrderLemmas.{IsReadLeft-whole, canonical_whole}
 use Rattle.cvss_any.proofs.ReadLemmas.{IsPublishedBy-read}
 use Rattle.cvss_any.proofs.publishing.published_whole.Goals as goal
 
-pub published_as-requires-after_bounds : goal.published_as-requires-after_bounds
-published_as-requires-after_bounds g c κs within =
+pub published-requires : goal.published-requires
+published-requires g c =
     let vector = c.in_ok-vector.vector in
-    (c.reads_by_its_rules.ensures.read (Ok tt) vector (IsReadLeft-whole g.V.Components.version g.met.V.Components.version_laws vector c.args.components.now _ c.in_ok-vector.ensures.whole c.without_metrics-empty.result refl)).scored
+    record { scored = rw c.join.ensures ((c.reads_by_its_rules.ensures.read (Ok tt) vector (IsReadLeft-whole g.V.Components.version g.met.V.Components.version_laws vector c.args.components.now _ c.in_ok-vector.ensures.whole c.without_metrics-empty.result refl)).scored) }
 
 pub returns : goal.returns
 returns g c = λ allow_incomplete.
@@ -20,5 +20,5 @@ returns g c = λ allow_incomplete.
     let whole = c.in_ok-vector.ensures.whole in
     let cut = c.requires.cut ∙ ap (λ front. front ++ pieces components) (sym empty.ensures.front) in
     IsPublishedBy-read allow_incomplete (rules.read (Ok tt) vector (IsReadLeft-whole version version_laws vector components _ whole empty.result refl))
-    (canonical_whole version version_laws vector components _ whole c.args.text.now cut ∙ sym (rules.text vector)) c.published_as.ensures
+    (canonical_whole version version_laws vector components _ whole c.args.text.now cut ∙ sym (rules.text vector)) (rw c.join.ensures at c.published.ensures)
     (rules.complete allow_incomplete vector c.in_ok-vector.ensures.base)

@@ -3,5 +3,4 @@ use Rattle.cvss_any.proofs.one_version.V4VectorOneVersion.reads_by_its_rules.Goa
 
 pub returns-clause-read : goal.returns-clause-read
 returns-clause-read c =
-    let is = c.requires.routed in
-    read_v4 c.args._text.now c.args._components.now c.args._minor is.known is.routed is.cut c.args._empty c.requires.front
+    read_v4 c.args._text.now c.args._components.now c.args._minor c.requires.routed c.args._empty c.requires.front
