@@ -1,2 +1,1 @@
-pub mod ScoreLemmas
 pub mod ScoringLemmas

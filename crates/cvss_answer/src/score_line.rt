@@ -18,7 +18,7 @@ pub(crate) fn score_line(published: Published) -> &'static str
 }
 
 /// The line of so many tenths by the bounds of CVSS v2, which differ at 0 and from 9.0.
-#[tactic(auto, using(crate::proofs::ScoreLemmas::between_v2))]
+#[tactic(auto, using(crate::proofs::ScoringLemmas::between_v2))]
 fn line_of_v2(tenths: u8) -> &'static str
     requires { tenths ≤ 100 }
     ensures { result.now ≡ rated_line OfV2 tenths }
