@@ -5,19 +5,16 @@ use Rattle.cvss_base.specs.declared.v3.MetricType.{MetricType}
 use Rattle.cvss_base.specs.declared.v3.MetricType.TheVariants.{A, AC, AV, C, I, PR, UI, E, RL, RC, CR, IR, AR}
 use Rattle.cvss_v3_metric.specs.Modified.{weight_or}
 use Rattle.cvss_v3_metric.specs.Table.{Value, weight_of}
-use Rattle.cvss_base.proofs.TestLemmas.{is_listed, listed_if}
+use Rattle.cvss_base.proofs.TestLemmas.{listed_if}
 use Rattle.cvss_score.specs.v3.Weighing.{weight_at, privileges_weight, effective, effective_scope, is_changed}
 use Rattle.cvss_score.specs.v3.private.Weights.{weights_in, privileges_required, AreOfTables}
 use Rattle.cvss_v3.specs.VectorWeights.{weights_of}
 use Rattle.cvss_v3.specs.declared.vector.Vector.{Vector}
 
-listed : (kind : MetricType) (value : Value kind) → is_listed (weights_in kind) (unwrap_or (weight_of kind value) 0) ≡ true
-listed A = search rules
-listed _ = search rules
-
 -- a value's weight is one of its metric's
 weight_listed : (kind : MetricType) (value : Value kind) → Contains (weights_in kind) (unwrap_or (weight_of kind value) 0)
-weight_listed kind value = listed_if (weights_in kind) (unwrap_or (weight_of kind value) 0) (listed kind value)
+weight_listed A value = listed_if (weights_in A) (unwrap_or (weight_of A value) 0) (search rules)
+weight_listed kind value = listed_if (weights_in kind) (unwrap_or (weight_of kind value) 0) (search rules)
 
 base_listed : (kind : MetricType) (value : Option (Value kind)) → Contains (0 ∷ weights_in kind) (weight_or (weight_of kind) value 0)
 base_listed kind None = (0, omega arith, refl)
@@ -28,12 +25,9 @@ optional_listed : (kind : MetricType) → Contains (weights_in kind) (weight_at 
 optional_listed kind absent None = absent
 optional_listed kind absent (Some value) = weight_listed kind value
 
-scoped : (changed : Bool) (value : Option (Value PR)) → is_listed (privileges_required changed) (privileges_weight changed value) ≡ true
-scoped false = search rules
-scoped true = search rules
-
 privileges_listed : (changed : Bool) (value : Option (Value PR)) → Contains (privileges_required changed) (privileges_weight changed value)
-privileges_listed changed value = listed_if (privileges_required changed) (privileges_weight changed value) (scoped changed value)
+privileges_listed false value = listed_if (privileges_required false) (privileges_weight false value) (search rules)
+privileges_listed true value = listed_if (privileges_required true) (privileges_weight true value) (search rules)
 
 pub weights_listed : (v : Vector) → AreOfTables (weights_of v)
 weights_listed v = record {

@@ -21,14 +21,8 @@ returns-in-Err-clause-refused g c =
 pub returns-in-Err-clause-accepts : goal.returns-in-Err-clause-accepts
 returns-in-Err-clause-accepts g c = λ vector are. absurd (no_overrides _ _ _ (returns-in-Err-clause-refused g c) vector are)
 
-pub returns-in-Err-clause-printable : goal.returns-in-Err-clause-printable
-returns-in-Err-clause-printable g c = λ is. c.in-Err.ensures.printable (c.in-Some.ensures.utf8 is)
-
 pub returns-clause-accepted : goal.returns-clause-accepted
 returns-clause-accepted g c = AreOverrides-all (g.T.Texts.texts c.args.texts) _ c.loop-cut.given c.loop-cut.invariant c.in_default.ensures.cut
-
-pub returns-clause-version : goal.returns-clause-version
-returns-clause-version g c = c.loop-cut.invariant.version
 
 pub returns-clause-faultless : goal.returns-clause-faultless
 returns-clause-faultless g c = no_objection_held (g.T.Texts.texts c.args.texts) c.loop-cut.given (returns-clause-accepted g c)

@@ -10,17 +10,10 @@ returns-in-Ok-clause-given c = λ vector are version.
     let read = c.in-Ok.ensures in
     ap Ok (one_overrides _ c.in-Ok.vector vector read.version version read.accepted are)
 
-pub returns-in-Ok-clause-refuses : goal.returns-in-Ok-clause-refuses
-returns-in-Ok-clause-refuses c = λ place objection is. absurd (c.in-Ok.ensures.faultless.none place objection is.within is.is)
-
 pub returns-in-Err-clause-given : goal.returns-in-Err-clause-given
 returns-in-Err-clause-given c = λ vector are version.
     let is = c.in-Err.ensures.refused in
     absurd ((no_objection_held _ vector are).none c.in-Err.index _ is.within is.is)
-
-pub returns-in-Err-clause-refused : goal.returns-in-Err-clause-refused
-returns-in-Err-clause-refused c =
-    record { place = c.in-Err.index; objection = objection_of c.in-Err.fault; first = c.in-Err.ensures.refused; reports = c.reported.ensures }
 
 pub returns-in-Err-clause-refuses : goal.returns-in-Err-clause-refuses
 returns-in-Err-clause-refuses c = λ place objection is.
