@@ -1,5 +1,5 @@
 -- The weights of a vector's values are those of the tables.
-use Rattle.std.proofs.Common.{◌≡◌, suc, ◌∷◌, Bool, true, false, Option, Some, None, unwrap_or, arith, refl, rules, lit<}
+use Rattle.std.proofs.Common.{suc, ◌∷◌, Bool, true, false, Option, Some, None, unwrap_or, arith, refl, rules, lit<}
 use Rattle.std.specs.List.{Contains}
 use Rattle.cvss_base.specs.declared.v3.MetricType.{MetricType}
 use Rattle.cvss_base.specs.declared.v3.MetricType.TheVariants.{A, AC, AV, C, I, PR, UI, E, RL, RC, CR, IR, AR}

@@ -25,14 +25,9 @@ sizes _ = search rules
 with_slash-length : (kind : MetricType) (rank : ℕ) → length (slash ∷ metric_component kind rank) ≡ 2 + length (name_of kind) + length (spelling_at kind rank)
 with_slash-length kind rank = omega (arith, length-append (name_of kind) (colon ∷ spelling_at kind rank))
 
-pub at_least_three : (kind : MetricType) (rank : ℕ) → 3 ≤ length (slash ∷ metric_component kind rank)
-at_least_three kind rank = omega (arith, with_slash-length kind rank, (sizes kind).0)
-
-pub at_most_width : (kind : MetricType) (rank : ℕ) → length (slash ∷ metric_component kind rank) ≤ width kind
-at_most_width kind rank = omega (arith, with_slash-length kind rank, within_longest (spellings_of kind) rank, (sizes kind).1)
-
-pub at_most_eight : (kind : MetricType) (rank : ℕ) → length (slash ∷ metric_component kind rank) ≤ 8
-at_most_eight kind rank = omega (arith, at_most_width kind rank, (sizes kind).2)
-
--- what a component's length is between
-pub ruleset lengths = (at_least_three, at_most_eight, at_most_width)
+pub lengths : (kind : MetricType) (rank : ℕ) → (3 ≤ length (slash ∷ metric_component kind rank)) × (length (slash ∷ metric_component kind rank) ≤ width kind) × (length (slash ∷ metric_component kind rank) ≤ 8)
+lengths kind rank = (
+  omega (arith, with_slash-length kind rank, (sizes kind).0),
+  omega (arith, with_slash-length kind rank, within_longest (spellings_of kind) rank, (sizes kind).1),
+  omega (arith, with_slash-length kind rank, within_longest (spellings_of kind) rank, (sizes kind).1, (sizes kind).2),
+)
