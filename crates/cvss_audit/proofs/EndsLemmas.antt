@@ -1,13 +1,10 @@
 -- How it ends to answer a file.
-use Rattle.std.proofs.Common.{◌≡◌, ◌≢◌, ◌⊎◌, ℕ, Bool, List, [], ◌++◌, Option, None, Some, Result, Err, inl, inr, refl, sym, ap, ◌∙◌, subst, append-nil}
-use Rattle.std.proofs.KnownBytes.{Keeps-refl}
+use Rattle.std.proofs.Common.{◌≡◌, ◌⊎◌, ℕ, Bool, List, [], ◌++◌, Option, None, Some, Result, inl, inr, sym, ap, ◌∙◌, subst, append-nil}
 use Rattle.std.specs.Fmt.{option_append}
 use Rattle.std.specs.Io.KnownBytes.{Consumes}
 use Rattle.cvss_lines.specs.declared.fault.RunFault.{RunFault}
-use Rattle.cvss_lines.specs.declared.fault.RunFault.TheVariants.{Read, Write, Memory}
 use Rattle.cvss_lines.specs.declared.summary.Summary.{Summary}
-use Rattle.cvss_audit.specs.Files.{AnswersBy, Are, AreByLine, FileEnds, HasFirstText, IsBeginning, is_by_line, is_json}
-use Rattle.cvss_audit.specs.Inputs.{Input}
+use Rattle.cvss_audit.specs.Files.{AnswersBy, Are, AreByLine, HasFirstText, IsBeginning, is_by_line, is_json}
 use Rattle.cvss_program.specs.Operands.{Ending}
 use Rattle.cvss_audit.proofs.FilesLemmas.{first_text_settled}
 
@@ -37,9 +34,3 @@ AnswersBy-beginning ends by_line u u' w w' outcome beginning bytes left is by ar
   left = left;
   ended = ended;
 }
-
-pub FileEnds-undecided : (input : Input) (u end w : Option (List ℕ)) (outcome : Result Summary RunFault) (fault : RunFault) → outcome ≡ Err fault
-    → fault ≢ Write → FileEnds input u end w w outcome
-FileEnds-undecided input u end w outcome Read is other = inr (inr (record { fault = inl is; kept = Keeps-refl w }))
-FileEnds-undecided input u end w outcome Memory is other = inr (inr (record { fault = inr is; kept = Keeps-refl w }))
-FileEnds-undecided input u end w outcome Write is other = absurd (other refl)

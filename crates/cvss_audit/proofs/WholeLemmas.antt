@@ -1,58 +1,24 @@
 -- How it ends to answer an input that is one document.
-use Rattle.std.proofs.Common.{◌≡◌, ◌≢◌, ℕ, ◌+◌, ◌⊎◌, Bool, List, [], ◌∷◌, ◌++◌, length, take, Option, None, Some, Result, Ok, Err, inl, inr, refl, sym, ap, ◌∙◌, append-nil, subst}
-use Rattle.std.proofs.KnownBytes.{Appends-trans, Keeps-refl}
+use Rattle.std.proofs.Common.{◌≡◌, ℕ, ◌+◌, ◌⊎◌, Bool, List, [], ◌++◌, length, take, Option, None, Some, Result, Err, inl, inr, refl, sym, ap, ◌∙◌, append-nil, subst}
+use Rattle.std.proofs.KnownBytes.{Appends-trans}
 use Rattle.std.proofs.Math.Seq.{take-append-add}
 use Rattle.std.specs.Io.KnownBytes.{Appends, Consumes, IsAtEnd, Keeps}
-use Rattle.cvss_lines.specs.Answers.{Answer, Accepted, Refused, is_accepted, written_answer}
-use Rattle.cvss_lines.specs.Runs.{summary_of}
+use Rattle.cvss_lines.specs.Answers.{written_answer}
 use Rattle.cvss_lines.specs.declared.fault.RunFault.{RunFault}
 use Rattle.cvss_lines.specs.declared.fault.RunFault.TheVariants.{Write}
 use Rattle.cvss_lines.specs.declared.summary.Summary.{Summary}
 use Rattle.cvss_audit.specs.Answers.{Begins}
 use Rattle.cvss_audit.specs.Inputs.{Input}
 use Rattle.cvss_audit.specs.Whole.{AnswersBegun, WholeEnds}
-use Rattle.cvss_audit.specs.private.Writing.{Answers, StopsAnswering, summary_of_one}
+use Rattle.cvss_audit.specs.private.Writing.{Answers, StopsAnswering}
 
 kept_of : (w w' : Option (List ℕ)) (passed : List ℕ) → Appends w w' passed → passed ≡ [] → Keeps w w'
 kept_of None w' passed appended none = tt
 kept_of (Some before) None passed appended none = appended
 kept_of (Some before) (Some after) passed appended none = appended ∙ ap (λ bytes. before ++ bytes) none ∙ append-nil before
 
-counted : (answer : Answer) (accepted : Bool) → accepted ≡ is_accepted answer → summary_of_one accepted ≡ summary_of (answer ∷ [])
-counted (Accepted texts) accepted is = ap summary_of_one is
-counted (Refused texts) accepted is = ap summary_of_one is
-
 module _ (input : Input) (u u' w : Option (List ℕ)) where
-  -- nothing is written after a fault of the reader, or without memory
-  pub WholeEnds-unread : (outcome : Result Summary RunFault) (fault : RunFault) → outcome ≡ Err fault → fault ≢ Write
-      → WholeEnds input u u' w w outcome
-  WholeEnds-unread outcome fault is other = subst (WholeEnds input u u' w w) (sym is) (record {
-    answered = tt;
-    read_fault = λ _. Keeps-refl w;
-    memory_fault = λ _. inl (Keeps-refl w);
-    write_fault = λ write. absurd (other (cc));
-  })
-
   module _ (text : List ℕ) (consumed : Consumes u u' text) (at_end : IsAtEnd u') where
-    -- the answer is written
-    pub WholeEnds-answered : (w' w'' : Option (List ℕ)) (waits : List ℕ) (accepted : Bool) (outcome : Result Summary RunFault)
-        → Answers input text [] waits w w' accepted → Appends w' w'' waits → outcome ≡ Ok (summary_of_one accepted)
-        → WholeEnds input u u' w w'' outcome
-    WholeEnds-answered w' w'' waits accepted outcome answers flushed is = subst (WholeEnds input u u' w w'') (sym is) (record {
-      answered = record {
-        text = text;
-        answer = answers.answer;
-        consumed = consumed;
-        at_end = at_end;
-        answers = answers.answers;
-        appended = subst (Appends w w'') answers.together (Appends-trans w w' w'' answers.passed waits answers.appended flushed);
-        counted = counted answers.answer accepted answers.reported;
-      };
-      read_fault = λ read. absurd (cc);
-      memory_fault = λ memory. absurd (cc);
-      write_fault = λ write. absurd (cc);
-    })
-
     -- a fault in the midst of the answer
     pub WholeEnds-stopped : (w' : Option (List ℕ)) (fault : RunFault) (outcome : Result Summary RunFault)
         → StopsAnswering input text [] w w' fault → outcome ≡ Err fault → WholeEnds input u u' w w' outcome

@@ -10,10 +10,6 @@ joins_last Holds [] last text next none holds = (next, [], holds, refl, ap (λ f
 joins_last Holds (item ∷ items) last text next (first, rest, is_first, are, joined) holds =
     (first, rest ++ next, is_first, joins_last Holds items last rest next are holds, ap (λ front. front ++ next) joined ∙ append_assoc first rest next)
 
--- nothing is written for no items
-pub writes_none : {X : Type 0} (Holds : X → List ℕ → Type 0) (old : List ℕ) → Writes (Joins Holds []) old old
-writes_none Holds old = record { text = []; holds = refl; written = sym (append-nil old) }
-
 -- one more item after others
 writes_last : {X : Type 0} (Holds : X → List ℕ → Type 0) (items : List X) (last : X) (old mid new : List ℕ)
     → Writes (Joins Holds items) old mid → Writes (Holds last) mid new → Writes (Joins Holds (items ++ last ∷ [])) old new

@@ -1,16 +1,14 @@
 //! The line that the program answers to a text.
 
-ghost use Rattle.std.specs.Prelude.{◌≤◌, ◌+◌, ◌++◌, ℕ, List, codes, length};
-ghost use Rattle.cvss_any.specs.Answers.{HasScore, text_of as canonical_text};
+ghost use Rattle.std.specs.Prelude.{◌≤◌, ◌++◌, ℕ, List, length};
+ghost use Rattle.cvss_any.specs.Answers.{HasScore};
 ghost use Rattle.cvss_ffi.specs.Answers.{IsAnswer, IsAnswerOf};
 ghost use Rattle.cvss_ffi.specs.Buffer.{IsWritten, Writes};
 
-use crate::buffer::write;
-use crate::message::write_message;
+use crate::buffer::{write, write_message};
 use crate::refusal::read;
 use cvss_any::{Cvss, Message};
 use cvss_base::TENTH;
-use cvss_base::tenths::text_of;
 use cvss_json_record::put_vector;
 use cvss_json_write::Page;
 
@@ -28,37 +26,31 @@ pub(crate) fn write_answer<'a>(text: &'a [u8], end: &'a [u8], buffer: &mut [u8])
         × IsWritten (answer ++ end.now) buffer.old buffer.new result }
 {
     match read(text) {
-        Ok(cvss) => write_answer_of(&cvss, end, buffer),
+        Ok(cvss) => {
+            let mut page = answer_of(&cvss);
+            page.push(end);
+            write(page.bytes(), buffer)
+        }
         Err(error) => write_message(b"error: ", Message::of(error), end, buffer),
     }
 }
 
-/// Writes the answer of a vector, and an end.
-fn write_answer_of(cvss: &Cvss, end: &[u8], buffer: &mut [u8]) -> usize
-    requires scored { HasScore cvss.now }
-    requires short { length end.now ≤ 1 }
-    ensures { (answer : List ℕ) × IsAnswerOf answer cvss.now
-        × IsWritten (answer ++ end.now) buffer.old buffer.new result }
+/// The answer of a vector that has a score.
+#[tactic(auto, using(cvss_explain::proofs::ShortLemmas::severity_short))]
+fn answer_of(cvss: &Cvss) -> Page
+    requires { HasScore cvss.now }
+    ensures is { IsAnswerOf result cvss.now }
+    ensures room { length result ≤ 500 }
 {
-    let (score, rating) = rated(cvss);
+    let tenths = cvss.tenths();
+    let severity = cvss.severity_of(i128::from(tenths) * TENTH).as_str();
     let mut page = Page::new();
     put_vector(&mut page, cvss);
     page.push(b" ");
-    page.push(score.as_bytes());
+    page.whole(u64::from(tenths / 10));
+    page.push(b".");
+    page.whole(u64::from(tenths % 10));
     page.push(b" ");
-    page.push(rating.as_bytes());
-    page.push(end);
-    write(page.bytes(), buffer)
-}
-
-/// The score of a vector that has one, with one decimal, and the score's rating.
-fn rated(cvss: &Cvss) -> (&'static str, &'static str)
-    requires { HasScore cvss.now }
-    ensures rated { IsAnswerOf (canonical_text cvss.now ++ codes " "
-        ++ (result.0.now ++ codes " " ++ result.1.now)) cvss.now }
-    ensures bound { length result.0.now + length result.1.now ≤ 12 }
-{
-    let tenths = cvss.tenths();
-    let score = i128::from(tenths) * TENTH;
-    (text_of(tenths), cvss.severity_of(score).as_str())
+    page.push(severity.as_bytes());
+    page
 }

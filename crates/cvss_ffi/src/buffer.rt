@@ -1,11 +1,13 @@
 //! Texts in a buffer of the caller, items in an array, and values, without memory.
 
-ghost use Rattle.std.specs.Prelude.{◌≡◌, ◌<◌, ◌+◌, ◌^◌, length};
-ghost use Rattle.cvss_any.specs.Segments.{segment_text, text_of};
+ghost use Rattle.std.specs.Prelude.{◌≡◌, ◌<◌, ◌≤◌, ◌+◌, ◌^◌, ◌++◌, length};
+ghost use Rattle.cvss_any.specs.Reasons.{error_message, reason_text};
+ghost use Rattle.cvss_any.specs.Refusals.{refusal_of};
+ghost use Rattle.cvss_any.specs.Segments.{text_of};
 ghost use Rattle.cvss_ffi.specs.Buffer.{IsPut, IsWritten};
 ghost use Rattle.cvss_ffi.specs.private.Steps.{IsWrittenAt};
 
-use cvss_any::Segment;
+use cvss_any::{Message, ReadError, Refusal, Segment};
 
 /// Writes a text, or items, at the beginning of a buffer where they fit, and returns their number.
 // Its copy, inlined wherever it is called, would be a thirtieth of the module of WebAssembly.
@@ -45,17 +47,50 @@ pub(crate) fn write_segments(segments: &[Segment<'_>], place: usize, buffer: &mu
     if last > buffer.len() {
         return last;
     }
-    write_segment(*segment, &mut buffer[place..end]);
-    last
-}
-
-/// Writes a segment into a part of a buffer that is as long.
-fn write_segment(segment: Segment<'_>, part: &mut [u8])
-    requires { length part.old ≡ length (segment_text segment) }
-    ensures { part.new ≡ segment_text segment.entry }
-{
+    let part = &mut buffer[place..end];
     part.copy_from_slice(segment.bytes);
     if segment.upper {
         part.make_ascii_uppercase();
     }
+    last
+}
+
+/// Writes what an error says.
+pub(crate) fn write_error(error: ReadError<'_>, buffer: &mut [u8]) -> usize
+    ensures { IsWritten (error_message error.entry) buffer.old buffer.new result }
+{
+    write_message(&[], Message::of(error), &[], buffer)
+}
+
+/// Writes words and, after them, what a reason says.
+pub(crate) fn write_refusal(words: &[u8], refusal: Refusal<'_>, buffer: &mut [u8]) -> usize
+    requires { length words.now ≤ 32 }
+    ensures { IsWritten (words.now ++ reason_text (refusal_of refusal.entry)) buffer.old
+        buffer.new result }
+{
+    write_message(words, Message::of_refusal(refusal), &[], buffer)
+}
+
+/// Writes words, a message and an end.
+pub(crate) fn write_message<'a>(
+    words: &'a [u8],
+    message: Message<'a>,
+    end: &'a [u8],
+    buffer: &mut [u8],
+) -> usize
+    requires around { length words.now + length end.now ≤ 33 }
+    requires message { length (text_of message.segments) < 2 ^ 63 + 300 }
+    ensures { IsWritten (words.now ++ (text_of message.entry.segments ++ end.now)) buffer.old
+        buffer.new result }
+{
+    write_segments(&around(words, message.segments, end), 0, buffer)
+}
+
+/// Words, the segments of a message and an end.
+fn around<'a>(words: &'a [u8], segments: [Segment<'a>; 5], end: &'a [u8]) -> [Segment<'a>; 7]
+    ensures { text_of result ≡ words.now ++ (text_of segments.entry ++ end.now) }
+{
+    let [first, second, third, fourth, fifth] = segments;
+    let (before, after) = (Segment::given(words), Segment::given(end));
+    [before, first, second, third, fourth, fifth, after]
 }

@@ -1,9 +1,8 @@
 //! The canonical text of a vector.
 
-ghost use Rattle.std.specs.Prelude.{◌≡◌, [], ◌∷◌, IfNone, IfSome, length};
+ghost use Rattle.std.specs.Prelude.{◌≡◌, IfNone, IfSome, length};
 ghost use Rattle.cvss_any.specs.Answers.{HasScore, text_of};
 ghost use Rattle.cvss_any.specs.Dispatch.{DenotesCvss};
-ghost use Rattle.cvss_base.specs.Version.{canonical_text};
 ghost use Rattle.cvss_ffi.specs.Answers.{IsRefused};
 ghost use Rattle.cvss_ffi.specs.Buffer.{IsWritten};
 
@@ -11,7 +10,7 @@ use crate::buffer::write;
 use cvss_any::{Cvss, TextBuffer};
 use cvss_json_record::put_vector;
 use cvss_json_write::Page;
-use cvss_text::print::{Printed, text_after};
+use cvss_text::print::text_after;
 
 /// The vector that a text denotes, if there is one. Its canonical text is written, which is as long
 /// as the text.
@@ -32,21 +31,15 @@ pub fn put_canonical_of(text: &[u8], buffer: &mut [u8]) -> Option<Cvss>
 pub(crate) fn write_canonical(cvss: &Cvss, buffer: &mut [u8]) -> usize
     ensures { IsWritten (text_of cvss.now) buffer.old buffer.new result }
 {
-    match cvss {
-        Cvss::CvssV20(own) => write(own.text(&mut TextBuffer::new()), buffer),
-        Cvss::CvssV30(own) if own.minor_version == 0 => write_after(*b"CVSS:3.0", own, buffer),
-        Cvss::CvssV31(own) if own.minor_version == 1 => write_after(*b"CVSS:3.1", own, buffer),
-        Cvss::CvssV40(own) if own.minor_version == 0 => write_after(*b"CVSS:4.0", own, buffer),
-        _ => write_by_page(cvss, buffer),
-    }
-}
-
-/// Writes the canonical text of a vector whose version this piece says.
-fn write_after<V: Printed>(piece: [u8; 8], vector: &V, buffer: &mut [u8]) -> usize
-    requires { V.version.front vector.now ≡ piece ∷ [] }
-    ensures { IsWritten (canonical_text V.version vector.now) buffer.old buffer.new result }
-{
-    write(text_after(piece, vector, &mut TextBuffer::new()), buffer)
+    let mut page = TextBuffer::new();
+    let text = match cvss {
+        Cvss::CvssV20(own) => own.text(&mut page),
+        Cvss::CvssV30(own) if own.minor_version == 0 => text_after(*b"CVSS:3.0", own, &mut page),
+        Cvss::CvssV31(own) if own.minor_version == 1 => text_after(*b"CVSS:3.1", own, &mut page),
+        Cvss::CvssV40(own) if own.minor_version == 0 => text_after(*b"CVSS:4.0", own, &mut page),
+        _ => return write_by_page(cvss, buffer),
+    };
+    write(text, buffer)
 }
 
 /// Writes the canonical text of a vector of any minor version.

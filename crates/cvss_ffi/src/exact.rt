@@ -2,17 +2,19 @@
 //! sees them. It takes no memory.
 
 ghost use Rattle.std.specs.Prelude.{◌≡◌, ◌↔◌, ◌*ℤ◌, ◌^◌, ℤ, pos, IfSome, IfNone, IsTrue};
-ghost use Rattle.cvss_base.specs.Exact.{IsWithinLimit, of_count};
-ghost use Rattle.cvss_base.specs.Tenths.{IsInTenths};
+ghost use Rattle.cvss_base.specs.Exact.{IsWithinLimit};
 ghost use Rattle.cvss_ffi.specs.Answers.{NoneIs};
-ghost use Rattle.cvss_ffi.specs.Exact.{AreNumbersOf, AreNumbersV2, AreNumbersV3, IsBeforeV4, IsNumber, IsPartial, IsRoundedFor, IsRoundedTo, IsTemporalWith, count_in};
+ghost use Rattle.cvss_ffi.specs.Exact.{AreNumbersOf, AreNumbersV2, AreNumbersV3, IsNumber, IsPartial, IsRoundedTo, IsTemporalWith, count_in};
 
-use crate::scores::tenths_of as scores_of;
-use crate::{v2, v3};
+use crate::scores::{tenths_of as scores_of, tenths_of_v3};
 use cvss_any::{Cvss, Versioned};
 use cvss_base::TENTH;
+use cvss_score::v3::Rules;
+use cvss_score::v3::rounding::round_count;
 use cvss_text::setting::read_given;
 use cvss_text::texts::components_of;
+use cvss_v2 as v2;
+use cvss_v3 as v3;
 
 /// An exact number: a count of 10^-12 and a count of 10^-24, added.
 #[derive(Drop)]
@@ -65,23 +67,11 @@ pub fn numbers_of(version: i32, metrics: &[u8]) -> Option<CvssNumbers>
 pub fn rounded(version: i32, number: &CvssNumber) -> Option<i32>
     ensures { IsRoundedTo version number.now result }
 {
-    let count = count_of(number)?;
-    let rounded = rounded_count(version, count)?;
-    Some(tenths_of(rounded))
-}
-
-/// A count of 10^-24, rounded as a version rounds scores.
-fn rounded_count(version: i32, count: i128) -> Option<i128>
-    requires { IsWithinLimit count }
-    ensures rounded { IfSome result (IsInTenths (IsRoundedFor version (of_count count))) }
-    ensures limit { IfSome result IsWithinLimit }
-    ensures known { IfSome result (λ _. IsBeforeV4 version) }
-    ensures unknown { IfNone result (¬ (IsBeforeV4 version)) }
-{
+    let score = score_of(number)?;
     match version {
-        20 => Some(v2::Score::new(count).roundup().value()),
-        30 => Some(v3::Score::new(count).roundup_for_version(0).value()),
-        31 => Some(v3::Score::new(count).roundup_for_version(1).value()),
+        20 => Some(tenths_of(score.roundup())),
+        30 => Some(round_count(score.value(), Rules::V30) as i32),
+        31 => Some(round_count(score.value(), Rules::V31) as i32),
         _ => None,
     }
 }
@@ -91,10 +81,9 @@ fn rounded_count(version: i32, count: i128) -> Option<i128>
 pub fn temporal(metrics: &[u8], impact: &CvssNumber) -> Option<i32>
     ensures { IsTemporalWith metrics.now impact.now result }
 {
-    let count = count_of(impact)?;
+    let impact = score_of(impact)?;
     let vector: v2::Vector = partial(0, metrics)?;
-    let score = vector.temporal_score_internal(v2::Score::new(count));
-    Some(tenths_of(score.value()))
+    Some(tenths_of(vector.temporal_score_internal(impact)))
 }
 
 /// The vector of a minor version with these components, which a text joins by slashes, each once; none
@@ -132,7 +121,7 @@ fn numbers_of_v2(vector: &v2::Vector) -> CvssNumbers
 fn numbers_of_v3(vector: &v3::Vector) -> CvssNumbers
     ensures { AreNumbersV3 vector.now result }
 {
-    let (base, temporal, environmental) = scores_of(&Cvss::CvssV31(*vector));
+    let (base, temporal, environmental) = tenths_of_v3(vector);
     CvssNumbers {
         base,
         temporal,
@@ -155,15 +144,15 @@ fn number_of(count: i128) -> CvssNumber
     }
 }
 
-/// The count of 10^-24 of a number, if its parts are within their bounds.
-fn count_of(number: &CvssNumber) -> Option<i128>
-    ensures count { IfSome result (λ count. count ≡ count_in number.now) }
+/// The number as a score, if its parts are within their bounds.
+fn score_of(number: &CvssNumber) -> Option<v2::Score>
+    ensures count { IfSome result (λ score. score ≡ count_in number.now) }
     ensures number { IfSome result (λ _. IsNumber number.now) }
     ensures limit { IfSome result IsWithinLimit }
     ensures none { IfNone result (¬ (IsNumber number.now)) }
 {
     if is_number(number) {
-        Some(whole_count(number))
+        Some(v2::Score::new(whole_count(number)))
     } else {
         None
     }
@@ -186,10 +175,10 @@ fn whole_count(number: &CvssNumber) -> i128
     i128::from(number.trillionths) * TRILLION + i128::from(number.rest)
 }
 
-/// The tenths of a count of 10^-24 that is a whole number of them.
-fn tenths_of(count: i128) -> i32
-    requires { IsWithinLimit count }
-    ensures { (tenths : ℤ) → count ≡ tenths *ℤ pos (10 ^ 23) → result ≡ tenths }
+/// The tenths of a score that is a whole number of them.
+fn tenths_of(score: v2::Score) -> i32
+    requires { IsWithinLimit score }
+    ensures { (tenths : ℤ) → score ≡ tenths *ℤ pos (10 ^ 23) → result ≡ tenths }
 {
-    (count / TENTH) as i32
+    (score.value() / TENTH) as i32
 }

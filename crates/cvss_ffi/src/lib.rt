@@ -14,7 +14,6 @@ pub mod exact;
 pub mod laws;
 pub mod lines;
 pub mod mentioned;
-mod message;
 pub mod metrics;
 pub mod numbers;
 pub mod objects;
@@ -26,9 +25,6 @@ pub mod setting;
 pub mod values;
 
 pub use buffer::put;
-use cvss_v2 as v2;
-use cvss_v3 as v3;
-use cvss_v4 as v4;
 pub use exact::{CvssNumber, CvssNumbers};
 pub use metrics::CvssMetric;
 pub use scores::{CvssScores, CvssScoresBy};

@@ -3,7 +3,7 @@
 ghost use Rattle.std.specs.Prelude.{◌≡◌, ◌≤◌, length};
 ghost use Rattle.cvss_base.specs.V4Types.{most_metrics};
 ghost use Rattle.cvss_ffi.specs.Buffer.{IsWritten};
-ghost use Rattle.cvss_ffi.specs.Metrics.{metric_of, metrics_at, metrics_in_order, padded as padded_text};
+ghost use Rattle.cvss_ffi.specs.Metrics.{metrics_at, metrics_in_order, padded as padded_text};
 
 use crate::buffer::write;
 use cvss_any::Cvss;
@@ -19,17 +19,6 @@ pub struct CvssMetric {
     pub name: [u8; 8],
     /// How its value is spelled.
     pub value: [u8; 8],
-}
-
-impl CvssMetric {
-    fn of(name: &[u8], value: &[u8]) -> CvssMetric
-        ensures { result ≡ metric_of name.now value.now }
-    {
-        CvssMetric {
-            name: padded(name),
-            value: padded(value),
-        }
-    }
 }
 
 /// The first bytes of a text in eight bytes, with bytes 0 after them.
@@ -59,11 +48,17 @@ fn write_metrics<V: Printed>(vector: &V, metrics: &mut [CvssMetric]) -> usize
     ensures { IsWritten (metrics_at V.version vector.now V.version.printed) metrics.old metrics.new
         result }
 {
-    let mut own = [CvssMetric::of(&[], &[]); MOST_METRICS];
+    let mut own = [CvssMetric {
+        name: [0; 8],
+        value: [0; 8],
+    }; MOST_METRICS];
     let mut count = 0;
     for kind in V::printed() {
         if let Some(value) = spelled(vector, *kind) {
-            own[count] = CvssMetric::of(V::name(*kind).as_bytes(), value);
+            own[count] = CvssMetric {
+                name: padded(V::name(*kind).as_bytes()),
+                value: padded(value),
+            };
             count += 1;
         }
     }

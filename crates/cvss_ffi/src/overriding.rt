@@ -1,16 +1,14 @@
 //! An organisation's own environmental metrics in place of those of a vector of CVSS v4.0.
 
-ghost use Rattle.std.specs.Prelude.{◌≡◌, ◌++◌};
-ghost use Rattle.cvss_v4.specs.private.OverridingSteps.{objection_of};
-ghost use Rattle.cvss_ffi.specs.Overriding.{IsOverrideReason, IsWithOverrides, SetsOverrides, objection_text, override_words};
+ghost use Rattle.cvss_ffi.specs.Overriding.{IsOverrideReason, IsWithOverrides, SetsOverrides};
 ghost use Rattle.cvss_ffi.specs.Setting.{IsNew};
-ghost use Rattle.cvss_ffi.specs.private.Rejection.{answered, rejection_text};
+ghost use Rattle.cvss_ffi.specs.private.Rejection.{answered};
 
 use crate::refusal::read;
 use crate::rejection::Rejection;
-use cvss_any::{Cvss, Refusal, Versioned};
+use cvss_any::{Cvss, ReadError};
 use cvss_text::texts::components_of;
-use cvss_v4::overrides::{OverrideFault, read_overrides};
+use cvss_v4::overrides::read_overrides;
 
 /// The vector that a text denotes with overrides in place, or why there is none.
 pub fn overridden<'a>(text: &'a [u8], overrides: &'a [u8]) -> Result<Cvss, Rejection<'a>>
@@ -30,20 +28,10 @@ fn overridden_of<'a>(cvss: &Cvss, overrides: &'a [u8]) -> Result<Cvss, Rejection
         return Err(Rejection::OtherVersion);
     };
     let Ok(overrides) = str::from_utf8(overrides) else {
-        return Err(Rejection::NotUtf8);
+        return Err(Rejection::Text(ReadError::NotUtf8));
     };
     match read_overrides(components_of(overrides.as_bytes())) {
         Ok(overrides) => Ok(Cvss::CvssV40(vector.overridden_by(&overrides))),
-        Err((index, fault)) => Err(rejection_of(index, fault)),
-    }
-}
-
-fn rejection_of(index: usize, fault: OverrideFault<'_>) -> Rejection<'_>
-    ensures { rejection_text result
-        ≡ override_words index ++ objection_text (objection_of fault.entry) }
-{
-    match fault {
-        OverrideFault::OtherGroup => Rejection::OtherGroup(index),
-        OverrideFault::Component(fault) => Rejection::Override(index, Refusal::from(fault)),
+        Err((index, fault)) => Err(Rejection::Override(index, fault)),
     }
 }

@@ -11,14 +11,8 @@ ghost use Rattle.cvss_ffi.specs.Buffer.{IsWritten};
 ghost use Rattle.cvss_ffi.specs.Refusals.{IsReportedKind, IsKind, IsQuoted, reported_name as reported_kind_name, kind_number as number_of_kind, not_utf8, quoted_part as part_quoted};
 ghost use Rattle.cvss_ffi.specs.private.Steps.{IsRefusedBy, IsWrittenAt};
 
-use crate::buffer::{write, write_segments};
-use crate::message::write_error;
+use crate::buffer::{write, write_error, write_segments};
 use cvss_any::{Cvss, ReadError, Refusal, Segment};
-
-/// The number of a text that denotes a vector.
-const ACCEPTED: i32 = 0;
-
-const NOT_UTF8: i32 = 8;
 
 /// Writes why a text is refused.
 pub fn put_reason(text: &[u8], buffer: &mut [u8]) -> usize
@@ -35,7 +29,7 @@ pub fn kind_of(text: &[u8]) -> i32
     ensures { Answers text.now (λ _. result ≡ pos 0) (IsKind text.now result) }
 {
     match read(text) {
-        Ok(_) => ACCEPTED,
+        Ok(_) => 0,
         Err(error) => kind_number(error),
     }
 }
@@ -61,19 +55,23 @@ pub fn put_quoted(text: &[u8], buffer: &mut [u8]) -> usize
 }
 
 /// The vector that a text denotes, or else why it denotes none.
+#[tactic(auto, using(cvss_any::proofs::ErrorLemmas::said_of_bytes))]
 pub(crate) fn read(text: &[u8]) -> Result<Cvss, ReadError<'_>>
     ensures denoted { IfOk result (λ cvss. DenotesCvss text.now cvss) }
     ensures scored { IfOk result (λ cvss. HasScore cvss) }
     ensures refused { IfErr result (IsRefusedBy text.now) }
 {
-    Cvss::read(text)
+    match Cvss::read(text) {
+        Ok(cvss) => Ok(cvss),
+        Err(error) => Err(error),
+    }
 }
 
 fn kind_number(error: ReadError<'_>) -> i32
     ensures { result ≡ said_of number_of_kind not_utf8 error.entry }
 {
     match error {
-        ReadError::NotUtf8 => NOT_UTF8,
+        ReadError::NotUtf8 => 8,
         ReadError::Invalid(Refusal::BadComponent(_)) => 1,
         ReadError::Invalid(Refusal::WrongPrefix(_)) => 2,
         ReadError::Invalid(Refusal::WrongVersion(_)) => 3,

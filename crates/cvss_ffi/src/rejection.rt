@@ -5,31 +5,25 @@ ghost use Rattle.cvss_ffi.specs.Buffer.{IsWritten};
 ghost use Rattle.cvss_ffi.specs.Setting.{IsNewWritten, IsWhyNotWritten};
 ghost use Rattle.cvss_ffi.specs.private.Rejection.{answered, rejection_text};
 
-use crate::buffer::write;
+use crate::buffer::{write, write_error, write_refusal};
 use crate::canonical::write_canonical;
-use crate::message::{write_error, write_refusal};
 use cvss_any::{Cvss, ReadError, Refusal};
 use cvss_json_write::Page;
+use cvss_v4::overrides::OverrideFault;
 
 /// Why there is no new vector.
 #[derive(Drop)]
 pub enum Rejection<'a> {
-    /// The text denotes no vector.
+    /// The text denotes no vector, or the metrics are not UTF-8.
     Text(ReadError<'a>),
     /// No version has this number.
     NoVersion,
-    /// The metrics are not UTF-8.
-    NotUtf8,
     /// The vector is not of CVSS v4.0.
     OtherVersion,
-    /// The metrics make no vector.
-    Vector(Refusal<'a>),
-    /// The metric with this index is rejected.
-    Metric(usize, Refusal<'a>),
+    /// The metrics make no vector: the one with this index is rejected, or one is missing.
+    Metrics(Option<usize>, Refusal<'a>),
     /// The override with this index is rejected.
-    Override(usize, Refusal<'a>),
-    /// The override with this index is of no environmental metric.
-    OtherGroup(usize),
+    Override(usize, OverrideFault<'a>),
 }
 
 /// Writes the canonical text of a new vector, if there is one.
@@ -59,16 +53,16 @@ fn write_rejection(rejection: Rejection<'_>, buffer: &mut [u8]) -> usize
     match rejection {
         Rejection::Text(error) => write_error(error, buffer),
         Rejection::NoVersion => write(b"unsupported CVSS version", buffer),
-        Rejection::NotUtf8 => write(b"not UTF-8", buffer),
         Rejection::OtherVersion => write(b"no CVSSv4 vector", buffer),
-        Rejection::Vector(reason) => write_refusal(&[], reason, buffer),
-        Rejection::Metric(index, reason) => {
+        Rejection::Metrics(None, reason) => write_refusal(&[], reason, buffer),
+        Rejection::Metrics(Some(index), reason) => {
             write_refusal(named("metric ", index).bytes(), reason, buffer)
         }
-        Rejection::Override(index, reason) => {
+        Rejection::Override(index, OverrideFault::Component(fault)) => {
+            let reason = Refusal::from(fault);
             write_refusal(named("override ", index).bytes(), reason, buffer)
         }
-        Rejection::OtherGroup(index) => {
+        Rejection::Override(index, OverrideFault::OtherGroup) => {
             let mut words = named("override ", index);
             words.push(b"no environmental CVSSv4 metric");
             write(words.bytes(), buffer)

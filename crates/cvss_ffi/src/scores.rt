@@ -6,9 +6,9 @@ ghost use Rattle.cvss_json_record.specs.declared.group.Group.TheVariants.{Base, 
 ghost use Rattle.cvss_ffi.specs.Scores.{AreScoresByOf, AreScoresOf, IsReportedScore};
 
 use crate::numbers::{NOTHING, nomenclature_of, rating_number, version_number};
-use crate::v3;
 use cvss_any::Cvss;
 use cvss_score::v4::Nomenclature;
+use cvss_v3 as v3;
 
 /// The version, the scores and the ratings of a vector. Scores are in tenths, from 0 to 100; ratings
 /// are 0 for none, 1 low, 2 medium, 3 high, 4 critical.
@@ -96,7 +96,7 @@ pub(crate) fn tenths_of(cvss: &Cvss) -> (i32, i32, i32)
 }
 
 /// Those of CVSS v3, by the vector's minor version.
-fn tenths_of_v3(vector: &v3::Vector) -> (i32, i32, i32)
+pub(crate) fn tenths_of_v3(vector: &v3::Vector) -> (i32, i32, i32)
     ensures base { IsReportedScore (CvssV31 vector.now) Base result.0 }
     ensures temporal { IsReportedScore (CvssV31 vector.now) Temporal result.1 }
     ensures environmental { IsReportedScore (CvssV31 vector.now) Environmental result.2 }

@@ -1,14 +1,13 @@
 //! Metrics that are set in a vector, and vectors that are built from metrics. It takes no memory.
 
 ghost use Rattle.std.specs.Prelude.{◌≡◌, IfNone, IfSome};
-ghost use Rattle.cvss_any.specs.Refusals.{refusal_of};
 ghost use Rattle.cvss_any.specs.declared.setting.Version as version;
-ghost use Rattle.cvss_ffi.specs.Setting.{Builds, SetsMetrics, number_of, set_reason_text};
-ghost use Rattle.cvss_ffi.specs.private.Rejection.{answered, rejection_text};
+ghost use Rattle.cvss_ffi.specs.Setting.{Builds, SetsMetrics, number_of};
+ghost use Rattle.cvss_ffi.specs.private.Rejection.{answered};
 
 use crate::refusal::read;
 use crate::rejection::Rejection;
-use cvss_any::{Cvss, SetError, Version};
+use cvss_any::{Cvss, ReadError, Version};
 
 /// The vector that a text denotes with metrics set, or why there is none.
 pub fn with_metrics<'a>(text: &'a [u8], metrics: &'a [u8]) -> Result<Cvss, Rejection<'a>>
@@ -19,11 +18,11 @@ pub fn with_metrics<'a>(text: &'a [u8], metrics: &'a [u8]) -> Result<Cvss, Rejec
         Err(error) => return Err(Rejection::Text(error)),
     };
     let Ok(metrics) = str::from_utf8(metrics) else {
-        return Err(Rejection::NotUtf8);
+        return Err(Rejection::Text(ReadError::NotUtf8));
     };
     match cvss.with_metrics(metrics) {
         Ok(new) => Ok(new),
-        Err(error) => Err(rejection_of(error)),
+        Err(error) => Err(Rejection::Metrics(error.index, error.reason)),
     }
 }
 
@@ -35,21 +34,11 @@ pub fn built(version: i32, metrics: &[u8]) -> Result<Cvss, Rejection<'_>>
         return Err(Rejection::NoVersion);
     };
     let Ok(metrics) = str::from_utf8(metrics) else {
-        return Err(Rejection::NotUtf8);
+        return Err(Rejection::Text(ReadError::NotUtf8));
     };
     match Cvss::build(version, metrics) {
         Ok(new) => Ok(new),
-        Err(error) => Err(rejection_of(error)),
-    }
-}
-
-fn rejection_of(error: SetError<'_>) -> Rejection<'_>
-    ensures { rejection_text result
-        ≡ set_reason_text error.entry.index (refusal_of error.entry.reason) }
-{
-    match error.index {
-        Some(index) => Rejection::Metric(index, error.reason),
-        None => Rejection::Vector(error.reason),
+        Err(error) => Err(Rejection::Metrics(error.index, error.reason)),
     }
 }
 

@@ -5,17 +5,13 @@ ghost use Rattle.std.specs.List.{repeat};
 ghost use Rattle.cvss_any.specs.Answers.{HasScore};
 ghost use Rattle.cvss_base.specs.V4Types.{most_metrics};
 ghost use Rattle.cvss_base.specs.Version.{held};
-ghost use Rattle.cvss_v2.specs.Vector.{v2};
-ghost use Rattle.cvss_v3.specs.Vector.{v3};
-ghost use Rattle.cvss_v4.specs.Vector.{v4};
 ghost use Rattle.cvss_ffi.specs.Buffer.{begun};
 ghost use Rattle.cvss_ffi.specs.Metrics.{padded as padded_text};
-ghost use Rattle.cvss_ffi.specs.Values.{AreValuesOf, field_of, fields_in, fields_of as fields_of_cvss};
+ghost use Rattle.cvss_ffi.specs.Values.{AreValuesOf, field_of, fields_of as fields_of_cvss};
 
 use crate::buffer::write;
 use crate::metrics::padded;
 use crate::numbers::{nomenclature_of, version_number};
-use crate::{v2, v3, v4};
 use cvss_any::Cvss;
 use cvss_base::v2::MetricType as V2;
 use cvss_base::v3::MetricType as V3;
@@ -68,9 +64,11 @@ fn fields_of(cvss: &Cvss) -> [[u8; 8]; MOST_METRICS]
     ensures { result ≡ fields_of_cvss cvss.now }
 {
     match cvss {
-        Cvss::CvssV20(vector) => filled_up(&fields_v2(vector)),
-        Cvss::CvssV30(vector) | Cvss::CvssV31(vector) => filled_up(&fields_v3(vector)),
-        Cvss::CvssV40(vector) => fields_v4(vector),
+        Cvss::CvssV20(vector) => filled_up(&cvss_v2::each_metric!(fields!(vector, V2))),
+        Cvss::CvssV30(vector) | Cvss::CvssV31(vector) => {
+            filled_up(&cvss_v3::each_metric!(fields!(vector, V3)))
+        }
+        Cvss::CvssV40(vector) => cvss_v4::each_metric!(fields!(vector, V4)),
     }
 }
 
@@ -82,24 +80,6 @@ fn filled_up(fields: &[[u8; 8]]) -> [[u8; 8]; MOST_METRICS]
     let mut all = [[0; 8]; MOST_METRICS];
     write(fields, &mut all);
     all
-}
-
-fn fields_v2(vector: &v2::Vector) -> [[u8; 8]; 14]
-    ensures { result ≡ fields_in v2 vector.now }
-{
-    cvss_v2::each_metric!(fields!(vector, V2))
-}
-
-fn fields_v3(vector: &v3::Vector) -> [[u8; 8]; 22]
-    ensures { result ≡ fields_in v3 vector.now }
-{
-    cvss_v3::each_metric!(fields!(vector, V3))
-}
-
-fn fields_v4(vector: &v4::Vector) -> [[u8; 8]; MOST_METRICS]
-    ensures { result ≡ fields_in v4 vector.now }
-{
-    cvss_v4::each_metric!(fields!(vector, V4))
 }
 
 /// The spelling of the value that a vector has for a metric, filled up with bytes 0.

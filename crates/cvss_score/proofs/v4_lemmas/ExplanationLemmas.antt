@@ -1,5 +1,5 @@
 -- What is reported of a group of metrics.
-use Rattle.std.proofs.Common.{◌≡◌, ℕ, zero, suc, ◌-◌, ◌*◌, ◌/◌, ◌≤◌, Option, Some, None, option_map, unwrap_or, unsigned_abs, refl, arith, pos, ◌-ℤ◌, ap, ◌∙◌}
+use Rattle.std.proofs.Common.{◌≡◌, ℕ, ◌-◌, ◌*◌, ◌/◌, Option, Some, None, option_map, unwrap_or, unsigned_abs, refl, pos, ◌-ℤ◌, ap, ◌∙◌}
 use Rattle.cvss_base.specs.Exact.{Exact, ratio, ◌over◌, tenths, whole, ◌⊗◌, ◌≈◌}
 use Rattle.cvss_base.proofs.ExactLemmas.{equal_sym}
 use Rattle.cvss_score.specs.v4.Explanation.{IsGroupExplanation}
@@ -25,12 +25,6 @@ taken_of : (value : ℕ) (group : Group) → IsSound value group
 taken_of value group sound =
     taken_where (next_lower group) (λ lower. tenths (pos value -ℤ pos lower) ⊗ ratio group.distance group.depth)
     (λ lower. (value - lower) * unsigned_abs group.distance * (840 / group.depth)) (part_of value group sound)
-
--- ten points at most
-pub few_taken : (value taken counted : ℕ) → value ≤ 100 → counted ≤ 1 → taken ≤ 840 * (value - 1) * counted → taken ≤ 84000
-few_taken value taken zero to_hundred one bound = omega arith
-few_taken value taken (suc zero) to_hundred one bound = omega arith
-few_taken value taken (suc (suc more)) to_hundred one bound = absurd (omega arith)
 
 -- a group is reported by its terms
 pub is_reported : (v : Effective) (value : ℕ) (group : Group) (terms : Terms) (reported : GroupExplanation)

@@ -1,4 +1,0 @@
-pub mod BufferLemmas
-pub mod LengthLemmas
-pub mod LinesLemmas
-pub mod UndefinedLemmas
