@@ -37,13 +37,11 @@ pub extern "C" fn cvss_scores(text: &[u8], scores: &mut CvssScores) -> bool
     ensures { Answers text.now (λ cvss. (result ≡ true) × AreScoresOf cvss scores.new)
         ((result ≡ false) × (scores.new ≡ scores.old)) }
 {
-    match Cvss::read_bytes(text) {
-        Some(cvss) => {
-            *scores = CvssScores::of(&cvss);
-            true
-        }
-        None => false,
-    }
+    let Some(cvss) = Cvss::read_bytes(text) else {
+        return false;
+    };
+    *scores = CvssScores::of(&cvss);
+    true
 }
 
 /// The tenths of the published score of the vector that a text denotes, in CVSS v2 and v3 the base
@@ -65,13 +63,11 @@ pub extern "C" fn cvss_values(text: &[u8], values: &mut CvssValues) -> bool
     ensures { Answers text.now (λ cvss. (result ≡ true) × AreValuesOf cvss values.new)
         ((result ≡ false) × (values.new ≡ values.old)) }
 {
-    match Cvss::read_bytes(text) {
-        Some(cvss) => {
-            *values = CvssValues::of(&cvss);
-            true
-        }
-        None => false,
-    }
+    let Some(cvss) = Cvss::read_bytes(text) else {
+        return false;
+    };
+    *values = CvssValues::of(&cvss);
+    true
 }
 
 /// Whether a text denotes a vector of CVSS v4.0; then the tenths of its scores by nomenclature,
@@ -103,10 +99,7 @@ pub extern "C" fn cvss_canonical(text: &[u8], buffer: &mut [u8]) -> usize
         buffer.old buffer.new result }
     ensures length { (cvss : Cvss) → DenotesCvss text.now cvss → result ≡ length text.now }
 {
-    match put_canonical_of(text, buffer) {
-        Some(_) => text.len(),
-        None => 0,
-    }
+    put_canonical_of(text, buffer).map_or(0, |_| text.len())
 }
 
 /// What `cvss_scores` and `cvss_canonical` answer, in one call.
@@ -118,13 +111,11 @@ pub extern "C" fn cvss_read(text: &[u8], scores: &mut CvssScores, buffer: &mut [
         buffer.old buffer.new result }
     ensures length { (cvss : Cvss) → DenotesCvss text.now cvss → result ≡ length text.now }
 {
-    match put_canonical_of(text, buffer) {
-        Some(cvss) => {
-            *scores = CvssScores::of(&cvss);
-            text.len()
-        }
-        None => 0,
-    }
+    let Some(cvss) = put_canonical_of(text, buffer) else {
+        return 0;
+    };
+    *scores = CvssScores::of(&cvss);
+    text.len()
 }
 
 /// How many metrics the vector has that a text denotes; they are written into the array, in the
