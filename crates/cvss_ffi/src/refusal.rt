@@ -55,16 +55,12 @@ pub fn put_quoted(text: &[u8], buffer: &mut [u8]) -> usize
 }
 
 /// The vector that a text denotes, or else why it denotes none.
-#[tactic(auto, using(cvss_any::proofs::ErrorLemmas::said_of_bytes))]
 pub(crate) fn read(text: &[u8]) -> Result<Cvss, ReadError<'_>>
     ensures denoted { IfOk result (λ cvss. DenotesCvss text.now cvss) }
     ensures scored { IfOk result (λ cvss. HasScore cvss) }
     ensures refused { IfErr result (IsRefusedBy text.now) }
 {
-    match Cvss::read(text) {
-        Ok(cvss) => Ok(cvss),
-        Err(error) => Err(error),
-    }
+    Cvss::read(text)
 }
 
 fn kind_number(error: ReadError<'_>) -> i32
