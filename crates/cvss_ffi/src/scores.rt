@@ -101,10 +101,11 @@ pub(crate) fn tenths_of_v3(vector: &v3::Vector) -> (i32, i32, i32)
     ensures temporal { IsReportedScore (CvssV31 vector.now) Temporal result.1 }
     ensures environmental { IsReportedScore (CvssV31 vector.now) Environmental result.2 }
 {
+    let (base, temporal, environmental) = vector.all_tenths();
     (
-        i32::from(vector.tenths()),
-        i32::from(vector.temporal_tenths()),
-        i32::from(vector.environmental_tenths()),
+        i32::from(base),
+        i32::from(temporal),
+        i32::from(environmental),
     )
 }
 

@@ -26,20 +26,22 @@ impl Scores {
         requires { HasScore cvss.now }
         ensures { AreScoresOf cvss.now result }
     {
-        let base = cvss.tenths();
         match cvss {
             Cvss::CvssV20(vector) => Scores {
-                base,
+                base: vector.tenths(),
                 temporal: Some(vector.temporal_tenths()),
                 environmental: Some(vector.environmental_tenths()),
             },
-            Cvss::CvssV30(vector) | Cvss::CvssV31(vector) => Scores {
-                base,
-                temporal: Some(vector.temporal_tenths()),
-                environmental: Some(vector.environmental_tenths()),
-            },
-            Cvss::CvssV40(_) => Scores {
-                base,
+            Cvss::CvssV30(vector) | Cvss::CvssV31(vector) => {
+                let (base, temporal, environmental) = vector.all_tenths();
+                Scores {
+                    base,
+                    temporal: Some(temporal),
+                    environmental: Some(environmental),
+                }
+            }
+            Cvss::CvssV40(vector) => Scores {
+                base: vector.tenths(),
                 temporal: None,
                 environmental: None,
             },

@@ -111,11 +111,12 @@ fn scores_of_v3(version: &'static str, vector: &v3::Vector) -> Scores
     ensures { AreScoresV3 version.now vector.now (cell_view result.version) (cell_view result.base)
         (cell_view result.temporal) (cell_view result.environmental) }
 {
+    let (base, temporal, environmental) = vector.all_tenths();
     Scores {
         version: Cell::Words(version),
-        base: number(vector.tenths()),
-        temporal: number(vector.temporal_tenths()),
-        environmental: number(vector.environmental_tenths()),
+        base: number(base),
+        temporal: number(temporal),
+        environmental: number(environmental),
     }
 }
 

@@ -81,6 +81,27 @@ impl Vector {
         weights.times_temporal(first, self.minor_version) as u8
     }
 
+    /// The base score, the temporal and the environmental one in tenths, as above, from weights that are
+    /// looked up once.
+    pub fn all_tenths(&self) -> (u8, u8, u8)
+        ensures base { IsBaseScore self.now.minor_version (weights_of self.now)
+            (pos result.0 *ℤ pos (10 ^ 23)) }
+        ensures temporal { IsTemporalScore self.now.minor_version (weights_of self.now)
+            (pos result.1 *ℤ pos (10 ^ 23)) }
+        ensures environmental { IsEnvironmentalScore self.now.minor_version (weights_of self.now)
+            (pos result.2 *ℤ pos (10 ^ 23)) }
+        ensures base_to_ten { result.0 ≤ 100 }
+        ensures temporal_to_ten { result.1 ≤ 100 }
+        ensures environmental_to_ten { result.2 ≤ 100 }
+    {
+        let weights = self.shared_weights();
+        let base = weights.base(self.minor_version);
+        let temporal = weights.times_temporal(base, self.minor_version);
+        let first = weights.environmental_first(self.minor_version);
+        let environmental = weights.times_temporal(first, self.minor_version);
+        (base as u8, temporal as u8, environmental as u8)
+    }
+
     /// The exploitability sub-score, which is exact (v3.1 specification, section 7.1).
     pub fn exploitability(&self) -> Score
         ensures value { of_count result ≈ exploitability (weights_of self.now) }
