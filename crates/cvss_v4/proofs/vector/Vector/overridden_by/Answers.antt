@@ -1,12 +1,31 @@
-use Rattle.std.proofs.Common.{◌∙◌, refl, rules, sym}
-use Rattle.cvss_base.specs.declared.v4.MetricType.TheVariants as metric
+use Rattle.std.proofs.Common.{◌≡◌, ◌∙◌, refl, sym}
+use Rattle.cvss_base.specs.declared.group.MetricGroup.TheVariants.{Base, Environmental, Supplemental, Threat}
+use Rattle.cvss_base.specs.declared.v4.MetricType.TheVariants.{AC}
 use Rattle.cvss_v4.proofs.OverridingLemmas.{IsComplete-kept}
 use Rattle.cvss_v4.proofs.vector.Vector.overridden_by.Goals as goal
 
+-- a group is environmental or another
+base : {A : Type 0} → Base ≡ Environmental → A
+base is = absurd cc
+
+threat : {A : Type 0} → Threat ≡ Environmental → A
+threat is = absurd cc
+
+supplemental : {A : Type 0} → Supplemental ≡ Environmental → A
+supplemental is = absurd cc
+
+environmental : {A : Type 0} → ¬ (Environmental ≡ Environmental) → A
+environmental not = absurd (not refl)
+
+same : {A B : Type 0} {x : A} → B → x ≡ x
+same _ = refl
+
+ruleset cases = (base, threat, supplemental, environmental, same)
+
 pub returns-clause-map : goal.returns-clause-map
 returns-clause-map c = record {
-  replaced = elim [ metric.AC ↦ λ is. cc | _ ↦ λ is. cc ];
-  kept = elim [ metric.AC ↦ λ not. search rules | _ ↦ λ not. search rules ];
+  replaced = elim [ AC ↦ search cases | _ ↦ search cases ];
+  kept = elim [ AC ↦ search cases | _ ↦ search cases ];
   minor_version = refl;
 }
 
