@@ -69,15 +69,14 @@ def _loaded() -> ctypes.CDLL:
 
 def _declared(library: ctypes.CDLL) -> ctypes.CDLL:
     text = [ctypes.c_char_p, ctypes.c_size_t]
-    # the others are given as pointers and a size_t, which need no conversion
-    library.cvss_read.argtypes = text
-    library.cvss_read.restype = ctypes.c_size_t
     for count in (library.cvss_score, library.cvss_refusal_kind):
         count.argtypes = text
         count.restype = ctypes.c_int32
     library.cvss_values.argtypes = [*text, ctypes.c_char_p]
     library.cvss_values.restype = ctypes.c_bool
+    # Of the calls that write a text, the last arguments are given as pointers and a size_t, which need no conversion.
     for call in (
+        library.cvss_read,
         library.cvss_canonical,
         library.cvss_without_undefined,
         library.cvss_record,
@@ -87,13 +86,13 @@ def _declared(library: ctypes.CDLL) -> ctypes.CDLL:
         library.cvss_refusal_value,
         library.cvss_answer,
     ):
-        call.argtypes = text + [ctypes.c_char_p, ctypes.c_size_t]
+        call.argtypes = text
         call.restype = ctypes.c_size_t
     for call in (library.cvss_overridden, library.cvss_with, library.cvss_with_reason):
-        call.argtypes = text + text + [ctypes.c_char_p, ctypes.c_size_t]
+        call.argtypes = text + text
         call.restype = ctypes.c_size_t
     for call in (library.cvss_build, library.cvss_build_reason):
-        call.argtypes = [ctypes.c_int32, *text, ctypes.c_char_p, ctypes.c_size_t]
+        call.argtypes = [ctypes.c_int32, *text]
         call.restype = ctypes.c_size_t
     library.cvss_nomenclature_scores.argtypes = text + [ctypes.c_int32 * 4]
     library.cvss_nomenclature_scores.restype = ctypes.c_bool
@@ -116,7 +115,7 @@ def _declared(library: ctypes.CDLL) -> ctypes.CDLL:
 _library = _declared(_loaded())
 _read = _library.cvss_read
 _numbers_in = _SCORES.unpack_from
-_CANONICAL = _SCORES.size
+_TEXT = _SCORES.size
 
 
 def bytes_of(text: Text) -> bytes:
@@ -137,21 +136,7 @@ def bytes_of(text: Text) -> bytes:
     raise TypeError(f"a text is str, bytes, bytearray or memoryview, and not {type(text).__name__}")
 
 
-def _written(size: int, call: Callable[..., int], *given: Union[bytes, int]) -> str:
-    """What a call writes into a buffer that is large enough; tried first with one of this size. A text is given to the
-    call with its length."""
-    arguments: List[Union[bytes, int]] = []
-    for argument in given:
-        arguments += [argument, len(argument)] if isinstance(argument, bytes) else [argument]
-    while True:
-        buffer = ctypes.create_string_buffer(size)
-        length = call(*arguments, buffer, size)
-        if length <= size:
-            return ctypes.string_at(buffer, length).decode("utf-8", "replace")
-        size = length
-
-
-# The output of cvss_read: a struct followed by a text, and the last three arguments, which point to them.
+# What a call writes: of cvss_read a struct, and of each a text; and the last arguments, which point to them.
 _Room = Tuple[Any, Any, Any, ctypes.c_size_t]
 
 
@@ -160,24 +145,44 @@ def _room(size: int) -> _Room:
     return room, ctypes.byref(room), ctypes.byref(room, _SCORES.size), ctypes.c_size_t(size)
 
 
-_ROOM_FOR_TEXT = 512
+_ROOM_FOR_TEXT = 4096
 # The rooms that no call uses. A call takes one out, so that no other thread, and no handler of a signal in the midst of
 # the call, writes into it.
 _rooms: List[_Room] = []
 
 
+def _own_room() -> _Room:
+    try:
+        return _rooms.pop()
+    except IndexError:
+        return _room(_ROOM_FOR_TEXT)
+
+
+def _written(call: Callable[..., int], *given: Union[bytes, int]) -> str:
+    """What a call writes into a room that is large enough. A text is given to the call with its length."""
+    arguments: List[Union[bytes, int]] = []
+    for argument in given:
+        arguments += [argument, len(argument)] if isinstance(argument, bytes) else [argument]
+    own = _own_room()
+    room, _, buffer, size = own
+    length = call(*arguments, buffer, size)
+    if length > _ROOM_FOR_TEXT:
+        room, _, buffer, size = _room(length)
+        call(*arguments, buffer, size)
+    told: bytes = room[_TEXT : _TEXT + length]
+    _rooms.append(own)
+    return told.decode("utf-8", "replace")
+
+
 def read(text: bytes) -> Optional[Tuple[Tuple[int, ...], bytes]]:
     """The numbers of the scores and the canonical text of the vector that a text denotes."""
-    try:
-        own = _rooms.pop()
-    except IndexError:
-        own = _room(_ROOM_FOR_TEXT)
+    own = _own_room()
     room, scores, buffer, size = own
     length = _read(text, len(text), scores, buffer, size)
     if length > _ROOM_FOR_TEXT:
         room, scores, buffer, size = _room(length)
         _read(text, len(text), scores, buffer, size)
-    told = (_numbers_in(room), room[_CANONICAL : _CANONICAL + length]) if length else None
+    told = (_numbers_in(room), room[_TEXT : _TEXT + length]) if length else None
     _rooms.append(own)
     return told
 
@@ -199,32 +204,32 @@ def values(text: bytes) -> Optional[Tuple[int, int, int, List[str]]]:
 
 def without_undefined(text: bytes) -> str:
     """The canonical text of the vector that a text denotes, without its undefined metrics, or nothing."""
-    return _written(len(text) + 1, _library.cvss_without_undefined, text)
+    return _written(_library.cvss_without_undefined, text)
 
 
 def overridden(text: bytes, overrides: bytes) -> str:
     """The canonical text of the v4.0 vector that a text denotes, with overrides set, or nothing."""
-    return _written(len(text) + len(overrides) + 1, _library.cvss_overridden, text, overrides)
+    return _written(_library.cvss_overridden, text, overrides)
 
 
 def with_metrics(text: bytes, metrics: bytes) -> str:
     """The canonical text of the vector that a text denotes, with these metrics set, or nothing."""
-    return _written(len(text) + len(metrics) + 1, _library.cvss_with, text, metrics)
+    return _written(_library.cvss_with, text, metrics)
 
 
 def with_reason(text: bytes, metrics: bytes) -> str:
     """Why metrics cannot be set, or nothing."""
-    return _written(len(metrics) + 120, _library.cvss_with_reason, text, metrics)
+    return _written(_library.cvss_with_reason, text, metrics)
 
 
 def built(version: int, metrics: bytes) -> str:
     """The canonical text of the vector of a version with these metrics, or nothing."""
-    return _written(len(metrics) + 10, _library.cvss_build, version, metrics)
+    return _written(_library.cvss_build, version, metrics)
 
 
 def build_reason(version: int, metrics: bytes) -> str:
     """Why metrics make no vector of a version, or nothing."""
-    return _written(len(metrics) + 120, _library.cvss_build_reason, version, metrics)
+    return _written(_library.cvss_build_reason, version, metrics)
 
 
 def nomenclature_scores(text: bytes) -> List[int]:
@@ -269,17 +274,17 @@ def temporal_with_impact(metrics: bytes, count: int) -> Optional[int]:
 
 def record(text: bytes) -> str:
     """The record of the vector that a text denotes, or nothing."""
-    return _written(2048, _library.cvss_record, text)
+    return _written(_library.cvss_record, text)
 
 
 def account(text: bytes) -> str:
     """The explanation of the score of the vector that a text denotes, or nothing."""
-    return _written(2048, _library.cvss_account, text)
+    return _written(_library.cvss_account, text)
 
 
 def reason(text: bytes) -> str:
     """Why a text is rejected, or nothing."""
-    return _written(len(text) + 120, _library.cvss_reason, text)
+    return _written(_library.cvss_reason, text)
 
 
 def refusal_kind(text: bytes) -> int:
@@ -289,17 +294,17 @@ def refusal_kind(text: bytes) -> int:
 
 def refusal_metric(text: bytes) -> str:
     """The metric that the reason names, or nothing."""
-    return _written(8, _library.cvss_refusal_metric, text)
+    return _written(_library.cvss_refusal_metric, text)
 
 
 def refusal_value(text: bytes) -> str:
     """The part of a text that the reason quotes, or nothing."""
-    return _written(len(text) + 1, _library.cvss_refusal_value, text)
+    return _written(_library.cvss_refusal_value, text)
 
 
 def answer(text: bytes) -> str:
     """The line that the program cvss_tool answers."""
-    return _written(len(text) + 120, _library.cvss_answer, text)
+    return _written(_library.cvss_answer, text)
 
 
 def answers(lines: bytes) -> bytes:
