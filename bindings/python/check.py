@@ -155,6 +155,15 @@ def check_texts() -> None:
         assert answer(text) == "error: not UTF-8"
 
 
+def check_long_texts() -> None:
+    """An answer that is longer than the room which is kept for answers is whole, and so are the next ones."""
+    for length in (4000, 4096, 10**6):
+        text = "AV:" + length * "N"
+        assert answer(text) == f"error: invalid CVSS metric group component: `{text}`", length
+        assert CvssError.of(text).value == text, length
+        assert answer(TEXT).startswith(f"{TEXT} "), length
+
+
 class Longer(bytes):
     """Bytes that are said to be more than they are."""
 
@@ -756,6 +765,7 @@ if __name__ == "__main__":
     check_syntax()
     check_stored_lines(Path(sys.argv[1]))
     check_texts()
+    check_long_texts()
     check_texts_of_subclasses()
     check_many_texts()
     check_changes(Path(sys.argv[1]))
