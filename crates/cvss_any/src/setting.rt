@@ -65,7 +65,6 @@ impl Cvss {
     /// The index of the first component with which something is wrong, and what: it has no colon, or
     /// more than one; no metric has its name; the metric has no such value; an earlier component names
     /// the same metric.
-    #[tactic(auto, using(crate::proofs::SettingLemmas::scored_with))]
     pub fn with_metrics<'a>(&self, metrics: &'a str) -> Result<Cvss, SetError<'a>>
         // Accepted: what is given has these metrics, and all else as it was; each such vector is given.
         ensures accepted { IfOk result (IsWith self.now metrics.now) }
@@ -90,7 +89,6 @@ impl Cvss {
     ///
     /// As of `with_metrics`; where nothing is wrong with the components, the first mandatory metric that is
     /// missing. An empty text is one component without a colon.
-    #[tactic(auto, using(crate::proofs::SettingLemmas::denoted_built, crate::proofs::SettingLemmas::scored_built))]
     pub fn build<'a>(version: Version, metrics: &'a str) -> Result<Cvss, SetError<'a>>
         // Accepted: what is given has these metrics and no others; each such vector is given.
         ensures accepted { IfOk result (IsBuiltAs version metrics.now) }
