@@ -1,17 +1,18 @@
 -- The line of each score is at its place; and what is written in answer to a line, where vectors may have to have all base
 -- metrics.
-use Rattle.std.proofs.Common.{◌≡◌, ℕ, ◌+◌, ◌*◌, ◌^◌, ◌<◌, ◌≤◌, pos, int_lt, Bool, true, false, [], ◌∷◌, ◌++◌, List, codes, Bor, slice_index_or, refl, sym, ap, ◌∙◌, append_assoc, arith, map}
+use Rattle.std.proofs.Common.{◌≡◌, ℕ, ◌+◌, ◌*◌, ◌^◌, ◌<◌, ◌≤◌, ℤ, pos, int_lt, Bool, true, false, [], ◌∷◌, ◌++◌, List, codes, Bor, slice_index_or, refl, sym, ap, ◌∙◌, append_assoc, arith, map}
 use Rattle.std.proofs.Math.ListN.{get_or-map}
 use Rattle.std.proofs.lemmas.Bool.Decides.{nat_tests}
 use Rattle.std.proofs.lemmas.List.FromFn.{get_or-map-range_with_len}
 use Rattle.std.specs.List.{range_with_len}
 use Rattle.cvss_base.specs.Rating.{rating_of_score}
+use Rattle.cvss_base.specs.declared.severity.Severity.{Severity}
 use Rattle.cvss_score.specs.v2.Rating.{rating_of}
 use Rattle.cvss_lines.specs.Answers.{WritesAnswer, written_text}
 use Rattle.cvss_lines.proofs.TextsLemmas.{accepted_by, refused_by}
-use Rattle.cvss_any.specs.Answers.{IsScoreOf, rating_text, score_of_tenths, vector_answer}
+use Rattle.cvss_any.specs.Answers.{IsScoreOf, rating_text, score_of_tenths, text_of, vector_answer}
 use Rattle.cvss_any.specs.Complete.{IsPublishedOfComplete, IsPublishedTo, IsReadErrorBy}
-use Rattle.cvss_any.specs.Published.{IsPublishedAs}
+use Rattle.cvss_any.specs.Published.{IsPublished}
 use Rattle.cvss_any.specs.Reasons.{error_message}
 use Rattle.cvss_any.specs.declared.published.Bounds.{Bounds}
 use Rattle.cvss_any.specs.declared.published.Bounds.TheVariants.{OfV2, SinceV3}
@@ -40,12 +41,12 @@ alike t from below =
 pub between_v2 : (t : ℕ) → 1 ≤ t → t < 90 → rated_line SinceV3 t ≡ rated_line OfV2 t
 between_v2 t from below = ap (λ rating. codes " " ++ (rating_text t rating ++ 10 ∷ [])) (alike t from below)
 
--- a canonical text with the line of its score is its vector's answer
-canonical_answer : (line text : List ℕ) (published : Published) → (is : IsPublishedAs line text published)
-    → text ++ score_line published ≡ written_text (vector_answer is.cvss published.tenths)
-canonical_answer line text published is =
-    ap (λ rating. text ++ (codes " " ++ (rating_text published.tenths (rating (score_of_tenths published.tenths)) ++ 10 ∷ []))) (sym is.is.rated)
-    ∙ simp (is.canonical_is, append_assoc)
+-- a vector's text and the line of its score, one after the other, are the vector's answer
+pub answer_written : (vector : Cvss) (published : Published) → IsPublished vector published → (old half new line : List ℕ) → half ≡ old ++ text_of vector
+    → line ≡ score_line published → new ≡ half ++ line → new ≡ old ++ written_text (vector_answer vector published.tenths)
+answer_written vector published is old half new line text said written =
+    let rated = λ (rating : ℤ → Severity). old ++ (text_of vector ++ (codes " " ++ (rating_text published.tenths (rating (score_of_tenths published.tenths)) ++ 10 ∷ []))) in
+    written ∙ rw (text, said, append_assoc old (text_of vector) (score_line published)) (ap rated (sym is.rated) ∙ simp append_assoc)
 
 -- a vector and an error that are a line's, once they are written
 module _ (IsVector : List ℕ → Cvss → Type 0) (IsError : List ℕ → ReadError → Type 0) (number : ℕ) (line old new : List ℕ) where
@@ -66,7 +67,7 @@ published_written allow number line old true new (canonical, published, is, appe
     let of = is.of in
     vector_written (IsVectorOf allow) (IsReadErrorBy allow) number line old new of.cvss published.tenths
     (record { utf8 = of.utf8; denoted = of.denoted; complete = is.complete }) of.is.scored
-    (appended ∙ ap (λ text. old ++ text) (canonical_answer line canonical published of))
+    (answer_written of.cvss published of.is old (old ++ canonical) new (score_line published) (ap (λ text. old ++ text) of.canonical_is) refl (appended ∙ sym (append_assoc old canonical (score_line published))))
 published_written allow number line old false new (error, is, appended) =
     error_written (IsVectorOf allow) (IsReadErrorBy allow) number line old new error is appended
 

@@ -104,6 +104,7 @@ pub fn write_canonical(
 /// # Errors
 ///
 /// Out of memory. A beginning of the answer may be written then.
+#[tactic(auto, using(crate::proofs::ScoringLemmas::answer_written))]
 pub fn write_vector(
     vector: &Cvss,
     published: Published,
