@@ -1,5 +1,5 @@
 use Rattle.std.proofs.Common.{◌≡◌, ◌<◌, inr, slice_index_or, ℕ, List, [], length, map, take, Bor, sym, subst, arith}
-use Rattle.std.proofs.lemmas.List.{length-map, get_or-map, take_more}
+use Rattle.std.proofs.lemmas.List.{length-map, get_or-map, take_all, take_more}
 use Rattle.cvss_base.specs.Refusal.{piece_at, IsFirstRefusalAfter}
 use Rattle.cvss_v4.specs.Vector.{v4}
 use Rattle.cvss_base.specs.Version.{Denotes}
@@ -64,6 +64,9 @@ loop-index-preserved c =
 
 at_end : (c : goal.After-loop-index) → c.loop-index.index ≡ length (texts_of c.args.texts.now)
 at_end c = omega (arith, length-map c.args.texts.now (λ (text : Bor (List ℕ)). text.now), c.loop-index.auto.index-end, c.loop-index-test.false)
+
+pub returns-clause-rows : goal.returns-clause-rows
+returns-clause-rows c = rw (take_all c.loop-index.index (texts_of c.args.texts.now) (omega (arith, at_end c))) at c.loop-index.invariant.0
 
 pub returns-clause-unrefused : goal.returns-clause-unrefused
 returns-clause-unrefused c = subst (HasNoRefusalBefore (texts_of c.args.texts.now)) (at_end c) c.loop-index.invariant.1
