@@ -1,6 +1,18 @@
-use Rattle.std.proofs.Common.{refl}
+use denote.Enum.Declared.{tag_of}
+use Rattle.std.proofs.Common.{refl, ◌≡◌, nat_cmp}
+use Rattle.cvss_base.specs.V4Types.{name_of, declared}
+use Rattle.cvss_base.specs.laws.Order.{place_in}
+use Rattle.cvss_base.specs.contracts.v4.MetricType.{the_type}
+use Rattle.cvss_base.specs.contracts.v4.MetricTypeOrd.TheImpl.{ghosts}
+use Rattle.cvss_base.specs.declared.v4.MetricType.{MetricType}
 use Rattle.cvss_base.specs.declared.v4.MetricType.TheVariants.{AC}
 use Rattle.cvss_base.proofs.laws.orders_are_declared.Goals as goal
 
+placed : (kind : MetricType) → place_in name_of declared kind ≡ tag_of the_type kind
+placed = elim [ AC ↦ refl | _ ↦ refl ]
+
+tagged : (x y : MetricType) → ghosts.cmp x y ≡ nat_cmp (tag_of the_type x) (tag_of the_type y)
+tagged = elim [ AC ↦ elim [ AC ↦ refl | _ ↦ refl ] | _ ↦ elim [ AC ↦ refl | _ ↦ refl ] ]
+
 pub returns-clause-v4 : goal.returns-clause-v4
-returns-clause-v4 c = elim [ AC ↦ elim [ AC ↦ refl | _ ↦ refl ] | _ ↦ elim [ AC ↦ refl | _ ↦ refl ] ]
+returns-clause-v4 c x y = rw (placed x, placed y) (tagged x y)
