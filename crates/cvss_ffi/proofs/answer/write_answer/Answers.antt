@@ -1,6 +1,10 @@
 use Rattle.std.proofs.Common.{◌++◌, codes, inr, refl}
 use Rattle.cvss_any.specs.Reasons.{error_message}
+use Rattle.cvss_ffi.proofs.LengthLemmas.{length_denoted_cvss}
 use Rattle.cvss_ffi.proofs.answer.write_answer.Goals as goal
+
+pub write_answer_of-requires-clause-length : goal.write_answer_of-requires-clause-length
+write_answer_of-requires-clause-length c = length_denoted_cvss c.args.text.now c.in-Ok.cvss c.in-Ok.ensures.denoted
 
 pub returns-in-Err : goal.returns-in-Err
 returns-in-Err c =
