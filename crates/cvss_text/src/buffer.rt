@@ -76,14 +76,27 @@ impl TextBuffer {
         ensures text { self.new ≡ self.old ++ with_slash.now }
         ensures room { length self.new ≤ length self.old + 8 }
     {
-        match with_slash.as_bytes() {
-            [a, b, c] => self.push([*a, *b, *c]),
-            [a, b, c, d] => self.push([*a, *b, *c, *d]),
-            [a, b, c, d, e] => self.push([*a, *b, *c, *d, *e]),
-            [a, b, c, d, e, f] => self.push([*a, *b, *c, *d, *e, *f]),
-            [a, b, c, d, e, f, g] => self.push([*a, *b, *c, *d, *e, *f, *g]),
-            [a, b, c, d, e, f, g, h] => self.push([*a, *b, *c, *d, *e, *f, *g, *h]),
+        let text = with_slash.as_bytes();
+        match text.len() {
+            3 => self.push_whole::<3>(text),
+            4 => self.push_whole::<4>(text),
+            5 => self.push_whole::<5>(text),
+            6 => self.push_whole::<6>(text),
+            7 => self.push_whole::<7>(text),
+            8 => self.push_whole::<8>(text),
             _ => {}
+        }
+    }
+
+    /// Appends a text of so many bytes.
+    #[inline(always)]
+    fn push_whole<const N: usize>(&mut self, text: &[u8])
+        requires length { length text.now ≡ N }
+        requires room { length self.old + N ≤ 208 }
+        ensures { self.new ≡ self.old ++ text.now }
+    {
+        if let Some(bytes) = text.as_array::<N>() {
+            self.push(*bytes);
         }
     }
 }
