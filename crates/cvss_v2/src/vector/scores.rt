@@ -1,8 +1,10 @@
 //! The scores of a vector.
 
-ghost use Rattle.std.specs.Prelude.{◌*◌, ◌≤◌, ◌≤ℤ◌, ◌*ℤ◌, ◌^◌, pos};
+ghost use Rattle.std.specs.Prelude.{◌≡◌, ◌*◌, ◌≤◌, ◌≤ℤ◌, ◌*ℤ◌, ◌^◌, pos};
+ghost use Rattle.std.specs.Int.{int_max};
 ghost use Rattle.cvss_base.specs.Exact.{of_count, ◌≈◌, IsWithinLimit};
 ghost use Rattle.cvss_score.specs.v2.Scores.{impact, adjusted_impact, exploitability, IsTemporal, IsBaseScore, IsTemporalScore, IsEnvironmentalScore};
+ghost use Rattle.cvss_score.specs.v2.private.Bounds.{IsOnScale};
 ghost use Rattle.cvss_base.specs.Tenths.{IsInTenths, IsFromZeroToTen};
 ghost use Rattle.cvss_v2.specs.Weights.{weights_of};
 
@@ -59,7 +61,7 @@ impl Vector {
         ensures value { IsBaseScore (weights_of self.now) (pos result *ℤ pos (10 ^ 23)) }
         ensures to_ten { result ≤ 100 }
     {
-        self.weights().base().max(0) as u8
+        raised_to_zero(self.weights().base())
     }
 
     /// The temporal score (guide, section 3.2.2), not below 0.
@@ -75,7 +77,7 @@ impl Vector {
         ensures value { IsTemporalScore (weights_of self.now) (pos result *ℤ pos (10 ^ 23)) }
         ensures to_ten { result ≤ 100 }
     {
-        self.shared_weights().temporal().max(0) as u8
+        raised_to_zero(self.shared_weights().temporal())
     }
 
     /// The environmental score (guide, section 3.2.3), not below 0.
@@ -91,7 +93,7 @@ impl Vector {
         ensures value { IsEnvironmentalScore (weights_of self.now) (pos result *ℤ pos (10 ^ 23)) }
         ensures to_ten { result ≤ 100 }
     {
-        self.shared_weights().environmental().max(0) as u8
+        raised_to_zero(self.shared_weights().environmental())
     }
 
     /// The temporal score with another impact in the place of the vector's own, which may be
@@ -104,4 +106,14 @@ impl Vector {
         let weights = self.shared_weights();
         of_tenths(weights.temporal_of(weights.base_of(impact.value())))
     }
+}
+
+/// The tenths of a score, raised to 0 where they are negative.
+#[inline(always)]
+fn raised_to_zero(tenths: i64) -> u8
+    requires { IsOnScale tenths }
+    ensures value { pos result ≡ int_max (pos 0) tenths }
+    ensures to_ten { result ≤ 100 }
+{
+    tenths.max(0) as u8
 }
