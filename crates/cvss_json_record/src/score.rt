@@ -28,7 +28,7 @@ impl Scores {
     {
         match cvss {
             Cvss::CvssV20(vector) => Scores {
-                base: vector.tenths(),
+                base: cvss.tenths(),
                 temporal: Some(vector.temporal_tenths()),
                 environmental: Some(vector.environmental_tenths()),
             },
@@ -40,8 +40,8 @@ impl Scores {
                     environmental: Some(environmental),
                 }
             }
-            Cvss::CvssV40(vector) => Scores {
-                base: vector.tenths(),
+            Cvss::CvssV40(_) => Scores {
+                base: cvss.tenths(),
                 temporal: None,
                 environmental: None,
             },
