@@ -77,7 +77,6 @@ def _declared(library: ctypes.CDLL) -> ctypes.CDLL:
     # Of the calls that write a text, the last arguments are given as pointers and a size_t, which need no conversion.
     for call in (
         library.cvss_read,
-        library.cvss_canonical,
         library.cvss_without_undefined,
         library.cvss_record,
         library.cvss_account,
@@ -158,11 +157,8 @@ def _own_room() -> _Room:
         return _room(_ROOM_FOR_TEXT)
 
 
-def _written(call: Callable[..., int], *given: Union[bytes, int]) -> str:
-    """What a call writes into a room that is large enough. A text is given to the call with its length."""
-    arguments: List[Union[bytes, int]] = []
-    for argument in given:
-        arguments += [argument, len(argument)] if isinstance(argument, bytes) else [argument]
+def _written(call: Callable[..., int], *arguments: Union[bytes, int]) -> str:
+    """What a call writes into a room that is large enough. Its arguments are these, and then the room and its size."""
     own = _own_room()
     room, _, buffer, size = own
     length = call(*arguments, buffer, size)
@@ -204,32 +200,32 @@ def values(text: bytes) -> Optional[Tuple[int, int, int, List[str]]]:
 
 def without_undefined(text: bytes) -> str:
     """The canonical text of the vector that a text denotes, without its undefined metrics, or nothing."""
-    return _written(_library.cvss_without_undefined, text)
+    return _written(_library.cvss_without_undefined, text, len(text))
 
 
 def overridden(text: bytes, overrides: bytes) -> str:
     """The canonical text of the v4.0 vector that a text denotes, with overrides set, or nothing."""
-    return _written(_library.cvss_overridden, text, overrides)
+    return _written(_library.cvss_overridden, text, len(text), overrides, len(overrides))
 
 
 def with_metrics(text: bytes, metrics: bytes) -> str:
     """The canonical text of the vector that a text denotes, with these metrics set, or nothing."""
-    return _written(_library.cvss_with, text, metrics)
+    return _written(_library.cvss_with, text, len(text), metrics, len(metrics))
 
 
 def with_reason(text: bytes, metrics: bytes) -> str:
     """Why metrics cannot be set, or nothing."""
-    return _written(_library.cvss_with_reason, text, metrics)
+    return _written(_library.cvss_with_reason, text, len(text), metrics, len(metrics))
 
 
 def built(version: int, metrics: bytes) -> str:
     """The canonical text of the vector of a version with these metrics, or nothing."""
-    return _written(_library.cvss_build, version, metrics)
+    return _written(_library.cvss_build, version, metrics, len(metrics))
 
 
 def build_reason(version: int, metrics: bytes) -> str:
     """Why metrics make no vector of a version, or nothing."""
-    return _written(_library.cvss_build_reason, version, metrics)
+    return _written(_library.cvss_build_reason, version, metrics, len(metrics))
 
 
 def nomenclature_scores(text: bytes) -> List[int]:
@@ -274,17 +270,17 @@ def temporal_with_impact(metrics: bytes, count: int) -> Optional[int]:
 
 def record(text: bytes) -> str:
     """The record of the vector that a text denotes, or nothing."""
-    return _written(_library.cvss_record, text)
+    return _written(_library.cvss_record, text, len(text))
 
 
 def account(text: bytes) -> str:
     """The explanation of the score of the vector that a text denotes, or nothing."""
-    return _written(_library.cvss_account, text)
+    return _written(_library.cvss_account, text, len(text))
 
 
 def reason(text: bytes) -> str:
     """Why a text is rejected, or nothing."""
-    return _written(_library.cvss_reason, text)
+    return _written(_library.cvss_reason, text, len(text))
 
 
 def refusal_kind(text: bytes) -> int:
@@ -294,17 +290,17 @@ def refusal_kind(text: bytes) -> int:
 
 def refusal_metric(text: bytes) -> str:
     """The metric that the reason names, or nothing."""
-    return _written(_library.cvss_refusal_metric, text)
+    return _written(_library.cvss_refusal_metric, text, len(text))
 
 
 def refusal_value(text: bytes) -> str:
     """The part of a text that the reason quotes, or nothing."""
-    return _written(_library.cvss_refusal_value, text)
+    return _written(_library.cvss_refusal_value, text, len(text))
 
 
 def answer(text: bytes) -> str:
     """The line that the program cvss_tool answers."""
-    return _written(_library.cvss_answer, text)
+    return _written(_library.cvss_answer, text, len(text))
 
 
 def answers(lines: bytes) -> bytes:
