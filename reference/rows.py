@@ -18,7 +18,7 @@ import v4
 
 COLUMNS = ("given", "vector", "version", "base", "temporal", "environmental", "score", "severity", "nomenclature",
            "error")
-ESCAPES = str.maketrans({"\t": "\\t", "\r": "\\r", "\\": "\\\\"})
+ESCAPES = str.maketrans({"\t": "\\t", "\n": "\\n", "\r": "\\r", "\\": "\\\\"})
 
 
 def scores_of(version, vector):

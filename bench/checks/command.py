@@ -18,6 +18,7 @@ V2_ANSWER = V2 + b" 7.8 high\n"
 CUT = b"CVSS:3.1/AV:N/AC:L/PR:N/UI:N/S:U/C:H"
 CUT_ANSWER = b"error: missing mandatory CVSSv3 I (Integrity Impact) metric\n"
 NO_FILE = b": No such file or directory (os error 2)\n"
+HEADER = b"given\tvector\tversion\tbase\ttemporal\tenvironmental\tscore\tseverity\tnomenclature\terror\n"
 tried = 0
 
 
@@ -122,11 +123,20 @@ def try_help(room):
 
 def try_header(room):
     """The head of the columns where no line follows it."""
-    header = b"given\tvector\tversion\tbase\ttemporal\tenvironmental\tscore\tseverity\tnomenclature\terror\n"
     with open("/dev/full", "wb") as device:
         expect(2, b"", b"cvss: standard output: No space left on device (os error 28)\n", "score", "--tsv", V2, stdout=device)
-    expect(2, header, b"cvss: gone" + NO_FILE, "score", "--tsv", "gone", cwd=room)
-    expect(0, header, b"", "score", "--tsv")
+    expect(2, HEADER, b"cvss: gone" + NO_FILE, "score", "--tsv", "gone", cwd=room)
+    expect(0, HEADER, b"", "score", "--tsv")
+
+
+def try_columns(room):
+    """Rows of several files and of a vector that is an argument: each has as many columns as the header."""
+    for name in ("one", "two\n"):
+        (room / name).write_bytes(V2 + b"\n")
+    row = V2 + b"\t" + V2 + b"\t2.0\t7.8\t7.8\t7.8\t7.8\thigh\t\t\n"
+    rows = b"\t" + row + b"one\t" + row + b"two\\n\t" + row
+    expect(0, b"file\t" + HEADER + rows, b"", "score", "--tsv", V2, "one", "two\n", cwd=room)
+    expect(0, HEADER + row + row, b"", "score", "--tsv", V2, "one", cwd=room)
 
 
 def try_completion():
@@ -154,6 +164,7 @@ def main():
         try_operands(room)
         try_help(room)
         try_header(room)
+        try_columns(room)
     try_completion()
     print(f"cvss: {tried} runs end as they should")
 

@@ -113,7 +113,7 @@ def try_files(draw, room, count, compare):
 
 def try_odd(room):
     """Lines and names with what a row escapes."""
-    names = ("one", 'two\t"')
+    names = ("one", 'two\t\n"')
     written = dict(zip(names, (b"".join(line + b"\n" for line in ODD), ODD[-1])))
     for name, data in written.items():
         (room / name).write_bytes(data)

@@ -21,7 +21,7 @@ pub fn push_given(format: Format, line: &[u8], answers: &mut OutputBuffer) -> Re
         ≡ answers.old.bytes.items ++ given_text format line.now) }
 {
     match format {
-        Format::Tsv => push_escaped(Format::Tsv, line, answers),
+        Format::Tsv { .. } => push_escaped(format, line, answers),
         Format::Json => push_if_utf8(line, answers),
     }
 }
@@ -106,9 +106,10 @@ fn push_byte(format: Format, byte: u8, answers: &mut OutputBuffer) -> Result<(),
         ≡ answers.old.bytes.items ++ escaped_byte format byte) }
 {
     match (format, byte) {
-        (Format::Tsv, b'\t') => answers.push(b"\\t"),
-        (Format::Tsv, b'\r') => answers.push(b"\\r"),
-        (Format::Tsv, b'\\') => answers.push(b"\\\\"),
+        (Format::Tsv { .. }, b'\t') => answers.push(b"\\t"),
+        (Format::Tsv { .. }, b'\n') => answers.push(b"\\n"),
+        (Format::Tsv { .. }, b'\r') => answers.push(b"\\r"),
+        (Format::Tsv { .. }, b'\\') => answers.push(b"\\\\"),
         (Format::Json, b'"' | b'\\') => answers.push(&[b'\\', byte]),
         (Format::Json, 0..32) => {
             answers.push(b"\\u00")?;

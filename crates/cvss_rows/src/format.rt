@@ -6,9 +6,12 @@ ghost use Rattle.cvss_rows.specs.Rows.{header_text};
 /// How a row is written.
 #[derive(Clone, Copy, Debug, PartialEq, Eq)]
 pub enum Format {
-    /// Values with tabs between them; what there is not is empty. A tab, a carriage return and a backslash
-    /// in a file's name, the given text or an error are written `\t`, `\r` and `\\`.
-    Tsv,
+    /// Values with tabs between them; what there is not is empty. A tab, a line feed, a carriage return and
+    /// a backslash in a file's name, the given text or an error are written `\t`, `\n`, `\r` and `\\`.
+    Tsv {
+        /// Whether the first value is the name of the file, since there are several.
+        many: bool,
+    },
     /// A JSON object (RFC 8259). What there is not, and a given text that is not UTF-8, is null.
     Json,
 }

@@ -31,9 +31,10 @@ fn push_opening(format: Format, prefix: &[u8], answers: &mut OutputBuffer) -> Re
         ≡ answers.old.bytes.items ++ opening format prefix.now) }
 {
     match (format, prefix) {
-        (Format::Tsv, []) => Ok(()),
-        (Format::Tsv, [file @ .., _]) => {
-            push_given(Format::Tsv, file, answers)?;
+        (Format::Tsv { many: false }, _) => Ok(()),
+        (Format::Tsv { many: true }, []) => answers.push(b"\t"),
+        (Format::Tsv { many: true }, [file @ .., _]) => {
+            push_given(format, file, answers)?;
             answers.push(b"\t")
         }
         (Format::Json, _) => {
@@ -101,7 +102,7 @@ fn push_name(
         ≡ answers.old.bytes.items ++ before_cell format name.now) }
 {
     match format {
-        Format::Tsv => answers.push(b"\t"),
+        Format::Tsv { .. } => answers.push(b"\t"),
         Format::Json => {
             answers.push(b",\"")?;
             answers.push(name.as_bytes())?;
@@ -135,7 +136,7 @@ fn push_nothing(format: Format, answers: &mut OutputBuffer) -> Result<(), AllocE
         ≡ answers.old.bytes.items ++ nothing format) }
 {
     match format {
-        Format::Tsv => Ok(()),
+        Format::Tsv { .. } => Ok(()),
         Format::Json => answers.push(b"null"),
     }
 }
@@ -144,7 +145,7 @@ fn push_quote(format: Format, answers: &mut OutputBuffer) -> Result<(), AllocErr
     ensures { OnOk result (answers.new.bytes.items ≡ answers.old.bytes.items ++ quote format) }
 {
     match format {
-        Format::Tsv => Ok(()),
+        Format::Tsv { .. } => Ok(()),
         Format::Json => answers.push(b"\""),
     }
 }
@@ -155,7 +156,7 @@ pub(crate) fn push_closing(format: Format, answers: &mut OutputBuffer) -> Result
         ≡ answers.old.bytes.items ++ (closing format ++ 10 ∷ [])) }
 {
     match format {
-        Format::Tsv => answers.push(b"\n"),
+        Format::Tsv { .. } => answers.push(b"\n"),
         Format::Json => answers.push(b"}\n"),
     }
 }

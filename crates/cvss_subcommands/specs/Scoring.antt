@@ -33,7 +33,7 @@ AnswersRows format allow_incomplete prefix = Ends (IsRow format allow_incomplete
 abbrev pub ServesTable : Bool → (List ℕ → Option (List ℕ)) → List (Vec ℕ) → Option (List ℕ) → Option (List ℕ) → Option (List ℕ) → Option (List ℕ) → Served → Type 0
 ServesTable allow_incomplete contents operands unread unread' written written' served =
     ((written'' : Option (List ℕ)) × Appends written written'' (header_text (many_files operands))
-    × ServesAll (AnswersRows Tsv allow_incomplete) contents operands unread unread' written'' written' served)
+    × ServesAll (AnswersRows (Tsv (many_files operands)) allow_incomplete) contents operands unread unread' written'' written' served)
     ⊎ (Keeps unread unread' × ((count : ℕ) × Appends written written' (take count (header_text (many_files operands))))
     × (served ≡ after nothing_served (Err Write)))
 

@@ -67,10 +67,11 @@ fn serve_table<F: Files, R: Read, W: Write, E: Write>(
         (R.remaining reader.old.reader) (R.remaining reader.new.reader)
         (W.contents writer.old) (W.contents writer.new) result }
 {
-    let names = header(are_many(operands));
+    let many = are_many(operands);
+    let names = header(many);
     match write_whole(writer, names.as_bytes()) {
         Ok(()) => {
-            let format = Format::Tsv;
+            let format = Format::Tsv { many };
             let task = ScoreRow {
                 format,
                 allow_incomplete,

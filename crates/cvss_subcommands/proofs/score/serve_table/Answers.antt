@@ -7,5 +7,5 @@ pub returns-in-Ok : goal.returns-in-Ok
 returns-in-Ok g c =
     let before = g.W.Write.contents c.args.writer.now in
     let after = g.W.Write.contents c.write_whole.new.writer in
-    let is = c.as_bytes.ensures.value ∙ c.header-names.ensures ∙ ap header_text c.are_many.ensures in
-    inl (after, subst (λ text. Appends before after text) is c.in-Ok.ensures.ok, c.serve_operands.ensures)
+    let is = c.as_bytes.ensures.value ∙ c.header-names.ensures ∙ ap header_text c.are_many-many.ensures in
+    inl (after, subst (λ text. Appends before after text) is c.in-Ok.ensures.ok, rw c.are_many-many.ensures at c.serve_operands.ensures)
