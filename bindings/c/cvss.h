@@ -324,9 +324,11 @@ size_t cvss_answers(const void *texts, size_t length, void *buffer, size_t size,
 
 /*
  * Finds vectors in any text: in a sentence, in parentheses, in a link, whatever its other bytes are. A candidate is
- * a longest run of ASCII letters and digits, ':', '/' and '.', split before each "CVSS:" in it, without the ':',
- * '/' and '.' at the end of each part. It is a match if it is a valid vector; or if it begins with "CVSS:" and has
- * a '/': it was probably meant as a vector, and cvss_reason says why it is none.
+ * a longest run of ASCII letters and digits, ':', '/', '.' and '%', split before each prefix in it, without the ':',
+ * '/' and '.' at the end of each part and without a label such as "vector:" before "AV:"; cvss(1) has the exact rule.
+ * It is a match if it is a valid vector; or if it was probably meant as one, and cvss_reason says why it is none: it
+ * begins with "CVSS:" and has a '/', or its prefix is written in another way ("cvss:3.1/AV:N", "CVSS3.1/AV:N") or
+ * percent-encoded.
  *
  * Returns whether there is a match from the byte `from` on; then writes where the first begins, counted like `from`
  * from 0 in the whole text, and its length. Otherwise `*start` and `*found_length` are unchanged. To find the next,

@@ -11,7 +11,8 @@ type Mention struct {
 	Text string
 	// Vector is the vector, or the zero Vector if the text is rejected.
 	Vector Vector
-	// Err is nil; or, if the text begins with CVSS:, has a slash and is no valid vector, a *RefusedError.
+	// Err is nil; or a *RefusedError, if the text is no valid vector but was probably meant as one: it begins with CVSS:
+	// and has a slash, or its prefix is written in another way (cvss:3.1/AV:N, CVSS3.1/AV:N) or percent-encoded.
 	Err error
 }
 

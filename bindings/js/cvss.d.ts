@@ -155,7 +155,10 @@ export function rating(version: Version, score: number): Severity;
 /** What the program `cvss_tool` answers to a text: its canonical text, score and rating; or `error: ` and the reason. */
 export function answer(text: Text): string;
 
-/** The vectors in any text, in order; and each match that begins with `CVSS:`, has a slash and is rejected. */
+/**
+ * The vectors in any text, in order; and each rejected text that was probably meant as one: it begins with `CVSS:` and
+ * has a slash, or its prefix is written in another way (`cvss:3.1/AV:N`, `CVSS3.1/AV:N`) or percent-encoded.
+ */
 export function find(text: Text, options?: Options): IterableIterator<Found>;
 
 /** The metrics of each version, in the order in which a vector has them: what a form offers. */

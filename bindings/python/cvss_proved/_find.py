@@ -52,8 +52,10 @@ def find(
     """The vectors in any text, in order: in a sentence, in parentheses, in a link.
 
     Each has its position, from 0, in characters for a `str` and otherwise in bytes; its text; and its `Vector`. If it
-    begins with `CVSS:`, has a slash and is no valid vector, it has the `CvssError` with the reason in place of a
-    `Vector`. A v3 vector may be truncated: then its `is_complete` is false, and with `strict` it is a `CvssError`.
+    is no valid vector but was probably meant as one, it has the `CvssError` with the reason in place of a `Vector`: if
+    it begins with `CVSS:` and has a slash, or if its prefix is written in another way (`cvss:3.1/AV:N`,
+    `CVSS3.1/AV:N`) or percent-encoded. A v3 vector may be truncated: then its `is_complete` is false, and with `strict`
+    it is a `CvssError`.
 
     >>> for place, text, found in find("scored 7.8 (AV:N/AC:L/Au:N/C:N/I:N/A:C), or CVSS:3.1/AV:Q."):
     ...     print(place, text, repr(found))

@@ -10,8 +10,9 @@ pub struct Mention<'a> {
     pub place: usize,
     /// The text of the match, which is ASCII.
     pub text: &'a str,
-    /// The vector; or why the text is rejected, if it begins with `CVSS:`, has a slash and is no
-    /// valid vector.
+    /// The vector; or why the text is rejected, if it is no valid vector but was probably meant as
+    /// one: it begins with `CVSS:` and has a slash, or its prefix is written in another way
+    /// (`cvss:3.1/AV:N`, `CVSS3.1/AV:N`) or percent-encoded.
     pub found: Result<Cvss, Refused>,
 }
 
