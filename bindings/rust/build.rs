@@ -41,9 +41,10 @@ fn main() {
     println!("cargo:rerun-if-changed={}", library.display());
     if !library.is_file() {
         fail(&format!(
-            "{} is missing. bindings/build in a checkout of the repository makes it; a crate that \
-             depends on this one by git sets CVSS_LIBRARY_FOLDER to the absolute path of that \
-             checkout's bindings/out",
+            "{} is missing. Make it by bindings/build in a checkout of the repository. Without the \
+             Rattle kit, unpack the archive in dist/, and set CVSS_LIBRARY_FOLDER to the absolute \
+             path of its folder lib. A crate that depends on this one by git sets it to that \
+             folder too, or to a checkout's bindings/out",
             library.display()
         ));
     }
