@@ -234,10 +234,9 @@ typedef struct CvssNumbers {
 bool cvss_numbers(int32_t version, const void *metrics, size_t metrics_length, CvssNumbers *numbers);
 
 /*
- * Rounds a number to tenths, as a version, 20, 30 or 31, rounds scores: v2 takes the nearest tenth, after adding 10^-6;
- * v3.0 the least tenth that is not below it; v3.1 does what its Appendix A says, and takes 0 for a number below 0.
- * Returns false, and leaves `*tenths` as it was, where a part of the number is out of its range, and for any other
- * version.
+ * Rounds a number to tenths, as a version, 20, 30 or 31, rounds scores: v2 takes the nearest tenth, after adding 10^-6; v3.0
+ * the next tenth above; v3.1 does what its Appendix A says, and takes 0 for a number below 0. Returns false, and leaves
+ * `*tenths` as it was, where a part of the number is out of its range, and for any other version.
  */
 bool cvss_rounded(int32_t version, const CvssNumber *number, int32_t *tenths);
 
@@ -295,7 +294,7 @@ size_t cvss_reason(const void *text, size_t length, void *buffer, size_t size);
 int32_t cvss_refusal_kind(const void *text, size_t length);
 
 /*
- * Writes the abbreviation of the metric that the reason names, at most 3 bytes, if its kind is CVSS_INVALID_VALUE,
+ * Writes the abbreviation of the metric that the reason names, at most 4 bytes, if its kind is CVSS_INVALID_VALUE,
  * CVSS_DUPLICATE_METRIC or CVSS_MISSING_METRIC. Returns its length, and 0 for any other kind.
  */
 size_t cvss_refusal_metric(const void *text, size_t length, void *buffer, size_t size);
@@ -324,12 +323,12 @@ size_t cvss_answer(const void *text, size_t length, void *buffer, size_t size);
 size_t cvss_answers(const void *texts, size_t length, void *buffer, size_t size, size_t *read);
 
 /*
- * Finds vectors in any text: in a sentence, in parentheses, in a link, whatever its other bytes are. A candidate is
- * a longest run of ASCII letters and digits, ':', '/', '.' and '%', split before each prefix in it, without the ':',
- * '/' and '.' at the end of each part and without a label such as "vector:" before "AV:"; cvss(1) has the exact rule.
- * It is a match if it is a valid vector; or if it was probably meant as one, and cvss_reason says why it is none: it
- * begins with "CVSS:" and has a '/', or its prefix is written in another way ("cvss:3.1/AV:N", "CVSS3.1/AV:N") or
- * percent-encoded.
+ * Finds vectors in any text: in a sentence, in parentheses, in a link, whatever its other bytes are. A run is a longest
+ * stretch of ASCII letters, digits, ':', '/', '.' and '%'. It is split before each prefix: "CVSS:", or a misspelled one
+ * such as "cvss:3.1/AV:", "CVSS3.1/AV:" or "CVSSv3.1/AV:", or a percent-encoded one. A part ends before its first '%' if a
+ * '/' comes before that, and is taken without the ':', '/' and '.' at its end; if it begins with no prefix, also without a
+ * label such as "vector:" or "7.5/" before "AV:". What is left is a match if it is a valid vector; or if it begins with
+ * "CVSS:" and has a '/', or with another prefix: it was probably meant as a vector, and cvss_reason says why it is none.
  *
  * Returns whether there is a match from the byte `from` on; then writes where the first begins, counted like `from`
  * from 0 in the whole text, and its length. Otherwise `*start` and `*found_length` are unchanged. To find the next,
