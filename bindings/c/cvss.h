@@ -11,8 +11,8 @@
  * length of the whole result, whatever the size. If it is more than the size, the buffer is unchanged, and the caller
  * may call again with a larger one. No terminating byte 0 is written.
  *
- * Pointers. A text, a buffer or an array may be NULL if its length or size is 0: it is empty. A struct, `read`, `tenths`
- * and the four scores of cvss_nomenclature_scores may not be NULL. Output must not overlap input.
+ * Pointers. A text, a buffer or an array may be NULL if its length or size is 0: it is empty. A struct, `read`, `tenths`,
+ * `start`, `found_length` and the four scores of cvss_nomenclature_scores may not be NULL. Output must not overlap input.
  *
  * Threads. The functions keep no state: any number of threads may call them at once, each with its own buffer or struct.
  *
