@@ -174,8 +174,9 @@ export function init(
 ): Promise<void>;
 
 /**
- * The compiled module, for a worker's `init`, or to call its functions. These are the functions of `cvss.h`, except the three
- * for exact numbers, with pointers and lengths as numbers; free memory begins at `__heap_base`.
+ * The compiled module, for a worker's `init`, or to call its functions. These are the functions of `cvss.h`, except
+ * `cvss_score`, `cvss_values` and the three for exact numbers, with pointers and lengths as numbers; free memory begins at
+ * `__heap_base`.
  */
 export function wasmModule(): WebAssembly.Module;
 
