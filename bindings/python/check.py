@@ -472,7 +472,8 @@ def check_ratings() -> None:
             assert severity_of(tenths / 10, version) == severity_of(Decimal(tenths) / 10, version) == word
             assert version != "4.0" or severity_of(tenths / 10) == word
     assert severity_of(10) == "critical" and severity_of(7) == "high"
-    others: Tuple[Union[float, Decimal], ...] = (-0.1, 10.1, 9.85, 98, float("nan"), float("inf"), Decimal("9.85"))
+    others: Tuple[Union[float, Decimal], ...] = (-0.1, 10.1, 9.85, 98, float("nan"), float("inf"), Decimal("9.85"),
+                                                 Decimal("9.8" + 30 * "0" + "1"), Decimal("NaN"), Decimal("sNaN"))
     for other in others:
         assert raises(ValueError, lambda: severity_of(other)), other
     no_scores: Tuple[Any, ...] = ("9.8", None, [9.8])

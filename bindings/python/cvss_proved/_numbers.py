@@ -3,7 +3,8 @@
 from __future__ import annotations
 
 from decimal import Decimal
-from typing import Dict, Literal, Tuple, Union
+from fractions import Fraction
+from typing import Dict, Literal, Optional, Tuple, Union
 
 from . import _library
 from ._words import Version, check_version
@@ -24,6 +25,20 @@ def number_of(version: Version) -> int:
     return next(number for number, own in VERSIONS.items() if own == check_version(version))
 
 
+def _tenths_of(score: Union[float, Decimal]) -> Optional[int]:
+    """The tenths of a score, or None for a number that is no score."""
+    try:
+        is_within = 0 <= score <= 10
+    except ArithmeticError:  # a Decimal that is no number cannot be compared
+        return None
+    if not is_within:
+        return None
+    tenths = round(10 * score)
+    # a Decimal has to be the tenth itself, and a float the nearest to it
+    is_tenth = score == Fraction(tenths, 10) if isinstance(score, Decimal) else float(score) == tenths / 10
+    return tenths if is_tenth else None
+
+
 def severity_of(score: Union[float, Decimal], version: Version = "4.0") -> Severity:
     """The rating of a score by the bounds of a version, which v3.0, v3.1 and v4.0 share.
 
@@ -32,7 +47,7 @@ def severity_of(score: Union[float, Decimal], version: Version = "4.0") -> Sever
     >>> severity_of(7.5), severity_of(9.8), severity_of(9.8, "2.0")
     ('high', 'critical', 'high')
     """
-    tenths = round(10 * score) if 0 <= score <= 10 else None
-    if tenths is None or float(score) != tenths / 10:
+    tenths = _tenths_of(score)
+    if tenths is None:
         raise ValueError(f"a score is a number from 0 to 10 with at most one decimal, and not {score}")
     return SEVERITIES[_library.rating(number_of(version), tenths)]
