@@ -229,8 +229,15 @@ def check_many_texts() -> None:
         assert answers(iter(texts)) == answers(tuple(texts)), texts
     code = TEXT.encode()
     one_text: Tuple[Any, ...] = (TEXT, "", code, b"", bytearray(code), memoryview(code))
+    calls: Tuple[Tuple[Callable[[Any], object], str], ...] = ((answers, "answer"), (scores, "score"))
     for other in one_text:
-        assert raises(TypeError, lambda: answers(other)), other
+        for call, name in calls:
+            try:
+                call(other)
+            except TypeError as error:
+                assert str(error).endswith(f": for one text call {name}"), error
+            else:
+                raise AssertionError(other)
     no_texts: Tuple[Any, ...] = (None, 5, [5], [TEXT, None])
     for other in no_texts:
         assert raises(TypeError, lambda: answers(other)), other

@@ -415,6 +415,13 @@ def answer(text: Text) -> str:
     return _library.answer(_library.bytes_of(text))
 
 
+def _check_many(texts: Iterable[Text], for_one: str) -> None:
+    """A single text is a `TypeError`, which names the call for it."""
+    if isinstance(texts, (str, bytes, bytearray, memoryview)):
+        told = type(texts).__name__
+        raise TypeError(f"texts are a list or another iterable of texts, and not one {told}: for one text call {for_one}")
+
+
 def _lines_of(texts: List[Text]) -> bytes:
     """The texts, each ended by a newline."""
     strings = [text for text in texts if isinstance(text, str)]
@@ -431,9 +438,7 @@ def answers(texts: Iterable[Text]) -> List[str]:
     >>> answers(["AV:N/AC:L/Au:N/C:N/I:N/A:C", "AV:N"])
     ['AV:N/AC:L/Au:N/C:N/I:N/A:C 7.8 high', 'error: invalid CVSS metric group component: `AV:N`']
     """
-    if isinstance(texts, (str, bytes, bytearray, memoryview)):
-        told = type(texts).__name__
-        raise TypeError(f"texts are a list or another iterable of texts, and not one {told}: for one call answer")
+    _check_many(texts, "answer")
     given = list(texts)
     lines = _lines_of(given)
     # a text with a newline, or with a carriage return at its end, would be read as another
@@ -445,7 +450,10 @@ def answers(texts: Iterable[Text]) -> List[str]:
 def scores(texts: Iterable[Text]) -> List[Optional[float]]:
     """The score of each text, and None for one that is rejected, in one call of the library.
 
+    A single text is a `TypeError`: use `score`.
+
     >>> scores(["AV:N/AC:L/Au:N/C:N/I:N/A:C", "AV:N"])
     [7.8, None]
     """
+    _check_many(texts, "score")
     return [None if line.startswith("error: ") else float(line.split(" ")[1]) for line in answers(texts)]
