@@ -538,6 +538,21 @@ def check_red_hat_notation() -> None:
     for refused in ("7.8/", "7.8", "7.8/AV:N"):
         assert raises(ValueError, lambda: Vector.from_rh_vector(refused)), refused
     assert raises(CvssError, lambda: Vector.from_rh_vector("7.8/AV:N"))
+    code = b"7.8/" + TEXT.encode()
+    texts: Tuple[Text, ...] = (code, bytearray(code), memoryview(code))
+    for text in texts:
+        assert Vector.from_rh_vector(text) == Vector(TEXT)
+    no_utf8: Tuple[Text, ...] = (code + b"\xff", "7.8/" + TEXT + "\ud800")
+    for text in no_utf8:
+        assert outcome(lambda: Vector.from_rh_vector(text)) == (None, "8 - "), text
+    no_texts: Tuple[Any, ...] = (None, 7.8, [code])
+    for no_text in no_texts:
+        assert raises(TypeError, lambda: Vector.from_rh_vector(no_text)), no_text
+    short = "0.0/CVSS:3.1/AV:N/AC:L"
+    assert not Vector.from_rh_vector(short).is_complete
+    for given in (short, short.replace("0.0/", "9.8/")):
+        assert outcome(lambda: Vector.from_rh_vector(given, strict=True)) == (None, "7 PR "), given
+    assert type(Own.from_rh_vector(code, strict=True)) is Own
 
 
 def check_command() -> None:

@@ -88,17 +88,22 @@ class Vector:
             raise CvssError.of(given)
         self._numbers, self._code = told
         self._decoded = None
-        if strict and not self.is_complete:
+        if strict:
+            self._check_complete()
+
+    def _check_complete(self) -> None:
+        """A vector of v3 that lacks base metrics is a `CvssError`, for the first missing one."""
+        if not self.is_complete:
             own = self.metrics
             base = (metric.name for metric in _words.metrics(self.version) if metric.is_mandatory)
             raise CvssError.missing(next(name for name in base if name not in own))
 
     @classmethod
-    def from_rh_vector(cls: Type[_Own], text: str) -> _Own:
+    def from_rh_vector(cls: Type[_Own], text: Text, *, strict: bool = False) -> _Own:
         """Reads Red Hat's notation, in which the score and a slash precede the vector.
 
         A text without a score is a `ValueError`, and so is a score that is not the vector's `score`; a vector that is
-        refused is a `CvssError`.
+        refused is a `CvssError`, with `strict` also one of v3 that lacks base metrics.
 
         >>> Vector.from_rh_vector("9.8/CVSS:3.1/AV:N/AC:L/PR:N/UI:N/S:U/C:H/I:H/A:H").severity
         'critical'
@@ -107,11 +112,14 @@ class Vector:
             ...
         ValueError: the score of CVSS:3.1/AV:N/AC:L/PR:N/UI:N/S:U/C:H/I:H/A:H is 9.8, and not 7.5
         """
-        score, _, rest = text.partition("/")
+        given = text if isinstance(text, str) else _library.bytes_of(text).decode("utf-8", "surrogateescape")
+        score, _, rest = given.partition("/")
         parts = re.fullmatch(r"(10|[0-9])(?:\.([0-9]))?", score)
         if parts is None:
             raise ValueError(f"a score and a slash precede a vector in Red Hat's notation, and not {score!r}")
         vector = cls(rest)
+        if strict:
+            vector._check_complete()
         if vector.tenths != 10 * int(parts[1]) + int(parts[2] or 0):
             raise ValueError(f"the score of {vector} is {vector.score}, and not {score}")
         return vector
