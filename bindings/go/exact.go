@@ -13,6 +13,8 @@ import (
 var (
 	trillion = big.NewInt(1_000_000_000_000)
 	units    = new(big.Int).Mul(trillion, trillion)
+	// million is a million in trillionths.
+	million = big.NewInt(1_000_000_000_000_000_000)
 )
 
 // Numbers are the scores of a vector of v2 or v3, and its sub-scores, which are exact: of v2 Impact, Exploitability and
@@ -85,11 +87,12 @@ func ratOf(number C.CvssNumber) *big.Rat {
 	return new(big.Rat).SetFrac(count.Add(count, big.NewInt(int64(number.rest))), units)
 }
 
-// numberFrom is the library's number for a number, whose decimals behind the 24th are cut off.
+// numberFrom is the library's number for a number, whose decimals behind the 24th are cut off. One that is a million or more
+// from 0 has none.
 func numberFrom(number *big.Rat) (own C.CvssNumber, ok bool) {
 	count := new(big.Int).Mul(number.Num(), units)
 	count.Quo(count, number.Denom())
 	trillionths, rest := new(big.Int).QuoRem(count, trillion, new(big.Int))
 	own = C.CvssNumber{trillionths: C.int64_t(trillionths.Int64()), rest: C.int64_t(rest.Int64())}
-	return own, trillionths.IsInt64()
+	return own, trillionths.CmpAbs(million) < 0
 }

@@ -60,12 +60,16 @@ func TestNumbersAreRounded(t *testing.T) {
 			t.Error(row, own, err)
 		}
 	}
-	for _, number := range []string{"1000000", "-1000000", "1e40"} {
+	complete := parsed(t, "AV:N/AC:L/Au:N/C:N/I:N/A:C").Metrics()
+	for _, number := range []string{"1000000", "-1000000", "9000000", "1e40"} {
 		if own, err := cvss.Rounded(rat(number), cvss.V31); err == nil {
 			t.Error(number, own)
 		}
-		if own, err := cvss.TemporalWithImpact(nil, rat(number)); err == nil {
-			t.Error(number, own)
+		for _, metrics := range [][]cvss.Metric{nil, complete} {
+			own, err := cvss.TemporalWithImpact(metrics, rat(number))
+			if err == nil || own != nil || err.Error() != "cvss: an impact is a number less than a million from 0" {
+				t.Error(number, metrics, own, err)
+			}
 		}
 	}
 	if own, err := cvss.Rounded(rat("1"), cvss.V40); err == nil {
