@@ -116,11 +116,19 @@ func kept[Value fmt.Stringer](value Value, values []Value) (driver.Value, error)
 	return string(word), nil
 }
 
+// noNull is the error for a NULL that is scanned into a type without a value for it.
+func noNull(value any) error {
+	return fmt.Errorf("NULL is no %T: scan a column that may be NULL into a *%[1]T", value)
+}
+
 // scanned sets the value that a database has kept.
 func scanned[Value fmt.Stringer](target *Value, values []Value, stored any) error {
 	switch stored := stored.(type) {
 	case nil:
-		return valueOf(target, values, "")
+		if valueOf(target, values, "") != nil {
+			return noNull(*target)
+		}
+		return nil
 	case string:
 		return valueOf(target, values, stored)
 	case []byte:

@@ -65,6 +65,8 @@ func testWord[Value comparable](t *testing.T, value Value, word string, back nam
 	}
 	if err := back.Scan(nil); word != "" && !hasEmpty(back) && (err == nil || *got != value) {
 		t.Errorf("NULL is scanned as %v: %v", *got, err)
+	} else if err != nil && !strings.Contains(err.Error(), "scan a column that may be NULL into a *cvss.") {
+		t.Error(err)
 	}
 }
 

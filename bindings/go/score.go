@@ -70,6 +70,8 @@ func (s *Score) UnmarshalJSON(text []byte) error {
 // into a *Score.
 func (s *Score) Scan(stored any) error {
 	switch stored := stored.(type) {
+	case nil:
+		return noNull(*s)
 	case float64:
 		return s.set(stored)
 	case int64:

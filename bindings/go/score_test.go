@@ -5,6 +5,7 @@ import (
 	"database/sql/driver"
 	"encoding/json"
 	"fmt"
+	"strings"
 	"testing"
 
 	"yuntabek.example/cvss"
@@ -72,5 +73,8 @@ func TestOtherNumbersAreNoScores(t *testing.T) {
 		if err := score.Scan(column); err == nil || score != 9.8 {
 			t.Errorf("%v is scanned as %v", column, score)
 		}
+	}
+	if err := score.Scan(nil); err == nil || !strings.Contains(err.Error(), "into a *cvss.Score") {
+		t.Error(err)
 	}
 }
