@@ -55,10 +55,13 @@ func componentRefusal(version Version, metrics []Metric) error {
 // Rounded is a number rounded to tenths as V20, V30 or V31 rounds scores. The error is for another version, and for a number
 // that is a million or more from 0.
 func Rounded(number *big.Rat, version Version) (*big.Rat, error) {
+	if numberOf(version) == 0 || version == V40 {
+		return nil, errors.New("cvss: a number is rounded as V20, V30 or V31 rounds scores")
+	}
 	own, ok := numberFrom(number)
 	var tenths C.int32_t
 	if !ok || !bool(C.cvss_rounded(numberOf(version), &own, &tenths)) {
-		return nil, errors.New("cvss: a number less than a million from 0 is rounded, as v2 or v3 does")
+		return nil, errors.New("cvss: a number that is rounded is less than a million from 0")
 	}
 	return big.NewRat(int64(tenths), 10), nil
 }

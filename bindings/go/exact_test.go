@@ -62,8 +62,9 @@ func TestNumbersAreRounded(t *testing.T) {
 	}
 	complete := parsed(t, "AV:N/AC:L/Au:N/C:N/I:N/A:C").Metrics()
 	for _, number := range []string{"1000000", "-1000000", "9000000", "1e40"} {
-		if own, err := cvss.Rounded(rat(number), cvss.V31); err == nil {
-			t.Error(number, own)
+		own, err := cvss.Rounded(rat(number), cvss.V31)
+		if err == nil || own != nil || err.Error() != "cvss: a number that is rounded is less than a million from 0" {
+			t.Error(number, own, err)
 		}
 		for _, metrics := range [][]cvss.Metric{nil, complete} {
 			own, err := cvss.TemporalWithImpact(metrics, rat(number))
@@ -72,8 +73,13 @@ func TestNumbersAreRounded(t *testing.T) {
 			}
 		}
 	}
-	if own, err := cvss.Rounded(rat("1"), cvss.V40); err == nil {
-		t.Error(own)
+	for _, version := range []cvss.Version{cvss.V40, "5.0"} {
+		for _, number := range []string{"1", "1000000"} {
+			own, err := cvss.Rounded(rat(number), version)
+			if err == nil || own != nil || err.Error() != "cvss: a number is rounded as V20, V30 or V31 rounds scores" {
+				t.Error(version, own, err)
+			}
+		}
 	}
 	if own, err := cvss.TemporalWithImpact(nil, rat("1")); err != nil || own.Cmp(rat("-1.1")) != 0 {
 		t.Error(own, err)
