@@ -69,6 +69,8 @@ export class Vector {
     // a property, so that what compares objects by their properties tells vectors apart
     this.source = typeof text === "string" ? text : written("cvss_canonical", [text]);
     if (new.target === Vector) Object.freeze(this);
+    // a subclass may add fields
+    else Object.defineProperty(this, "source", { writable: false });
     if (options?.strict && !this.isComplete) {
       const known = this.metrics;
       throw missingOf(metrics[this.version].find(({ name, isMandatory }) => isMandatory && !(name in known)).name);

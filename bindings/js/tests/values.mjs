@@ -51,6 +51,9 @@ function checkVectors() {
   }
   for (const own of [new Own(V3), Own.parse(V3).vector, Own.from("3.1", { AV: "N" }), new Own(V3).replace({ AV: "P" }),
     new Own(V3).withoutUndefined()]) assert.equal(own instanceof Own && own.note, "seen");
+  const own = new Own(V3);
+  assert.throws(() => { own.source = V4; }, TypeError);
+  assert.deepEqual([own.text, { ...own }], [V3, { source: V3, note: "seen" }]);
   assert.deepEqual(Vector.parse(V3), { ok: true, vector: new Vector(V3) });
   assert.equal(Vector.parse("x").error.kind, "invalid component");
 }
