@@ -81,7 +81,13 @@ export interface Described {
   readonly value: MetricValue;
 }
 
-export type Parsed = { readonly ok: true; readonly vector: Vector } | { readonly ok: false; readonly error: CvssError };
+/** A vector, or one of a subclass, or why there is none. */
+export type Parsed<Own extends Vector = Vector> =
+  | { readonly ok: true; readonly vector: Own }
+  | { readonly ok: false; readonly error: CvssError };
+
+/** The class `Vector`, or a subclass that is made with the same arguments. */
+export type VectorClass<Own extends Vector = Vector> = new (text: Text, options?: Options) => Own;
 
 /** A vector in a text, or what was meant as one: where it begins, its text, and the vector or why it is rejected. */
 export type Found = {
@@ -108,9 +114,9 @@ export class Vector {
   /** Parses a text. One that denotes no vector is a `CvssError`. */
   constructor(text: Text, options?: Options);
   /** The same without an exception. */
-  static parse(text: Text, options?: Options): Parsed;
+  static parse<Own extends Vector>(this: VectorClass<Own>, text: Text, options?: Options): Parsed<Own>;
   /** The vector of a version with these metrics, in any order: what a form has. */
-  static from(version: Version, metrics: Metrics): Vector;
+  static from<Own extends Vector>(this: VectorClass<Own>, version: Version, metrics: Metrics): Own;
   /** The text that was given; where it was bytes, the canonical text. */
   readonly source: string;
   /** The canonical text: of all texts that denote the vector, the one with the standard's order and spelling. */
@@ -135,9 +141,9 @@ export class Vector {
   /** The same with their names in words. */
   readonly described: readonly Described[];
   /** The vector with these metrics in place of its own or beside them. `X` and `ND` are values like any other. */
-  replace(metrics: Metrics): Vector;
+  replace(metrics: Metrics): this;
   /** The vector without the metrics that are not defined (`X`, in v2 `ND`), which has the same scores. */
-  withoutUndefined(): Vector;
+  withoutUndefined(): this;
   /** The JSON object of FIRST's schema of the version. */
   record(): Record<string, string | number>;
   /** How the score is computed, as an object of the numbers on the way to it. */

@@ -25,6 +25,18 @@ function isUrgent(text: string): boolean {
   }
 }
 
+class Own extends Vector {
+  isUrgent(): boolean {
+    return this.score >= 7;
+  }
+}
+
+function urgencies(text: string): boolean[] {
+  const own = Own.parse(text);
+  const all: Own[] = [new Own(text).replace({ E: "P" }), new Own(text).withoutUndefined(), Own.from("3.1", { AV: "N" })];
+  return [own.ok && own.vector.isUrgent(), ...all.map((vector) => vector.isUrgent())];
+}
+
 const titles = (of: Version): string[] => metrics[of].map((metric: MetricType) => metric.title);
 const texts: string[] = [...find("(AV:N/AC:L/Au:N/C:N/I:N/A:C)")].map(textOf);
 const bytes: number | null = score(new Uint8Array([65]));
@@ -36,4 +48,4 @@ export async function start(): Promise<string> {
   return [severity, tenths, nomenclature, temporal, changed, made, said, texts, bytes, answer("x"), rating("3.1", 7.5), version].join();
 }
 
-export { isUrgent, titles };
+export { isUrgent, titles, urgencies };

@@ -17,6 +17,8 @@ Vector.parse("AV:N").vector.text;
 // @ts-expect-error
 Vector.from("1.0", {});
 // @ts-expect-error
+["AV:N"].map(Vector.parse);
+// @ts-expect-error
 metrics["2.0"].push();
 // @ts-expect-error
 score("AV:N").toFixed(1);
