@@ -56,7 +56,8 @@ class Vector:
     """The vector that a text denotes.
 
     Two vectors are equal if their canonical texts are. They are ordered by their scores, and those of one
-    score by their texts. The vectors that a subclass makes of its own are of this subclass.
+    score by their texts. The vectors that a subclass makes of its own are of this subclass, whose constructor is called with a
+    text alone.
 
     >>> vector = Vector("CVSS:4.0/AV:N/AC:L/AT:N/PR:N/UI:N/VC:H/VI:H/VA:H/SC:H/SI:H/SA:H")
     >>> vector.version, vector.tenths, vector.nomenclature
