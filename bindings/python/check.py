@@ -370,6 +370,13 @@ def check_metric_types(root: Path) -> None:
         described = vector.described
         assert {metric.name: value.value for metric, value in described} == vector.metrics, line
     assert raises(ValueError, lambda: metrics("5.0"))  # type: ignore[arg-type]
+    number: Any = 3.1
+    try:
+        metrics(number)
+    except ValueError as error:
+        assert str(error) == "a version is '2.0', '3.0', '3.1' or '4.0', and not 3.1", error
+    else:
+        raise AssertionError(number)
 
 
 def check_groups() -> None:

@@ -20,7 +20,7 @@ Group = Literal["base", "temporal", "threat", "environmental", "supplemental"]
 def check_version(version: Version) -> Version:
     """The version; what is none is a `ValueError`."""
     if version not in ("2.0", "3.0", "3.1", "4.0"):
-        raise ValueError(f"a version is 2.0, 3.0, 3.1 or 4.0, and not {version!r}")
+        raise ValueError(f"a version is '2.0', '3.0', '3.1' or '4.0', and not {version!r}")
     return version
 
 
