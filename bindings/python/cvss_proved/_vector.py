@@ -301,8 +301,8 @@ class Vector:
         The names and values may be in any ASCII case. Into a vector of v4.0 the library puts them, into others this
         package.
 
-        What is no mapping of `str` to `str` is a `TypeError`, and a name that is no environmental metric a
-        `ValueError`; one that the version does not have, or a value that the metric does not have, is refused by
+        What is no mapping of `str` to `str` is a `TypeError`, and a name that is no environmental metric, or a value that is
+        no word, a `ValueError`; one that the version does not have, or a value that the metric does not have, is refused by
         `CvssError`.
 
         >>> vector = Vector("CVSS:3.1/AV:N/AC:L/PR:N/UI:N/S:U/C:H/I:H/A:H/CR:H")
