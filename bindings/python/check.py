@@ -139,6 +139,15 @@ def raises(error: Type[Exception], call: Callable[[], object]) -> bool:
     return False
 
 
+def message_of(error: Type[Exception], call: Callable[[], object]) -> Optional[str]:
+    """The message of the error of a call; None if it has no such error."""
+    try:
+        call()
+    except error as raised:
+        return str(raised)
+    return None
+
+
 def check_texts() -> None:
     """Texts are str or bytes of any kind, and nothing else is taken for one."""
     code = TEXT.encode()
@@ -232,12 +241,8 @@ def check_many_texts() -> None:
     calls: Tuple[Tuple[Callable[[Any], object], str], ...] = ((answers, "answer"), (scores, "score"))
     for other in one_text:
         for call, name in calls:
-            try:
-                call(other)
-            except TypeError as error:
-                assert str(error).endswith(f": for one text call {name}"), error
-            else:
-                raise AssertionError(other)
+            told = message_of(TypeError, partial(call, other))
+            assert told and told.endswith(f": for one text call {name}"), (told, other)
     no_texts: Tuple[Any, ...] = (None, 5, [5], [TEXT, None])
     for other in no_texts:
         assert raises(TypeError, lambda: answers(other)), other
@@ -371,12 +376,7 @@ def check_metric_types(root: Path) -> None:
         assert {metric.name: value.value for metric, value in described} == vector.metrics, line
     assert raises(ValueError, lambda: metrics("5.0"))  # type: ignore[arg-type]
     number: Any = 3.1
-    try:
-        metrics(number)
-    except ValueError as error:
-        assert str(error) == "a version is '2.0', '3.0', '3.1' or '4.0', and not 3.1", error
-    else:
-        raise AssertionError(number)
+    assert message_of(ValueError, lambda: metrics(number)) == "a version is '2.0', '3.0', '3.1' or '4.0', and not 3.1"
 
 
 def check_groups() -> None:
@@ -492,7 +492,8 @@ def check_ratings() -> None:
         assert raises(ValueError, lambda: severity_of(other)), other
     no_scores: Tuple[Any, ...] = ("9.8", None, [9.8])
     for wrong in no_scores:
-        assert raises(TypeError, lambda: severity_of(wrong)), wrong
+        told = f"a score is a float or a Decimal, and not {type(wrong).__name__}"
+        assert message_of(TypeError, partial(severity_of, wrong)) == told, wrong
     assert raises(ValueError, lambda: severity_of(9.8, "5.0"))  # type: ignore[arg-type]
 
 
@@ -513,6 +514,11 @@ def check_numbers() -> None:
     wrong_values = (1e6, -(10**6), float("inf"), float("nan"))
     assert all(raises(ValueError, partial(rounded, value, "3.1")) for value in wrong_values)
     assert all(raises(ValueError, partial(temporal_with_impact, value)) for value in wrong_values)
+    no_numbers: Tuple[Any, ...] = (None, b"4", [4], 4j)
+    for other in no_numbers:
+        told_of = f"a number is an int, a float, a Decimal or a Fraction, and not {type(other).__name__}"
+        assert message_of(TypeError, partial(rounded, other, "3.1")) == told_of, other
+        assert message_of(TypeError, partial(temporal_with_impact, other)) == told_of, other
     assert raises(ValueError, lambda: numbers("4.0")) and raises(ValueError, lambda: rounded(1, "4.0"))
     assert raises(CvssError, lambda: numbers("2.0", AV="Q")) and raises(CvssError, lambda: temporal_with_impact(1, av="N"))
 

@@ -90,6 +90,9 @@ def _count(number: Union[int, float, Decimal, Fraction]) -> int:
     """The nearest count of 10^-24."""
     try:
         return round(Fraction(number) * _UNITS)
+    except TypeError:
+        own = type(number).__name__
+        raise TypeError(f"a number is an int, a float, a Decimal or a Fraction, and not {own}") from None
     except (OverflowError, ValueError):
         raise ValueError(f"a number is to be finite, and not {number}") from None
 

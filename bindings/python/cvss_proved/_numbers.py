@@ -31,6 +31,8 @@ def _tenths_of(score: Union[float, Decimal]) -> Optional[int]:
         is_within = 0 <= score <= 10
     except ArithmeticError:  # a Decimal that is no number cannot be compared
         return None
+    except TypeError:
+        raise TypeError(f"a score is a float or a Decimal, and not {type(score).__name__}") from None
     if not is_within:
         return None
     tenths = round(10 * score)
