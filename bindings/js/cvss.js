@@ -531,7 +531,8 @@ function rating(version, score) {
   const number = numberOf(version);
   const tenths = Math.round(10 * score);
   if (tenths / 10 !== score || tenths < 0 || tenths > 100) {
-    throw new RangeError(`a score is a number from 0 to 10 with one decimal, not ${String(score)}`);
+    const told = typeof score === "string" ? JSON.stringify(score) : String(score);
+    throw new RangeError(`a score is a number from 0 to 10 with one decimal, not ${told}`);
   }
   return SEVERITIES[wasm.cvss_rating(number, tenths)];
 }

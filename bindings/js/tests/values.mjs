@@ -116,6 +116,7 @@ function checkRatings() {
   for (const number of [-0.1, 10.1, 9.85, 2 ** 32 / 10, NaN, Infinity, undefined, "9.8", null]) {
     assert.throws(() => rating("3.1", number), RangeError);
   }
+  assert.throws(() => rating("3.1", "9.8"), { message: 'a score is a number from 0 to 10 with one decimal, not "9.8"' });
   for (const vector of vectors) assert.equal(rating(vector.version, vector.score), vector.severity);
 }
 
