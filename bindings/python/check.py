@@ -582,6 +582,15 @@ def check_command() -> None:
     assert run("--version") == (0, f"{cvss_proved.__version__}\n")
 
 
+def check_library() -> None:
+    """A library that is missing or cannot be loaded is an `ImportError`, which names the file."""
+    code = "try:\n    import cvss_proved\nexcept ImportError as error:\n    print(error)"
+    for place in ("/no/such/library", os.path.realpath(__file__)):
+        done = subprocess.run([sys.executable, "-c", code], stdout=subprocess.PIPE, stderr=subprocess.DEVNULL,
+                              env={**os.environ, "CVSS_LIBRARY": place})
+        assert done.returncode == 0 and place in done.stdout.decode(), (place, done)
+
+
 def check_threads(root: Path) -> None:
     """What a text is told in one of many threads at once is what it is told alone."""
     lines = [line for line in lines_of(root / "crates" / "test_vectors" / "stdin") if not answer(line).startswith("error: ")]
@@ -816,6 +825,7 @@ if __name__ == "__main__":
     check_values_of_errors()
     check_red_hat_notation()
     check_command()
+    check_library()
     check_threads(Path(sys.argv[1]))
     check_overrides()
     check_subclasses()

@@ -59,7 +59,10 @@ def _loaded() -> ctypes.CDLL:
     places = _places()
     for place in places:
         if place.is_file():
-            return ctypes.CDLL(str(place.resolve()))
+            try:
+                return ctypes.CDLL(str(place.resolve()))
+            except OSError as error:
+                raise ImportError(f"the library cannot be loaded here: {error}") from error
     looked = " or ".join(str(place) for place in places)
     raise ImportError(
         f"the library was looked for at {looked}, and is not there: build it by bindings/build in a checkout, "
