@@ -580,6 +580,14 @@ def check_command() -> None:
     assert run("") == (1, "error: invalid CVSS metric group component: ``\n")
     assert run()[0] == run("--no-such-option")[0] == 2
     assert run("--version") == (0, f"{cvss_proved.__version__}\n")
+    # a full disk is reported, and a reader that ends early is not
+    reader, writer = os.pipe()
+    os.close(reader)
+    for output, told in ((os.open("/dev/full", os.O_WRONLY), "No space left on device"), (writer, "")):
+        done = subprocess.run([sys.executable, "-m", "cvss_proved", TEXT], stdout=output, stderr=subprocess.PIPE)
+        os.close(output)
+        lines = done.stderr.decode().splitlines()
+        assert done.returncode == 2 and len(lines) == bool(told) and all(told in line for line in lines), done
 
 
 def check_library() -> None:
