@@ -17,6 +17,7 @@ import "C"
 
 import (
 	"bytes"
+	"fmt"
 	"strings"
 	"sync"
 	"unsafe"
@@ -288,7 +289,7 @@ func joined(metrics []Metric) (string, error) {
 }
 
 // WithOverrides is the vector with your own environmental metrics, in any ASCII case, which replace its own or are added.
-// In v4.0 the library sets them, in other versions this package. The error is ErrNotEnvironmental, or otherwise a
+// In v4.0 the library sets them, in other versions this package. The error wraps ErrNotEnvironmental, or is a
 // *RefusedError of the vector with these metrics.
 func (v Vector) WithOverrides(overrides []Metric) (Vector, error) {
 	own := make(map[string]bool)
@@ -296,7 +297,7 @@ func (v Vector) WithOverrides(overrides []Metric) (Vector, error) {
 	for _, metric := range overrides {
 		name, value := raised(metric.Name), raised(metric.Value)
 		if strings.ContainsAny(value, " /:") || !isEnvironmental(name) {
-			return Vector{}, ErrNotEnvironmental
+			return Vector{}, fmt.Errorf("%w: `%s:%s`", ErrNotEnvironmental, metric.Name, metric.Value)
 		}
 		own[name] = true
 		added = append(added, name+":"+value)

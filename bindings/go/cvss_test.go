@@ -209,7 +209,9 @@ func TestOtherMetricsAreNoOverrides(t *testing.T) {
 		t.Fatal(err)
 	}
 	for _, metric := range []cvss.Metric{{Name: "AC", Value: "L"}, {Name: "CR", Value: "H/E:U"}, {Name: "", Value: ""}} {
-		if _, err := vector.WithOverrides([]cvss.Metric{metric}); !errors.Is(err, cvss.ErrNotEnvironmental) {
+		_, err := vector.WithOverrides([]cvss.Metric{{Name: "CR", Value: "H"}, metric})
+		told := "no environmental metric: `" + metric.Name + ":" + metric.Value + "`"
+		if !errors.Is(err, cvss.ErrNotEnvironmental) || err.Error() != told {
 			t.Errorf("%v: %v", metric, err)
 		}
 	}

@@ -10,7 +10,7 @@ import (
 	"unsafe"
 )
 
-// ErrNotEnvironmental is the error of an override that is no environmental metric.
+// ErrNotEnvironmental is in the error for an override that is no environmental metric, as errors.Is reports.
 var ErrNotEnvironmental = errors.New("no environmental metric")
 
 // A Kind is the kind of an error.
