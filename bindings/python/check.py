@@ -510,6 +510,10 @@ def check_numbers() -> None:
         assert (rounded(Fraction(number), "3.0"), rounded(Decimal(number), "3.1")) == (v30, v31), number
     assert (rounded(4.02, "3.1"), rounded(4, "3.1")) == (4.1, 4)
     assert rounded(Fraction(-(10**30 - 1), 10**24), "2.0") == -1000000
+    # as a fraction these would have a billion digits
+    assert [rounded(Decimal(number), "3.0") for number in ("1e-999999999", "-1e-999999999", "0e999999999")] == [0, 0, 0]
+    assert all(raises(ValueError, partial(rounded, Decimal(number), "3.0")) for number in ("1e999999999", "-1e999999999"))
+    assert rounded(Decimal("6e-25"), "3.0") == 0.1 and rounded(Decimal("4e-25"), "3.0") == 0
     assert temporal_with_impact(1) == -1.1 and temporal_with_impact(Decimal(10), TEXT_METRICS, E="U") == 8.5
     wrong_values = (1e6, -(10**6), float("inf"), float("nan"))
     assert all(raises(ValueError, partial(rounded, value, "3.1")) for value in wrong_values)

@@ -87,7 +87,10 @@ def _version(version: Version) -> int:
 
 
 def _count(number: Union[int, float, Decimal, Fraction]) -> int:
-    """The nearest count of 10^-24."""
+    """The nearest count of 10^-24, and for a number with more than 30 digits before the point one that is out of range."""
+    # a Decimal as a fraction could have as many digits as its exponent says
+    if isinstance(number, Decimal) and number.is_finite() and (number == 0 or abs(number.adjusted()) > 30):
+        return 0 if number == 0 or number.adjusted() < 0 else 10**6 * _UNITS
     try:
         return round(Fraction(number) * _UNITS)
     except TypeError:
