@@ -67,10 +67,14 @@ export class Vector {
       numbers[own + IS_COMPLETE],
     ];
     // a property, so that what compares objects by their properties tells vectors apart
-    this.source = typeof text === "string" ? text : written("cvss_canonical", [text]);
-    if (new.target === Vector) Object.freeze(this);
-    // a subclass may add fields
-    else Object.defineProperty(this, "source", { writable: false });
+    const source = typeof text === "string" ? text : written("cvss_canonical", [text]);
+    if (new.target === Vector) {
+      this.source = source;
+      Object.freeze(this);
+    } else {
+      // a subclass may add fields
+      Object.defineProperty(this, "source", { value: source, enumerable: true });
+    }
     if (options?.strict && !this.isComplete) {
       const known = this.metrics;
       throw missingOf(metrics[this.version].find(({ name, isMandatory }) => isMandatory && !(name in known)).name);

@@ -54,6 +54,11 @@ function checkVectors() {
   const own = new Own(V3);
   assert.throws(() => { own.source = V4; }, TypeError);
   assert.deepEqual([own.text, { ...own }], [V3, { source: V3, note: "seen" }]);
+  class Accessed extends Vector {
+    get source() { return "given"; }
+    set source(text) {}
+  }
+  assert.deepEqual([new Accessed(V3).text, new Accessed(V3).source], [V3, V3]);
   assert.deepEqual(Vector.parse(V3), { ok: true, vector: new Vector(V3) });
   assert.equal(Vector.parse("x").error.kind, "invalid component");
 }
