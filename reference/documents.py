@@ -106,7 +106,7 @@ def difference(member, says, expected):
 
 def agrees(says, expected):
     if expected is None:
-        return says == "NOT_DEFINED"
+        return says in (None, "NOT_DEFINED")
     if isinstance(expected, str):
         return says == expected
     return is_number(says) and float(says) == expected

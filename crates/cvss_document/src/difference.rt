@@ -27,7 +27,7 @@ pub struct Difference<'a> {
     pub member: &'a str,
     /// What it says.
     pub says: Said<'a>,
-    /// What would agree; null where the member's absence alone, or `NOT_DEFINED`, would.
+    /// What would agree; null also where the member's absence, or `NOT_DEFINED`, would.
     pub is: Value,
 }
 

@@ -32,7 +32,7 @@ pub(crate) fn agrees(expected: Expected, said: &Value) -> bool
     match expected {
         Expected::Text(text) => said.as_str() == Some(text),
         Expected::Score(tenths) => said.as_f64() == Some(score_number(tenths)),
-        Expected::Nothing => said.as_str() == Some(NOT_DEFINED),
+        Expected::Nothing => said.is_null() || said.as_str() == Some(NOT_DEFINED),
     }
 }
 
