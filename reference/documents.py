@@ -300,7 +300,7 @@ def parsed(text):
 
 def answer(source, text, allow_incomplete=False):
     """The objects that answer a document, and whether nothing is found in it."""
-    if not text.strip(b" \t\r\n"):
+    if "line" in source and not text.strip(b" \t\r\n"):
         return [], True
     try:
         document = parsed(text.decode("utf-8"))
@@ -313,9 +313,9 @@ def answer(source, text, allow_incomplete=False):
 
 
 def is_by_line(text):
-    """Whether a file has one document a line: its first line that is not blank is one."""
+    """Whether a file has one document a line: its first line that is not blank is one, or there is no such line."""
     first = text.lstrip(b" \t\r\n").split(b"\n")[0]
-    return bool(first) and answer({}, first)[0] not in ([{"refused": "not UTF-8"}], [{"refused": "not JSON"}])
+    return not first or answer({}, first)[0] not in ([{"refused": "not UTF-8"}], [{"refused": "not JSON"}])
 
 
 def main():

@@ -90,7 +90,7 @@ def try_layouts():
     record = b'{"vectorString":"AV:N/AC:L/Au:N/C:N/I:N/A:C"}'
     cases = [(record, True), (record + b"\n", True), (b" \r\n\n" + record + b"\n" + record, True), (b"1\n[\n" + record + b"]\n", True),
              (b"[\n" + record + b",\n" + record + b"\n]\n", False), (b"\n\n {\n\"a\":" + record + b"}", False),
-             (b"", False), (b" \n\t\r\n", False), (b"x\n" + record, False), (b"\xff\n" + record, False), (b"{}\n\xff\n", True),
+             (b"", True), (b" \n\t\r\n", True), (b"x\n" + record, False), (b"\xff\n" + record, False), (b"{}\n\xff\n", True),
              (b" " * 70_000 + record + b"\n[", True), (b"[" + b"\n" * 200_000 + record + b"]", False),
              (b"[" + b" " * 200_000 + record + b"]\n" + record, True)]
     with tempfile.TemporaryDirectory() as room:
@@ -99,6 +99,7 @@ def try_layouts():
             path.write_bytes(data)
             expect(documents.is_by_line(data), by_line, f"layout {number}")
             expect(audit(path), answer_file(data), f"layout {number}")
+            expect(audit("--document", path), answer_file(data, by_line=False), f"document {number}")
     print(f"{len(cases)} files with one document a line, or with one")
 
 

@@ -1,5 +1,5 @@
 -- How it ends to answer a file.
-use Rattle.std.proofs.Common.{◌≡◌, ◌⊎◌, ℕ, Bool, List, [], ◌++◌, Option, None, Some, Result, inl, inr, sym, ap, ◌∙◌, subst, append-nil}
+use Rattle.std.proofs.Common.{◌≡◌, ◌⊎◌, ℕ, ◌==◌, ◌||◌, Bool, List, [], ◌++◌, length, Option, None, Some, Result, inl, inr, sym, ap, ◌∙◌, subst, append-nil}
 use Rattle.std.specs.Fmt.{option_append}
 use Rattle.std.specs.Io.KnownBytes.{Consumes}
 use Rattle.cvss_lines.specs.declared.fault.RunFault.{RunFault}
@@ -20,7 +20,7 @@ decided None u' beginning b is by = tt
 decided (Some bytes) None beginning b is by = absurd is.consumed
 decided (Some bytes) (Some rest) beginning b is by = go is.decided where
   go : HasFirstText beginning ⊎ (rest ≡ []) → is_by_line bytes ≡ b
-  go (inl has) = ap is_by_line is.consumed ∙ ap is_json (first_text_settled beginning rest has) ∙ sym by
+  go (inl has) = ap is_by_line is.consumed ∙ ap (λ text. (length text == 0) || is_json text) (first_text_settled beginning rest has) ∙ sym by
   go (inr at_end) = ap is_by_line (is.consumed ∙ ap (λ rest. beginning ++ rest) at_end ∙ append-nil beginning) ∙ sym by
 
 -- what follows the beginning is answered as the beginning decides

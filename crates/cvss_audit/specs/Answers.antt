@@ -109,12 +109,16 @@ abbrev pub is_blank : ℕ → Bool
 is_blank byte = (byte == 32) || (byte == 9) || (byte == 13) || (byte == 10)
 
 -- the text has nothing but blanks
-abbrev pub is_passed_over : List ℕ → Bool
-is_passed_over text = list_all is_blank text
+abbrev pub are_blanks : List ℕ → Bool
+are_blanks text = list_all is_blank text
 
--- the text has nothing but blanks, and nothing answers it
-pub record IsPassedOver (text : List ℕ) (answer : Answer) : Type 0 where
-  pub blank : is_passed_over text ≡ true
+-- the text is a line, and has nothing but blanks
+abbrev pub is_passed_over : Input → List ℕ → Bool
+is_passed_over input text = is_some input.1 && are_blanks text
+
+-- the text is passed over, and nothing answers it
+pub record IsPassedOver (input : Input) (text : List ℕ) (answer : Answer) : Type 0 where
+  pub blank : is_passed_over input text ≡ true
   pub is : answer ≡ Accepted []
 
 -- an object answers the text that says why it is refused
@@ -128,10 +132,10 @@ pub record IsNoText (input : Input) (text : List ℕ) (answer : Answer) : Type 0
   pub not_utf8 : ¬ (IsUtf8 text)
   pub refused : IsRefusedText input (codes "not UTF-8") answer
 
--- the text is no JSON, and has more than blanks
+-- the text is no JSON, and is not passed over
 pub record IsNoJson (input : Input) (text : List ℕ) (answer : Answer) : Type 0 where
   pub utf8 : IsUtf8 text
-  pub not_blank : is_passed_over text ≡ false
+  pub not_blank : is_passed_over input text ≡ false
   pub not_json : read text ≡ None
   pub refused : IsRefusedText input (codes "not JSON") answer
 
@@ -153,7 +157,7 @@ pub record Begins (input : Input) (text bytes : List ℕ) : Type 0 where
 -- this is an answer to the text
 unfoldable pub IsAnswer : Input → List ℕ → Answer → Type 0
 IsAnswer input text answer =
-    IsPassedOver text answer ⊎ (IsNoText input text answer ⊎ (IsNoJson input text answer ⊎ IsDocument input text answer))
+    IsPassedOver input text answer ⊎ (IsNoText input text answer ⊎ (IsNoJson input text answer ⊎ IsDocument input text answer))
 
 -- and to the line of this number, where each line is a document
 abbrev pub IsLineAnswer : Input → Rule

@@ -1,5 +1,5 @@
 -- How a file holds its documents: one a line, or one in all; and how it ends to answer it.
-use Rattle.std.specs.Prelude.{◌≡◌, ◌≢◌, ◌⊎◌, ℕ, ◌==◌, ◌&&◌, Bool, true, false, All, List, [], ◌∷◌, ◌++◌, if◌then◌else◌, is_some, Option, Some, None, Result, IsErrOf, ⊤}
+use Rattle.std.specs.Prelude.{◌≡◌, ◌≢◌, ◌⊎◌, ℕ, ◌==◌, ◌||◌, ◌&&◌, Bool, true, false, All, List, [], ◌∷◌, ◌++◌, if◌then◌else◌, is_some, length, Option, Some, None, Result, IsErrOf, ⊤}
 use Rattle.std.specs.Io.KnownBytes.{Consumes, IsAtEnd, Keeps}
 use Rattle.std.specs.Str.{is_utf8}
 use Rattle.cvss_audit.specs.Answers.{BeginsLine, IsLineAnswer, is_blank}
@@ -30,9 +30,9 @@ first_text bytes = first_line (without_blanks bytes)
 abbrev pub is_json : List ℕ → Bool
 is_json text = is_utf8 text && is_some (read text)
 
--- there is one document a line, as the first line that is not blank is one by itself
+-- there is one document a line, as the first line that is not blank is one by itself, or there is no such line
 abbrev pub is_by_line : List ℕ → Bool
-is_by_line bytes = is_json (first_text bytes)
+is_by_line bytes = (length (first_text bytes) == 0) || is_json (first_text bytes)
 
 -- a byte 10 ends the first line that is not blank
 pub record HasFirstText (bytes : List ℕ) : Type 0 where

@@ -1,7 +1,7 @@
 //! The answer to a text, which is a JSON document.
 
 ghost use Rattle.std.specs.Prelude.{◌≡◌, [], IfErr, IfOk, OnOk};
-ghost use Rattle.cvss_audit.specs.Answers.{is_passed_over};
+ghost use Rattle.cvss_audit.specs.Answers.{are_blanks, is_passed_over};
 ghost use Rattle.cvss_audit.specs.Inputs.{input_view};
 ghost use Rattle.cvss_audit.specs.Objects.{refusal_value};
 ghost use Rattle.cvss_audit.specs.private.Writing.{Answers, StopsAnswering, StopsFound, StreamsFound};
@@ -21,8 +21,8 @@ use std::alloc::{AllocError, Global};
 use std::io::Write;
 
 /// Appends an object for each location of a vector in a document, each followed by a byte 10, and may
-/// write what waits. Blanks alone are passed over. Says whether nothing is refused and nothing differs,
-/// and no vector lacks what it may not lack.
+/// write what waits. A line of blanks alone is passed over. Says whether nothing is refused and nothing
+/// differs, and no vector lacks what it may not lack.
 ///
 /// # Errors
 ///
@@ -40,7 +40,7 @@ pub(crate) fn answer_text<W: Write>(
     ensures stopped { IfErr result (StopsAnswering (input_view input.entry) text.now
         answers.old.bytes.items (W.contents writer.old) (W.contents writer.new)) }
 {
-    if is_passed_over(text) {
+    if is_passed_over(input, text) {
         return Ok(true);
     }
     let Ok(text) = str::from_utf8(text) else {
@@ -57,9 +57,16 @@ pub(crate) fn answer_text<W: Write>(
     }
 }
 
+/// Whether a text is a line that has nothing but the blanks of JSON.
+fn is_passed_over(input: Input<'_>, text: &[u8]) -> bool
+    ensures { result ≡ is_passed_over (input_view input.entry) text.now }
+{
+    input.line.is_some() && are_blanks(text)
+}
+
 /// Whether a text has nothing but the blanks of JSON.
-fn is_passed_over(text: &[u8]) -> bool
-    ensures { result ≡ is_passed_over text.now }
+fn are_blanks(text: &[u8]) -> bool
+    ensures { result ≡ are_blanks text.now }
 {
     text.iter().all(|byte| is_blank(*byte))
 }

@@ -18,7 +18,7 @@ use std::io::{Read, Write};
 const CHUNK: usize = 64 * 1024;
 
 /// Answers an input that has one document a line, or is one document: by its first line that is not
-/// blank, which is a document by itself or is not.
+/// blank, which is a document by itself or is not. Without such a line it has no documents.
 ///
 /// # Errors
 ///
@@ -77,7 +77,8 @@ fn room_to_read(alloc: Global) -> Result<Vec<u8>, AllocError>
     vec![in alloc; 0; CHUNK]
 }
 
-/// Whether there is one document a line, as the first line that is not blank is one by itself.
+/// Whether there is one document a line, as the first line that is not blank is one by itself, or there
+/// is no such line.
 ///
 /// # Errors
 ///
@@ -85,7 +86,11 @@ fn room_to_read(alloc: Global) -> Result<Vec<u8>, AllocError>
 fn is_by_line(alloc: Global, bytes: &[u8]) -> Result<bool, AllocError>
     ensures { IfOk result (λ by_line. by_line ≡ is_by_line bytes.now) }
 {
-    is_json(alloc, first_text(bytes))
+    let text = first_text(bytes);
+    if text.is_empty() {
+        return Ok(true);
+    }
+    is_json(alloc, text)
 }
 
 fn is_json(alloc: Global, text: &[u8]) -> Result<bool, AllocError>

@@ -19,7 +19,8 @@ pub enum Layout {
     Lines,
     /// It is one document.
     Whole,
-    /// One a line if its first line that is not blank is a document by itself, else it is one.
+    /// One a line if its first line that is not blank is a document by itself or there is no such line,
+    /// else it is one.
     Either,
 }
 
