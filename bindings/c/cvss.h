@@ -234,9 +234,10 @@ typedef struct CvssNumbers {
 bool cvss_numbers(int32_t version, const void *metrics, size_t metrics_length, CvssNumbers *numbers);
 
 /*
- * Rounds a number to tenths, as a version, 20, 30 or 31, rounds scores: v2 takes the nearest tenth, after adding 10^-6; v3.0
- * the next tenth above; v3.1 does what its Appendix A says, and takes 0 for a number below 0. Returns false, and leaves
- * `*tenths` as it was, where a part of the number is out of its range, and for any other version.
+ * Rounds a number to tenths, as a version, 20, 30 or 31, rounds scores: v2 takes the nearest tenth, after adding 10^-6;
+ * v3.0 the least tenth that is not below it; v3.1 does what its Appendix A says, and takes 0 for a number below 0.
+ * Returns false, and leaves `*tenths` as it was, where a part of the number is out of its range, and for any other
+ * version.
  */
 bool cvss_rounded(int32_t version, const CvssNumber *number, int32_t *tenths);
 
@@ -294,7 +295,7 @@ size_t cvss_reason(const void *text, size_t length, void *buffer, size_t size);
 int32_t cvss_refusal_kind(const void *text, size_t length);
 
 /*
- * Writes the abbreviation of the metric that the reason names, at most 4 bytes, if its kind is CVSS_INVALID_VALUE,
+ * Writes the abbreviation of the metric that the reason names, at most 3 bytes, if its kind is CVSS_INVALID_VALUE,
  * CVSS_DUPLICATE_METRIC or CVSS_MISSING_METRIC. Returns its length, and 0 for any other kind.
  */
 size_t cvss_refusal_metric(const void *text, size_t length, void *buffer, size_t size);

@@ -14,8 +14,8 @@ def main(arguments: Optional[List[str]] = None) -> int:
     """Prints a line for each vector. The status is 1 if one is rejected, 2 after an I/O error, and otherwise 0."""
     parser = argparse.ArgumentParser(
         prog="python -m cvss_proved",
-        description="Prints the canonical text, the score and the rating of each CVSS vector; or why it is refused. "
-        "The status is 1 where one is refused, and 2 after an I/O error.",
+        description="Prints the canonical text, the score and the rating of each CVSS vector; or why it is rejected. "
+        "The status is 1 if one is rejected, and 2 after an I/O error.",
     )
     parser.add_argument("vectors", nargs="+", metavar="VECTOR", help="as CVSS:3.1/AV:N/AC:L/PR:N/UI:N/S:U/C:H/I:H/A:H")
     parser.add_argument("--version", action="version", version=__version__)
