@@ -3,7 +3,7 @@
 
 Each public type that derives PartialEq or Clone has a law for it: two values are equal exactly if they are the same or
 report the same, and a clone is that value; and if the type is Copy, that a clone needs no memory. A law is a clause of
-a module `laws` that names the type's impl, or the law of the trait `MetricValue`.
+a module `laws` or of `cvss_laws` that names the type's impl, or the law of the trait `MetricValue`.
 
 docs/CONTRACTS.md lists exactly the public calls with preconditions, by the last part of their names.
 
@@ -28,8 +28,11 @@ def crates():
 
 
 def laws_for(path):
-    """Which words of which types the laws in the crate of a file cite."""
+    """Which words of which types the laws cite that are in the crate of a file, or in its part of `cvss_laws`."""
+    crate, _, *inside = path.relative_to(ROOT / "crates").parts
+    part = inside[0].removesuffix(".rt") if crate == "cvss_score" else crate.removeprefix("cvss_")
     above = [folder / "laws.rt" for folder in path.parents if "src" in folder.parts]
+    above.append(ROOT / "crates/cvss_laws/src" / f"{part}.rt")
     return {law for laws in above if laws.exists() for law in LAW.findall(laws.read_text(encoding="utf-8"))}
 
 
@@ -41,7 +44,7 @@ def without_law():
             found = laws_for(path) | laws_for(ROOT / "crates/cvss/src/lib.rt")
             metrics = re.findall(r"^impl(?:<[^>]*>)? MetricValue for (\w+)", text, re.M)
             for traits, name in DERIVED.findall(text):
-                if SCORING in str(path) and path.stem != "account" or name in metrics or not (is_public or name in exported):
+                if SCORING in str(path) and path.stem != "explanation" or name in metrics or not (is_public or name in exported):
                     continue
                 for trait, word in (("PartialEq", "eq"), ("Clone", "is_clone"), ("Copy", "is_infallible")):
                     if trait in traits.split(", ") and (name, word) not in found:

@@ -1,8 +1,8 @@
 pub mod BytesErrors
 pub mod JsonErrors
-pub use Rattle.cvss_base.specs.laws.Errors
+pub use Rattle.cvss_laws.specs.base.Errors
 pub use Rattle.cvss_base.specs.laws.Order
-pub use Rattle.cvss_base.specs.laws.Severities
+pub use Rattle.cvss_laws.specs.base.Severities
 pub use Rattle.cvss_base.specs.laws.Rounding as RoundingLaws
 pub use Rattle.cvss_laws.specs.any.GivenBack
 pub use Rattle.cvss_laws.specs.v2.NotDefined as ScoreLawsV2
@@ -11,4 +11,4 @@ pub use Rattle.cvss_laws.specs.v4.ClassLaws as ClassLawsV4
 pub use Rattle.cvss_laws.specs.v4.Maximal as MaximalV4
 pub use Rattle.cvss_laws.specs.v4.ScoreLaws as ScoreLawsV4
 pub use Rattle.cvss_laws.specs.v4.MergingLaws as MergingLawsV4
-pub use Rattle.cvss_v4.specs.laws.OverridingLaws as OverridingLawsV4
+pub use Rattle.cvss_laws.specs.v4.OverridingLaws as OverridingLawsV4

@@ -2,7 +2,7 @@
 //! needs a law calls it.
 
 ghost use Rattle.std.specs.Prelude.{◌↔◌, IsTrue};
-ghost use Rattle.cvss_base.specs.laws.Errors as same;
+ghost use Rattle.cvss_laws.specs.base.Errors as same;
 ghost use Rattle.cvss_base.specs.Equality.{EqualsByValue, ClonesByValue, ClonesAlways};
 ghost use Rattle.cvss.specs.laws.BytesErrors as of_bytes;
 ghost use Rattle.cvss.specs.laws.JsonErrors.{ReportTheSame};
@@ -32,7 +32,7 @@ pub fn equality_is_that_of_values()
         ↔ of_bytes.ReportTheSame x y }
     ensures error { (x y : Error) → IsTrue (⟦<Error as PartialEq>⟧.eq x y) ↔ same.ReportTheSame x y }
 {
-    cvss_base::laws::equality_is_that_of_values();
+    cvss_laws::base::equality_is_that_of_values();
     v2::laws::vectors_are_their_values();
     v3::laws::vectors_are_their_values();
     v4::laws::equality_is_that_of_values();
@@ -59,7 +59,7 @@ pub fn clones_are_equal()
     ensures error { (x clone : Error) → ⟦<Error as Clone>⟧.is_clone x clone
         → same.ReportTheSame x clone }
 {
-    cvss_base::laws::clones_are_equal();
+    cvss_laws::base::clones_are_equal();
 }
 
 /// To clone a vector, a metric, what is published or a count takes no memory, so it is never refused.

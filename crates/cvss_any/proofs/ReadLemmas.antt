@@ -27,7 +27,7 @@ use Rattle.cvss_text.proofs.TextLemmas.{IsPart}
 use Rattle.cvss_text.specs.Route.{Route, ToV20, ToV30, ToV31, ToV40, ToNoVersion, route_of, route_of_pieces}
 use Rattle.cvss_text.specs.declared.walk.Fault.{Fault}
 use Rattle.cvss_text.specs.private.Walk.{FrontLaws, IsFirstOfPieces, IsPrintable, IsReadLeft, VersionLaws, reason_of}
-use Rattle.cvss_v2_metric.specs.private.TableLaws.{undotted_spelling}
+use Rattle.cvss_metric.specs.v2.private.TableLaws.{undotted_spelling}
 use Rattle.cvss_v2.specs.Vector.{v2}
 use Rattle.cvss_v2.specs.Weights.{weights_of}
 use Rattle.cvss_v2.specs.private.VectorLaws.{v2_laws}

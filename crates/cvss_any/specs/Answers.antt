@@ -9,11 +9,11 @@ use Rattle.cvss_base.specs.Version.{canonical_text, IsComplete}
 use Rattle.cvss_base.specs.declared.severity.Severity.{Severity}
 use Rattle.cvss_score.specs.v2.Rating.{rating_of}
 use Rattle.cvss_score.specs.v2.Scores as scores_v2
-use Rattle.cvss_v2_metric.specs.Table as table_v2
+use Rattle.cvss_metric.specs.v2.Table as table_v2
 use Rattle.cvss_v2.specs.Vector.{v2}
 use Rattle.cvss_v2.specs.Weights as weights_v2
 use Rattle.cvss_score.specs.v3.Scores as scores_v3
-use Rattle.cvss_v3_metric.specs.Table as table_v3
+use Rattle.cvss_metric.specs.v3.Table as table_v3
 use Rattle.cvss_v3.specs.Vector.{v3}
 use Rattle.cvss_v3.specs.VectorWeights as weights_v3
 use Rattle.cvss_v4.specs.Merging.{effective_of}

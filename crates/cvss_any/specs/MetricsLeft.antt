@@ -2,9 +2,9 @@
 use Rattle.std.specs.Prelude.{ℕ, List}
 use Rattle.cvss_text.specs.Listing as base
 use Rattle.cvss_base.specs.V4Types.{declared}
-use Rattle.cvss_v2_metric.specs.Table as table_v2
+use Rattle.cvss_metric.specs.v2.Table as table_v2
 use Rattle.cvss_v2.specs.Vector.{v2}
-use Rattle.cvss_v3_metric.specs.Table as table_v3
+use Rattle.cvss_metric.specs.v3.Table as table_v3
 use Rattle.cvss_v3.specs.Vector.{v3}
 use Rattle.cvss_v4.specs.Vector.{v4}
 use Rattle.cvss_any.specs.Answers.{listed_as}

@@ -7,7 +7,7 @@ use Rattle.cvss_base.specs.declared.group.MetricGroup.TheVariants.{Base}
 use Rattle.cvss_base.specs.declared.v3.MetricType.{MetricType}
 use Rattle.cvss_v4.specs.Nomenclature.{nomenclature_of, text_of as nomenclature_text}
 use Rattle.cvss_base.specs.SeverityText.{text_of as severity_text}
-use Rattle.cvss_v3_metric.specs.Table.{printed}
+use Rattle.cvss_metric.specs.v3.Table.{printed}
 use Rattle.cvss_base.specs.V3Types.{name_of, group_of}
 use Rattle.cvss_v3.specs.declared.vector.Vector as type_v3
 use Rattle.cvss_v4.specs.declared.vector.Vector as type_v4

@@ -3,6 +3,7 @@
 ghost use Rattle.std.specs.Prelude.{◌≡◌, Some};
 ghost use Rattle.cvss_base.specs.declared.error.Error.TheVariants.{OutOfMemory};
 ghost use Rattle.cvss_base.specs.ErrorText.{error_text};
+ghost use Rattle.cvss_base.specs.private.Messages.{metric_named};
 
 use crate::named::Named;
 use crate::{v2, v3, v4};
@@ -75,10 +76,30 @@ pub enum Error {
     OutOfMemory,
 }
 
+impl Error {
+    /// The metric that the error names, as messages have it, or nothing.
+    fn metric(&self) -> &'static str
+        ensures { result.now ≡ metric_named self.now }
+    {
+        match self {
+            Error::InvalidMetricV2 { metric_type, .. }
+            | Error::DuplicateMetricV2 { metric_type }
+            | Error::MissingMandatoryMetricV2 { metric_type } => metric_type.row().3,
+            Error::InvalidMetricV3 { metric_type, .. } | Error::DuplicateMetricV3 { metric_type } =>
+                metric_type.row().3,
+            Error::InvalidMetricV4 { metric_type, .. }
+            | Error::DuplicateMetricV4 { metric_type }
+            | Error::MissingMandatoryMetricV4 { metric_type } => metric_type.row().3,
+            _ => "",
+        }
+    }
+}
+
 impl fmt::Display for Error {
     ghost output = { λ error. Some (error_text error) };
 
     fn fmt<W: fmt::Write>(&self, f: &mut fmt::Formatter<W>) -> fmt::Result {
+        let metric = self.metric();
         match self {
             Error::InvalidComponent { component } => {
                 write!(f, "invalid CVSS metric group component: `{component}`")
@@ -87,29 +108,14 @@ impl fmt::Display for Error {
             Error::UnsupportedVersion { version } => {
                 write!(f, "unsupported CVSS version: {version}")
             }
-            Error::InvalidMetricV2 { metric_type, value } => {
-                write!(f, "invalid {}: `{value}`", metric_type.row().3)
-            }
-            Error::DuplicateMetricV2 { metric_type } => {
-                write!(f, "duplicate {}", metric_type.row().3)
-            }
-            Error::MissingMandatoryMetricV2 { metric_type } => {
-                write!(f, "missing mandatory {}", metric_type.row().3)
-            }
-            Error::InvalidMetricV3 { metric_type, value } => {
-                write!(f, "invalid {}: `{value}`", metric_type.row().3)
-            }
-            Error::DuplicateMetricV3 { metric_type } => {
-                write!(f, "duplicate {}", metric_type.row().3)
-            }
-            Error::InvalidMetricV4 { metric_type, value } => {
-                write!(f, "invalid {}: `{value}`", metric_type.row().3)
-            }
-            Error::DuplicateMetricV4 { metric_type } => {
-                write!(f, "duplicate {}", metric_type.row().3)
-            }
-            Error::MissingMandatoryMetricV4 { metric_type } => {
-                write!(f, "missing mandatory {}", metric_type.row().3)
+            Error::InvalidMetricV2 { value, .. }
+            | Error::InvalidMetricV3 { value, .. }
+            | Error::InvalidMetricV4 { value, .. } => write!(f, "invalid {metric}: `{value}`"),
+            Error::DuplicateMetricV2 { .. }
+            | Error::DuplicateMetricV3 { .. }
+            | Error::DuplicateMetricV4 { .. } => write!(f, "duplicate {metric}"),
+            Error::MissingMandatoryMetricV2 { .. } | Error::MissingMandatoryMetricV4 { .. } => {
+                write!(f, "missing mandatory {metric}")
             }
             Error::InvalidNomenclatureV4 { nomenclature } => {
                 write!(f, "invalid CVSSv4 nomenclature: `{nomenclature}`")

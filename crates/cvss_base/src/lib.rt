@@ -6,7 +6,6 @@
 pub mod component;
 mod error;
 mod group;
-pub mod laws;
 mod named;
 mod number;
 mod one_decimal;

@@ -4,8 +4,8 @@ ghost use Rattle.std.specs.Prelude.{◌≡◌, IfSome, Some, refl};
 ghost use Rattle.std.proofs.Common.{rules};
 ghost use Rattle.cvss.specs.MetricTypeV3.TheVariants.{UI, MUI};
 ghost use Rattle.cvss.specs.TableV3.{metric_component, spelling_of};
-ghost use Rattle.cvss_v3_metric.specs.Modified.{modified_map};
-ghost use Rattle.cvss_v3_metric.specs.declared.base.access.UserInteraction.TheVariants as table;
+ghost use Rattle.cvss_metric.specs.v3.Modified.{modified_map};
+ghost use Rattle.cvss_metric.specs.declared.v3.base.access.UserInteraction.TheVariants as table;
 ghost use Rattle.cvss_examples.specs.declared.own_metric.Participation.TheVariants.{Needed, Unneeded};
 ghost use Rattle.cvss_examples.specs.Participation.{participation};
 

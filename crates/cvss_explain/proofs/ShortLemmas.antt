@@ -4,7 +4,7 @@ use Rattle.cvss_base.specs.SeverityText.{text_of as severity_text}
 use Rattle.cvss_base.specs.declared.severity.Severity.{Severity}
 use Rattle.cvss_base.specs.declared.severity.Severity.TheVariants.{None, Low, Medium, High, Critical}
 use Rattle.cvss_base.specs.declared.v4.MetricType.TheVariants.{AC, AT, AV, PR, UI}
-use Rattle.cvss_v4_metric.specs.Table.{spelling_at}
+use Rattle.cvss_metric.specs.v4.Table.{spelling_at}
 
 pub severity_short : (severity : Severity) → length (severity_text severity) ≤ 8
 severity_short None = omega arith

@@ -4,8 +4,8 @@ use Rattle.cvss_json_write.specs.Json.{Member, string_text}
 use Rattle.cvss_base.specs.declared.v4.MetricType.{MetricType}
 use Rattle.cvss_base.specs.declared.v4.MetricType.TheVariants.{AC, AR, AT, AV, CR, E, IR, PR, SA, SC, SI, UI, VA, VC, VI}
 use Rattle.cvss_base.specs.V4Types.{name_of}
-use Rattle.cvss_v4_metric.specs.Table as place
-use Rattle.cvss_v4_metric.specs.Table.{spelling_at}
+use Rattle.cvss_metric.specs.v4.Table as place
+use Rattle.cvss_metric.specs.v4.Table.{spelling_at}
 use Rattle.cvss_score.specs.declared.v4.scoring.effective.Effective.{Effective}
 use Rattle.cvss_score.specs.declared.v4.scoring.effective.VulnerableImpact.{VulnerableImpact}
 use Rattle.cvss_score.specs.declared.v4.scoring.effective.VulnerableImpact.TheVariants as vulnerable_impact

@@ -15,7 +15,7 @@ use Rattle.cvss_json_write.specs.Json.{decimal_text, tenths_text}
 use Rattle.cvss_v2.specs.Vector.{v2}
 use Rattle.cvss_v2.specs.Weights.{weight_in, weights_of}
 use Rattle.cvss_v2.specs.declared.vector.Vector.{Vector}
-use Rattle.cvss_v2_metric.specs.Table.{printed}
+use Rattle.cvss_metric.specs.v2.Table.{printed}
 
 -- what a metric weighs, which is thousandths
 abbrev pub weight_text : Vector → MetricType → List ℕ

@@ -19,7 +19,7 @@ use Rattle.cvss_v3.specs.Vector.{v3}
 use Rattle.cvss_score.specs.v3.Weighing.{weight_in}
 use Rattle.cvss_v3.specs.VectorWeights.{weights_of}
 use Rattle.cvss_v3.specs.declared.vector.Vector.{Vector}
-use Rattle.cvss_v3_metric.specs.Table.{printed}
+use Rattle.cvss_metric.specs.v3.Table.{printed}
 
 -- what a metric weighs, which is hundredths; the scopes weigh nothing
 abbrev pub weight_text : Vector → MetricType → List ℕ

@@ -26,7 +26,7 @@ use Rattle.cvss_v4.specs.Nomenclature.{nomenclature_of, text_of as nomenclature_
 use Rattle.cvss_v4.specs.Parts.{IsScoreBy}
 use Rattle.cvss_v4.specs.Vector.{v4}
 use Rattle.cvss_v4.specs.declared.vector.Vector.{Vector}
-use Rattle.cvss_v4_metric.specs.Table.{printed}
+use Rattle.cvss_metric.specs.v4.Table.{printed}
 
 -- the levels that a metric counts in that replaces none, as digits of the MacroVector; no supplemental metric counts
 abbrev pub own_levels : MacroVector → MetricType → List ℕ

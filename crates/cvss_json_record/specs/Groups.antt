@@ -7,8 +7,8 @@ use Rattle.cvss_v4.specs.Merging.{effective_of}
 use Rattle.cvss_score.specs.v2.Scores as scores_v2
 use Rattle.cvss_score.specs.v3.Scores as scores_v3
 use Rattle.cvss_score.specs.v4.Scores.{IsScore}
-use Rattle.cvss_v2_metric.specs.Table as table_v2
-use Rattle.cvss_v3_metric.specs.Table as table_v3
+use Rattle.cvss_metric.specs.v2.Table as table_v2
+use Rattle.cvss_metric.specs.v3.Table as table_v3
 use Rattle.cvss_base.specs.Tenths.{IsInTenths}
 use Rattle.cvss_base.specs.V2Types as types_v2
 use Rattle.cvss_base.specs.V3Types as types_v3

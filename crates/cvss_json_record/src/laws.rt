@@ -13,9 +13,9 @@ ghost use Rattle.cvss_json_record.specs.WordsV2 as v2;
 ghost use Rattle.cvss_json_record.specs.WordsV3 as v3;
 ghost use Rattle.cvss_json_record.specs.WordsV4 as v4;
 ghost use Rattle.cvss_json_record.specs.laws.Members.{AreMembers};
-ghost use Rattle.cvss_v2_metric.specs.Table as table_v2;
-ghost use Rattle.cvss_v3_metric.specs.Table as table_v3;
-ghost use Rattle.cvss_v4_metric.specs.Table as table_v4;
+ghost use Rattle.cvss_metric.specs.v2.Table as table_v2;
+ghost use Rattle.cvss_metric.specs.v3.Table as table_v3;
+ghost use Rattle.cvss_metric.specs.v4.Table as table_v4;
 
 use crate::{Expected, Field, Group, Scores};
 

@@ -2,4 +2,5 @@ pub mod ClassLaws
 pub mod LetterLaws
 pub mod Maximal
 pub mod MergingLaws
+pub mod OverridingLaws
 pub mod ScoreLaws

@@ -1,7 +1,9 @@
 //! Laws of CVSS v3, each the contract of a function that does nothing. A proof that needs a law
 //! calls it.
 
-ghost use Rattle.std.specs.Prelude.{◌≡◌, ℕ, List, ℤ, pos, ◌≤◌, ◌≤ℤ◌};
+ghost use Rattle.std.specs.Ordering.{int_cmp};
+ghost use Rattle.std.specs.Prelude.{◌≡◌, ℕ, List, ℤ, pos, ◌≤◌, ◌≤ℤ◌, Some};
+ghost use Rattle.cvss_base.specs.Equality.{EqualsByValue, ClonesByValue, ClonesAlways};
 ghost use Rattle.cvss_base.specs.Version.{canonical_text, Denotes};
 ghost use Rattle.cvss_laws.specs.v3.FifthDecimals.{IsSameWhenCut};
 ghost use Rattle.cvss_laws.specs.v3.ScoreLaws.{DefineTheSame, with_modified_as_base};
@@ -12,9 +14,26 @@ ghost use Rattle.cvss_v3.specs.declared.vector.Vector.{Vector};
 ghost use Rattle.cvss_score.specs.v3.Scores.{base_number, environmental_number, temporal_number, IsBaseScore, IsTemporalScore, IsEnvironmentalScore};
 ghost use Rattle.cvss_score.specs.declared.v3.weights.Weights.{Weights};
 
-pub use cvss_v3::laws::{
-    scores_compare_as_counts, values_are_cloned_without_memory, vectors_are_their_values,
-};
+pub use cvss_v3::laws::vectors_are_their_values;
+use cvss_v3::{Score, Vector};
+
+/// Scores compare as their counts, are equal exactly if these are, and are 0 by default; a clone is
+/// the score, and is never refused.
+pub fn scores_compare_as_counts()
+    ensures order { (x y : ℤ) → ⟦<Score as Ord>⟧.cmp x y ≡ int_cmp x y }
+    ensures partial_order { (x y : ℤ) → ⟦<Score as PartialOrd>⟧.partial_cmp x y
+        ≡ Some (int_cmp x y) }
+    ensures equality { EqualsByValue ⟦<Score as PartialEq>⟧.eq }
+    ensures clone { ClonesByValue ⟦<Score as Clone>⟧.is_clone }
+    ensures infallible { ClonesAlways ⟦<Score as Clone>⟧.is_infallible }
+    ensures default { (score : ℤ) → ⟦<Score as Default>⟧.is_default score → score ≡ pos 0 }
+{}
+
+/// To clone a vector or a score takes no memory, so it is never refused.
+pub fn values_are_cloned_without_memory()
+    ensures vector { ClonesAlways ⟦<Vector as Clone>⟧.is_infallible }
+    ensures score { ClonesAlways ⟦<Score as Clone>⟧.is_infallible }
+{}
 
 /// A canonical text denotes its vector, and a text denotes at most one vector. So what is printed
 /// of a vector with minor version 0 or 1 is read as that vector.

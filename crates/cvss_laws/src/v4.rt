@@ -2,7 +2,8 @@
 //! calls it.
 
 ghost use Rattle.std.specs.List.{All};
-ghost use Rattle.std.specs.Prelude.{◌≡◌, ℕ, ℤ, List, [], ◌∷◌, ◌≤◌, ◌↔◌, ◌≤ℤ◌, IfSome, IsTrue};
+ghost use Rattle.std.specs.Prelude.{◌≡◌, ℕ, ℤ, List, [], ◌∷◌, ◌≤◌, ◌↔◌, ◌≤ℤ◌, IfSome, IsTrue, None};
+ghost use Rattle.cvss_base.specs.Equality.{EqualsByValue, ClonesByValue, ClonesAlways};
 ghost use Rattle.cvss_base.specs.Version.{canonical_text, Denotes};
 ghost use Rattle.cvss_base.specs.Exact.{of_count, ◌over◌, ◌⊕◌};
 ghost use Rattle.cvss_base.specs.Rounding.{IsRoundedV4};
@@ -19,18 +20,69 @@ ghost use Rattle.cvss_score.specs.v4.Values.{listed_value, table_value, IsListed
 ghost use Rattle.cvss_score.specs.declared.v4.scoring.effective.Effective.{Effective};
 ghost use Rattle.cvss_v4.specs.Merging.{letter_at, effective_of};
 ghost use Rattle.cvss_v4.specs.Nomenclature.{nomenclature_of};
+ghost use Rattle.cvss_v4.specs.Table.{value_at};
 ghost use Rattle.cvss_v4.specs.Vector.{v4};
 ghost use Rattle.cvss_v4.specs.declared.vector.Vector.{Vector};
+ghost use Rattle.cvss_v4.specs.declared.vector.overriding.OverrideError.{OverrideError};
 ghost use Rattle.cvss_laws.specs.v4.ClassLaws.{IsDominated, HaveLeastSum, IsDepth};
 ghost use Rattle.cvss_laws.specs.v4.LetterLaws.{AreLettersOf};
 ghost use Rattle.cvss_laws.specs.v4.Maximal.{eq1_levels, eq1_maximal, eq2_levels, eq2_maximal, eq3_eq6_levels, eq3_eq6_maximal, eq4_levels, eq4_maximal};
 ghost use Rattle.cvss_laws.specs.v4.MergingLaws.{HasModifiedAsBase, DifferInSupplemental};
+ghost use Rattle.cvss_laws.specs.v4.OverridingLaws.{AreAlike};
 ghost use Rattle.cvss_laws.specs.v4.ScoreLaws.{IsFromTenthToTen};
 
-pub use cvss_v4::laws::{
-    clones_are_equal, default_vectors_have_no_metric, equality_is_that_of_values,
-    values_are_cloned_without_memory,
-};
+use cvss_score::v4::scoring::explanation::{Explanation, GroupExplanation, GroupExplanations};
+use cvss_v4::laws::vectors_are_their_values;
+use cvss_v4::{Nomenclature, OverrideError, Score, Vector};
+
+/// Two vectors, scores or nomenclatures are equal exactly if they are one value, and two errors of
+/// overrides exactly if they are of one kind, at one place, and say the same.
+pub fn equality_is_that_of_values()
+    ensures vector { EqualsByValue ⟦<Vector as PartialEq>⟧.eq }
+    ensures score { EqualsByValue ⟦<Score as PartialEq>⟧.eq }
+    ensures nomenclature { EqualsByValue ⟦<Nomenclature as PartialEq>⟧.eq }
+    ensures override_error { (x y : OverrideError) → IsTrue (⟦<OverrideError as PartialEq>⟧.eq x y)
+        ↔ AreAlike x y }
+{
+    crate::base::equality_is_that_of_values();
+    vectors_are_their_values();
+}
+
+/// A clone of a vector, a score, a nomenclature or an explanation of a score is that value, and a clone
+/// of an error of overrides is of its kind, at its place, and says the same.
+pub fn clones_are_equal()
+    ensures vector { ClonesByValue ⟦<Vector as Clone>⟧.is_clone }
+    ensures score { ClonesByValue ⟦<Score as Clone>⟧.is_clone }
+    ensures nomenclature { ClonesByValue ⟦<Nomenclature as Clone>⟧.is_clone }
+    ensures explanation { ClonesByValue ⟦<Explanation as Clone>⟧.is_clone }
+    ensures groups { ClonesByValue ⟦<GroupExplanations as Clone>⟧.is_clone }
+    ensures group { ClonesByValue ⟦<GroupExplanation as Clone>⟧.is_clone }
+    ensures override_error { (x clone : OverrideError)
+        → ⟦<OverrideError as Clone>⟧.is_clone x clone
+        → AreAlike x clone }
+{
+    crate::base::clones_are_equal();
+}
+
+/// To clone a vector, a score, a nomenclature or an explanation of a score takes no memory, so it is
+/// never refused.
+pub fn values_are_cloned_without_memory()
+    ensures vector { ClonesAlways ⟦<Vector as Clone>⟧.is_infallible }
+    ensures score { ClonesAlways ⟦<Score as Clone>⟧.is_infallible }
+    ensures nomenclature { ClonesAlways ⟦<Nomenclature as Clone>⟧.is_infallible }
+    ensures explanation { ClonesAlways ⟦<Explanation as Clone>⟧.is_infallible }
+    ensures groups { ClonesAlways ⟦<GroupExplanations as Clone>⟧.is_infallible }
+    ensures group { ClonesAlways ⟦<GroupExplanation as Clone>⟧.is_infallible }
+{}
+
+/// The default vector has minor version 0 and no metric.
+pub fn default_vectors_have_no_metric()
+    ensures version { (v : Vector) → ⟦<Vector as Default>⟧.is_default v → v.minor_version ≡ 0 }
+    ensures valueless { (v : Vector) → ⟦<Vector as Default>⟧.is_default v
+        → (kind : MetricType) → value_at v kind ≡ None }
+{
+    vectors_are_their_values();
+}
 
 /// A canonical text denotes its vector, and a text denotes at most one vector. So what is printed
 /// of a complete vector with minor version 0 is read as that vector.

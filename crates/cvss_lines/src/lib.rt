@@ -20,7 +20,7 @@ pub use answering::Answering;
 pub use buffered::{OutputBuffer, write_whole};
 pub use fault::RunFault;
 pub use lines::{cut_at_line_end, first_line, line_text};
-pub use reading::read_whole;
+pub use reading::read_buffer;
 pub use running::{run, serve};
 pub use search::either_or_len;
 pub use service::Service;

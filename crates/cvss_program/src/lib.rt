@@ -5,6 +5,7 @@
 mod command_line;
 mod files;
 mod operands;
+mod reading;
 mod served;
 mod sources;
 mod task;
@@ -14,6 +15,7 @@ mod whole;
 pub use command_line::{CommandLine, arguments, arguments_of};
 pub use files::{Files, SystemFiles};
 pub use operands::{are_many, serve_operands};
+pub use reading::read_whole;
 pub use served::{Served, exit_status};
 pub use sources::{Source, has_name, source_of};
 pub use task::{EachLine, LineAnswer, Task};

@@ -6,9 +6,10 @@ ghost use Rattle.cvss_program.specs.Whole.{IsAllOf, ReadsWhole};
 
 use crate::files::Files;
 use crate::operands::report_error;
+use crate::reading::read_whole;
 use crate::sources::{Source, source_of};
 use crate::watching::WatchedReader;
-use cvss_lines::{RunFault, read_whole};
+use cvss_lines::RunFault;
 use std::alloc::{AllocError, Global};
 use std::io::{Read, Write};
 

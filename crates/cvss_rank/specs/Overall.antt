@@ -16,11 +16,11 @@ use Rattle.cvss_score.specs.v4.Scores.{IsScore}
 use Rattle.cvss_v2.specs.Vector as vector_v2
 use Rattle.cvss_v2.specs.Weights as weights_v2
 use Rattle.cvss_v2.specs.declared.vector.Vector as declared_v2
-use Rattle.cvss_v2_metric.specs.Table as table_v2
+use Rattle.cvss_metric.specs.v2.Table as table_v2
 use Rattle.cvss_v3.specs.Vector as vector_v3
 use Rattle.cvss_v3.specs.VectorWeights as weights_v3
 use Rattle.cvss_v3.specs.declared.vector.Vector as declared_v3
-use Rattle.cvss_v3_metric.specs.Table as table_v3
+use Rattle.cvss_metric.specs.v3.Table as table_v3
 use Rattle.cvss_v4.specs.Merging.{effective_of}
 
 -- the value `X`, or `ND` in CVSS v2: the metric is not defined

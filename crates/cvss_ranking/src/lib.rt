@@ -3,7 +3,6 @@
 #![tactic(auto)]
 
 mod error;
-pub mod laws;
 mod rank;
 mod row;
 

@@ -2,7 +2,6 @@
 
 mod base_score;
 mod equations;
-pub mod laws;
 pub mod score;
 mod weights;
 

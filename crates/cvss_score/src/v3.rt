@@ -2,7 +2,6 @@
 
 mod counts;
 mod equations;
-pub mod laws;
 mod power;
 pub mod rounding;
 mod rules;

@@ -1,7 +1,6 @@
 //! The score of CVSS v4.0: what effective values score, by which numbers, and the nomenclature of
 //! the groups of metrics that a score rests on.
 
-pub mod laws;
 mod nomenclature;
 mod score;
 pub mod scoring;

@@ -5,7 +5,7 @@ use Rattle.cvss_base.specs.Version.{Version}
 use Rattle.cvss_base.specs.declared.v2.MetricType.{MetricType}
 use Rattle.cvss_base.specs.declared.v2.MetricType.TheVariants.{A, AC, AV, Au, C, I, E, RL, RC, CDP, TD, CR, IR, AR}
 use Rattle.cvss_v2.specs.declared.vector.Vector.{Vector}
-use Rattle.cvss_v2_metric.specs.Table.{Value, spelling_of, printed, mandatory}
+use Rattle.cvss_metric.specs.v2.Table.{Value, spelling_of, printed, mandatory}
 
 -- the vector's value for a metric
 abbrev pub value_at : Vector → (kind : MetricType) → Option (Value kind)

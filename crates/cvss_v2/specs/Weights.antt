@@ -4,7 +4,7 @@ use Rattle.cvss_base.specs.declared.v2.MetricType.{MetricType}
 use Rattle.cvss_base.specs.declared.v2.MetricType.TheVariants.{A, AC, AV, Au, C, I, E, RL, RC, CDP, TD, CR, IR, AR}
 use Rattle.cvss_v2.specs.declared.vector.Vector.{Vector}
 use Rattle.cvss_score.specs.declared.v2.weights.Weights.{Weights}
-use Rattle.cvss_v2_metric.specs.Table.{weight_of, absent_weight}
+use Rattle.cvss_metric.specs.v2.Table.{weight_of, absent_weight}
 use Rattle.cvss_v2.specs.Vector.{value_at}
 
 -- the weight of a vector's metric

@@ -1,13 +1,12 @@
-//! Laws of the types of CVSS v2, each the contract of a function that does nothing. A proof that
+//! Laws of vectors of CVSS v2, each the contract of a function that does nothing. A proof that
 //! needs a law calls it.
 
 ghost use Rattle.std.specs.Prelude.{◌≡◌, None};
-ghost use Rattle.cvss_base.specs.Equality.{EqualsByValue, ClonesByValue, ClonesAlways};
+ghost use Rattle.cvss_base.specs.Equality.{EqualsByValue, ClonesByValue};
 ghost use Rattle.cvss_base.specs.declared.v2.MetricType.{MetricType};
 ghost use Rattle.cvss_v2.specs.Vector.{value_at};
 
-use crate::{Score, Vector};
-pub use cvss_score::v2::laws::scores_compare_as_counts;
+use crate::Vector;
 
 /// Two vectors are equal exactly if they are one; a clone is the vector, and the default vector has
 /// no metric.
@@ -16,10 +15,4 @@ pub fn vectors_are_their_values()
     ensures clone { ClonesByValue ⟦<Vector as Clone>⟧.is_clone }
     ensures default { (vector : Vector) → ⟦<Vector as Default>⟧.is_default vector
         → (kind : MetricType) → value_at vector kind ≡ None }
-{}
-
-/// To clone a vector or a score takes no memory, so it is never refused.
-pub fn values_are_cloned_without_memory()
-    ensures vector { ClonesAlways ⟦<Vector as Clone>⟧.is_infallible }
-    ensures score { ClonesAlways ⟦<Score as Clone>⟧.is_infallible }
 {}

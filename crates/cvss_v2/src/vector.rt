@@ -12,17 +12,17 @@ mod weighing;
 
 use crate::laws::vectors_are_their_values;
 use cvss_base::Error;
-use cvss_text::refusing::vector_of;
-use cvss_text::walk::read_vector;
-use cvss_v2_metric::base::{
+use cvss_metric::v2::base::{
     AccessComplexity, AccessVector, Authentication, AvailabilityImpact, ConfidentialityImpact,
     IntegrityImpact,
 };
-use cvss_v2_metric::environmental::{
+use cvss_metric::v2::environmental::{
     AvailabilityRequirement, CollateralDamagePotential, ConfidentialityRequirement,
     IntegrityRequirement, TargetDistribution,
 };
-use cvss_v2_metric::temporal::{Exploitability, RemediationLevel, ReportConfidence};
+use cvss_metric::v2::temporal::{Exploitability, RemediationLevel, ReportConfidence};
+use cvss_text::refusing::vector_of;
+use cvss_text::walk::read_vector;
 pub use printing::Metrics;
 use std::alloc::Global;
 

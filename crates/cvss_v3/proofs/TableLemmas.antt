@@ -3,8 +3,8 @@ use Rattle.std.proofs.Common.{suc, ◌∷◌, Bool, true, false, Option, Some, N
 use Rattle.std.specs.List.{Contains}
 use Rattle.cvss_base.specs.declared.v3.MetricType.{MetricType}
 use Rattle.cvss_base.specs.declared.v3.MetricType.TheVariants.{A, AC, AV, C, I, PR, UI, E, RL, RC, CR, IR, AR}
-use Rattle.cvss_v3_metric.specs.Modified.{weight_or}
-use Rattle.cvss_v3_metric.specs.Table.{Value, weight_of}
+use Rattle.cvss_metric.specs.v3.Modified.{weight_or}
+use Rattle.cvss_metric.specs.v3.Table.{Value, weight_of}
 use Rattle.cvss_base.proofs.TestLemmas.{listed_if}
 use Rattle.cvss_score.specs.v3.Weighing.{weight_at, privileges_weight, effective, effective_scope, is_changed}
 use Rattle.cvss_score.specs.v3.private.Weights.{weights_in, privileges_required, AreOfTables}

@@ -4,7 +4,7 @@ use Rattle.cvss_base.specs.Version.{numeral, Version, version_piece}
 use Rattle.cvss_base.specs.V3Types.{name_of}
 use Rattle.cvss_base.specs.declared.v3.MetricType.{MetricType}
 use Rattle.cvss_base.specs.declared.v3.MetricType.TheVariants.{A, AC, AV, C, I, PR, S, UI, E, RL, RC, CR, IR, AR, MAV, MAC, MPR, MUI, MS, MC, MI, MA}
-use Rattle.cvss_v3_metric.specs.Table.{Value, spelling_of, printed, reported_kind}
+use Rattle.cvss_metric.specs.v3.Table.{Value, spelling_of, printed, reported_kind}
 use Rattle.cvss_v3.specs.declared.vector.Vector.{Vector}
 
 -- the vector's value for a metric

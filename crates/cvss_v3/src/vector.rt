@@ -12,17 +12,17 @@ mod weighing;
 
 use crate::laws::vectors_are_their_values;
 use cvss_base::Error;
-use cvss_text::front::read_after;
-use cvss_text::refusing::vector_after;
-use cvss_v3_metric::base::{
+use cvss_metric::v3::base::{
     AttackComplexity, AttackVector, Availability, Confidentiality, Integrity, PrivilegesRequired,
     Scope, UserInteraction,
 };
-use cvss_v3_metric::environmental::{
+use cvss_metric::v3::environmental::{
     AvailabilityRequirement, ConfidentialityRequirement, IntegrityRequirement, Modified,
     ModifiedScope,
 };
-use cvss_v3_metric::temporal::{ExploitCodeMaturity, RemediationLevel, ReportConfidence};
+use cvss_metric::v3::temporal::{ExploitCodeMaturity, RemediationLevel, ReportConfidence};
+use cvss_text::front::read_after;
+use cvss_text::refusing::vector_after;
 pub use printing::Metrics;
 use std::alloc::Global;
 

@@ -18,7 +18,7 @@ use Rattle.cvss_text.proofs.LawLemmas.{names_differ}
 use Rattle.cvss_text.proofs.RefusalLemmas.{same_place}
 use Rattle.cvss_text.proofs.SettingLemmas.{IsFirstWrong-at, wrongs_same}
 use Rattle.cvss_text.proofs.WalkLemmas.{first_left, taken, HasReadTo-all, HasReadTo-more, HasReadTo-start}
-use Rattle.cvss_v4_metric.specs.Table.{mandatory}
+use Rattle.cvss_metric.specs.v4.Table.{mandatory}
 use Rattle.cvss_v4.specs.Overriding.{AreOverrides, HasNoObjectionBefore, IsEnvironmental, IsFirstObjection, IsOfOtherGroup, Objection, OfOtherGroup, OfText, ObjectionAt}
 use Rattle.cvss_v4.specs.private.OverridingSteps.{AddsOverride, IsObjectionTo}
 use Rattle.cvss_v4.specs.Table.{value_at}

@@ -4,7 +4,7 @@ use Rattle.cvss_base.specs.Text.{colon, slash}
 use Rattle.cvss_base.specs.V4Types.{name_of}
 use Rattle.cvss_base.specs.declared.v4.MetricType.{MetricType}
 use Rattle.cvss_base.specs.declared.v4.MetricType.TheVariants.{AC}
-use Rattle.cvss_v4_metric.specs.Table.{metric_component, spelling_at, spellings_of}
+use Rattle.cvss_metric.specs.v4.Table.{metric_component, spelling_at, spellings_of}
 use Rattle.cvss_v4.specs.private.TableLaws.{width}
 
 -- the length of the longest text

@@ -4,5 +4,4 @@ pub mod Overriding
 pub mod Parts
 pub mod Table
 pub mod Vector
-pub mod laws
 pub mod private

@@ -5,7 +5,7 @@ use Rattle.cvss_base.specs.Groups.{same_group}
 use Rattle.cvss_base.specs.V4Types.{group_of}
 use Rattle.cvss_base.specs.declared.group.MetricGroup.{MetricGroup}
 use Rattle.cvss_base.specs.declared.group.MetricGroup.TheVariants.{Threat, Environmental}
-use Rattle.cvss_v4_metric.specs.Table.{printed}
+use Rattle.cvss_metric.specs.v4.Table.{printed}
 use Rattle.cvss_v4.specs.Table.{value_at}
 use Rattle.cvss_v4.specs.declared.vector.Vector.{Vector}
 use Rattle.cvss_score.specs.declared.v4.nomenclature.Nomenclature.{Nomenclature}

@@ -3,8 +3,8 @@
 use Rattle.std.specs.Prelude.{ℕ, List, Option}
 use Rattle.cvss_base.specs.declared.v4.MetricType.{MetricType}
 use Rattle.cvss_base.specs.declared.v4.MetricType.TheVariants as metric
-use Rattle.cvss_v4_metric.specs.Table as place
-use Rattle.cvss_v4_metric.specs.Table.{spelling_at}
+use Rattle.cvss_metric.specs.v4.Table as place
+use Rattle.cvss_metric.specs.v4.Table.{spelling_at}
 use Rattle.cvss_v4.specs.declared.vector.Vector.{Vector}
 
 -- a type of values, the place of each among the spellings of its metric, the value that a vector has, and the vector

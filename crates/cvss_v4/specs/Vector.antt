@@ -3,7 +3,7 @@ use Rattle.std.specs.Prelude.{true, [], ◌∷◌, ◌++◌, codes}
 use Rattle.cvss_base.specs.Version.{numeral, Version, version_piece}
 use Rattle.cvss_base.specs.V4Types.{name_of}
 use Rattle.cvss_base.specs.declared.v4.MetricType.{MetricType}
-use Rattle.cvss_v4_metric.specs.Table.{printed, mandatory}
+use Rattle.cvss_metric.specs.v4.Table.{printed, mandatory}
 use Rattle.cvss_v4.specs.Table.{Value, spelling_of, value_at}
 use Rattle.cvss_v4.specs.declared.vector.Vector.{Vector}
 

@@ -8,11 +8,11 @@ ghost use Rattle.cvss_v4.specs.private.OverridingSteps.{AddsOverride, IsObjectio
 
 use crate::vector::Vector;
 use cvss_base::MetricGroup;
+use cvss_metric::v4::MetricType;
 use cvss_text::cutting::cut_component;
 use cvss_text::pieces::is_component;
 use cvss_text::texts::Texts;
 use cvss_text::walk::{Fault, read_component};
-use cvss_v4_metric::MetricType;
 
 /// Why a text is no override, with the part of the text that is at fault.
 #[derive(Drop)]

@@ -11,12 +11,12 @@ mod printing;
 mod reading;
 mod scores;
 
-use crate::laws::equality_is_that_of_values;
+use crate::laws::vectors_are_their_values;
 use cvss_base::Error;
+use cvss_metric::v4::{base, environmental, supplemental, threat};
 use cvss_text::front::read_after;
 use cvss_text::refusing::vector_after;
 use cvss_text::walk::Components;
-use cvss_v4_metric::{base, environmental, supplemental, threat};
 pub use overriding::OverrideError;
 pub use printing::Metrics;
 use std::alloc::Global;
@@ -162,7 +162,7 @@ impl Vector {
         ensures texts { IsTrue result
             ↔ (canonical_text v4 self.now ≡ canonical_text v4 other.now) }
     {
-        equality_is_that_of_values();
+        vectors_are_their_values();
         self == other
     }
 }

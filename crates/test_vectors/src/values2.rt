@@ -2,11 +2,11 @@
 
 use crate::kinds::{Asked, print_with, reported_at};
 use crate::shown::{print_error, print_value, show};
+use cvss_metric::v2::base::*;
+use cvss_metric::v2::environmental::*;
+use cvss_metric::v2::temporal::*;
+use cvss_metric::v2::{Metric, MetricType};
 use cvss_v2::each_metric;
-use cvss_v2_metric::base::*;
-use cvss_v2_metric::environmental::*;
-use cvss_v2_metric::temporal::*;
-use cvss_v2_metric::{Metric, MetricType};
 use std::io;
 
 /// Says of the metric of a name, or of its values.

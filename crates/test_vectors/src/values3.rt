@@ -2,11 +2,11 @@
 
 use crate::kinds::{Asked, print_with, reported_at};
 use crate::shown::{print_error, print_value, show};
+use cvss_metric::v3::base::*;
+use cvss_metric::v3::environmental::*;
+use cvss_metric::v3::temporal::*;
+use cvss_metric::v3::{Metric, MetricType};
 use cvss_v3::each_metric;
-use cvss_v3_metric::base::*;
-use cvss_v3_metric::environmental::*;
-use cvss_v3_metric::temporal::*;
-use cvss_v3_metric::{Metric, MetricType};
 use std::io;
 
 /// Says of the metric of a name, or of its values.

@@ -2,8 +2,8 @@
 
 use crate::kinds::{Asked, print_with, reported_at};
 use crate::shown::{print_error, show};
+use cvss_metric::v4::{Metric, MetricType, base, environmental, supplemental, threat};
 use cvss_v4::each_metric;
-use cvss_v4_metric::{Metric, MetricType, base, environmental, supplemental, threat};
 use std::io;
 
 /// Says of the metric of a name, or of its values.

@@ -1,6 +1,6 @@
 -- What equality of errors of bytes means: that of what they say.
 use Rattle.std.specs.Prelude.{⊤}
-use Rattle.cvss_base.specs.laws.Errors as base
+use Rattle.cvss_laws.specs.base.Errors as base
 use Rattle.cvss_any.specs.declared.bytes_error.BytesError.{BytesError}
 use Rattle.cvss_any.specs.declared.bytes_error.BytesError.TheVariants.{NotUtf8, Invalid}
 

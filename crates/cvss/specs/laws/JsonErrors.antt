@@ -1,6 +1,6 @@
 -- What equality of errors of JSON texts means: that of what they say.
 use Rattle.std.specs.Prelude.{⊤}
-use Rattle.cvss_base.specs.laws.Errors as base
+use Rattle.cvss_laws.specs.base.Errors as base
 use Rattle.cvss.specs.declared.json.JsonError.{JsonError}
 use Rattle.cvss.specs.declared.json.JsonError.TheVariants.{NotAString, Invalid, OutOfMemory}
 

@@ -6,10 +6,10 @@ ghost use Rattle.cvss_explain.specs.LettersV4.{safety_impact_letter, requirement
 use MetricType::*;
 use cvss_base::v4::MetricType;
 use cvss_json_write::{Members, Page, Scalar, put_member};
+use cvss_metric::v4::Metric;
 use cvss_score::v4::scoring::effective::{
     Effective, ExploitMaturity, Requirement, SafetyImpact, SubsequentImpact, VulnerableImpact,
 };
-use cvss_v4_metric::Metric;
 
 /// The metrics that have an effective value, in the order of their names.
 pub(crate) const EFFECTIVE: [MetricType; 15] = [

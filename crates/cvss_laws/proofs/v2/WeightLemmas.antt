@@ -5,7 +5,7 @@ use Rattle.cvss_base.specs.declared.v2.MetricType.{MetricType}
 use Rattle.cvss_base.specs.declared.v2.MetricType.TheVariants.{A}
 use Rattle.cvss_v2.specs.declared.vector.Vector.{Vector}
 use Rattle.cvss_laws.specs.v2.NotDefined.{DefineTheSame}
-use Rattle.cvss_v2_metric.specs.Table.{Value, spelling_of, weight_of, absent_weight}
+use Rattle.cvss_metric.specs.v2.Table.{Value, spelling_of, weight_of, absent_weight}
 use Rattle.cvss_v2.specs.Vector.{value_at}
 use Rattle.cvss_v2.specs.Weights.{weight_in, weights_by, weights_of}
 

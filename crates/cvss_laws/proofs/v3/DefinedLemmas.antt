@@ -3,16 +3,16 @@ use Rattle.std.proofs.Common.{◌≡◌, false, ◌⊎◌, inl, inr, codes, Opti
 use Rattle.cvss_base.specs.Text.{uppercased}
 use Rattle.cvss_base.specs.declared.v3.MetricType.{MetricType}
 use Rattle.cvss_base.specs.declared.v3.MetricType.TheVariants.{A, AC, AV, C, I, PR, S, UI, E, RL, RC, CR, IR, AR, MAV, MAC, MPR, MUI, MS, MC, MI, MA}
-use Rattle.cvss_v3_metric.specs.Table.{Value, spelling_of}
-use Rattle.cvss_v3_metric.specs.private.TableLaws.{has_undefined, none_undefined, one_value}
-use Rattle.cvss_v3_metric.specs.declared.temporal.ExploitCodeMaturity.TheVariants as exploit_code_maturity
-use Rattle.cvss_v3_metric.specs.declared.temporal.RemediationLevel.TheVariants as remediation_level
-use Rattle.cvss_v3_metric.specs.declared.temporal.ReportConfidence.TheVariants as report_confidence
-use Rattle.cvss_v3_metric.specs.declared.environmental.requirement.ConfidentialityRequirement.TheVariants as confidentiality_requirement
-use Rattle.cvss_v3_metric.specs.declared.environmental.requirement.IntegrityRequirement.TheVariants as integrity_requirement
-use Rattle.cvss_v3_metric.specs.declared.environmental.requirement.AvailabilityRequirement.TheVariants as availability_requirement
-use Rattle.cvss_v3_metric.specs.declared.environmental.modified.Modified.TheVariants.{NotDefined}
-use Rattle.cvss_v3_metric.specs.declared.environmental.modified.ModifiedScope.TheVariants as modified_scope
+use Rattle.cvss_metric.specs.v3.Table.{Value, spelling_of}
+use Rattle.cvss_metric.specs.v3.private.TableLaws.{has_undefined, none_undefined, one_value}
+use Rattle.cvss_metric.specs.declared.v3.temporal.ExploitCodeMaturity.TheVariants as exploit_code_maturity
+use Rattle.cvss_metric.specs.declared.v3.temporal.RemediationLevel.TheVariants as remediation_level
+use Rattle.cvss_metric.specs.declared.v3.temporal.ReportConfidence.TheVariants as report_confidence
+use Rattle.cvss_metric.specs.declared.v3.environmental.requirement.ConfidentialityRequirement.TheVariants as confidentiality_requirement
+use Rattle.cvss_metric.specs.declared.v3.environmental.requirement.IntegrityRequirement.TheVariants as integrity_requirement
+use Rattle.cvss_metric.specs.declared.v3.environmental.requirement.AvailabilityRequirement.TheVariants as availability_requirement
+use Rattle.cvss_metric.specs.declared.v3.environmental.modified.Modified.TheVariants.{NotDefined}
+use Rattle.cvss_metric.specs.declared.v3.environmental.modified.ModifiedScope.TheVariants as modified_scope
 use Rattle.cvss_v3.specs.declared.vector.Vector.{Vector}
 use Rattle.cvss_laws.specs.v3.ScoreLaws.{DefineTheSame}
 use Rattle.cvss_v3.specs.Vector.{value_at}

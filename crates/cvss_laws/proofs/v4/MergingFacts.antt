@@ -3,8 +3,8 @@ use Rattle.std.proofs.Common.{◌≡◌, ◌⊎◌, inl, inr, ℕ, List, ◌++�
 use Rattle.cvss_base.specs.V4Types.{name_of}
 use Rattle.cvss_base.specs.declared.v4.MetricType.{MetricType}
 use Rattle.cvss_base.specs.declared.v4.MetricType.TheVariants.{AV, MAV}
-use Rattle.cvss_v4_metric.specs.declared.base.attack.AttackVector.TheVariants as attack_vector
-use Rattle.cvss_v4_metric.specs.declared.environmental.attack.ModifiedAttackVector.TheVariants as modified_attack_vector
+use Rattle.cvss_metric.specs.declared.v4.base.attack.AttackVector.TheVariants as attack_vector
+use Rattle.cvss_metric.specs.declared.v4.environmental.attack.ModifiedAttackVector.TheVariants as modified_attack_vector
 use Rattle.cvss_v4.specs.Merging.{letter_at}
 use Rattle.cvss_laws.specs.v4.MergingLaws.{IsWrittenAsBase, IsKept, HasModifiedAsBase}
 use Rattle.cvss_v4.specs.declared.vector.Vector.{Vector}

@@ -2,7 +2,7 @@
 use Rattle.std.specs.Prelude.{◌≡◌, ◌⊎◌, IfSome, codes}
 use Rattle.cvss_base.specs.declared.v2.MetricType.{MetricType}
 use Rattle.cvss_v2.specs.declared.vector.Vector.{Vector}
-use Rattle.cvss_v2_metric.specs.Table.{spelling_of}
+use Rattle.cvss_metric.specs.v2.Table.{spelling_of}
 use Rattle.cvss_v2.specs.Vector.{value_at}
 
 -- the vector has no value for the metric, or the value ND

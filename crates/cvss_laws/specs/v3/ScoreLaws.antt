@@ -2,7 +2,7 @@
 -- has no effect on the score, and a modified metric overrides its base metric).
 use Rattle.std.specs.Prelude.{◌≡◌, ◌⊎◌, IfSome, None, codes}
 use Rattle.cvss_base.specs.declared.v3.MetricType.{MetricType}
-use Rattle.cvss_v3_metric.specs.Table.{spelling_of}
+use Rattle.cvss_metric.specs.v3.Table.{spelling_of}
 use Rattle.cvss_v3.specs.declared.vector.Vector.{Vector}
 use Rattle.cvss_v3.specs.Vector.{value_at}
 use Rattle.cvss_score.specs.v3.Weighing.{effective, effective_scope}

@@ -2,7 +2,7 @@
 use Rattle.std.specs.Prelude.{ℕ, List, Bool, IsTrue, ◌||◌, codes, bytes_eq}
 use Rattle.std.specs.List.{list_any, list_all}
 use Rattle.cvss_base.specs.declared.v4.MetricType.{MetricType}
-use Rattle.cvss_v4_metric.specs.Table.{spellings_of}
+use Rattle.cvss_metric.specs.v4.Table.{spellings_of}
 use Rattle.cvss_score.specs.v4.Effective.{Letters}
 
 -- the spelling is X, or one of the letters

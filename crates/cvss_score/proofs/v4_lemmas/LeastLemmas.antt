@@ -3,7 +3,7 @@ use Rattle.std.proofs.Common.{◌≡◌, ℕ, ◌+◌, ◌-◌, ◌*◌, ◌/◌
 use Rattle.std.proofs.lemmas.Bool.{and_parts}
 use Rattle.std.proofs.lemmas.Bool.Decides.{nat_tests}
 use denote.Enum.Declared.{tag_of}
-use Rattle.cvss_v4_metric.specs.contracts.base.attack as attack
+use Rattle.cvss_metric.specs.contracts.v4.base.attack as attack
 use Rattle.cvss_score.specs.contracts.v4.scoring.effective as effective
 use Rattle.cvss_score.specs.declared.v4.scoring.effective.ExploitMaturity.{ExploitMaturity}
 use Rattle.cvss_score.specs.declared.v4.scoring.shares.TheConstants.{EQ1_LEAST, EQ1_PARTS, EQ2_LEAST, EQ2_PARTS, EQ3_EQ6_LEAST, EQ3_EQ6_PARTS, EQ4_LEAST, EQ4_PARTS}

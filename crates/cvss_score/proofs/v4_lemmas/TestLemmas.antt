@@ -9,7 +9,7 @@ use Rattle.std.proofs.lemmas.Option.{get_or_from_slice_get, slice_get_within}
 use Rattle.cvss_score.specs.v4.Effective.{attack_vectors, privileges, user_interactions, attack_complexities, all_attack_requirements, vulnerable_impacts, subsequent_impacts, safety_impacts, requirements, exploit_maturities, values}
 use Rattle.cvss_score.specs.v4.Levels.{attack_vector_level, privileges_level, interaction_level, complexity_level, requirements_level, vulnerable_level, subsequent_level, safety_level, requirement_level}
 use Rattle.cvss_score.specs.v4.Classes.{eq5, IsPair, Eq1Values, Eq2Values, Eq3Eq6Values, Eq4Values}
-use Rattle.cvss_v4_metric.specs.declared.base.attack as attack
+use Rattle.cvss_metric.specs.declared.v4.base.attack as attack
 use Rattle.cvss_score.specs.declared.v4.scoring.effective as effective
 
 -- a type of few values: a test of all of them, and that it holds of each

@@ -4,14 +4,14 @@ use Rattle.std.specs.Prelude.{ℕ, Bool, true, false, Option, Some, None}
 use Rattle.cvss_base.specs.declared.v3.MetricType.{MetricType}
 use Rattle.cvss_base.specs.declared.v3.MetricType.TheVariants.{A, AC, AV, C, I, PR, S, UI, E, RL, RC, CR, IR, AR, MAV, MAC, MPR, MUI, MS, MC, MI, MA}
 use Rattle.cvss_score.specs.declared.v3.weights.Weights.{Weights}
-use Rattle.cvss_v3_metric.specs.Modified.{replaced, weight_or}
-use Rattle.cvss_v3_metric.specs.Table.{Value, weight_of, absent_weight, scoped_weight}
-use Rattle.cvss_v3_metric.specs.declared.base.access.PrivilegesRequired.{PrivilegesRequired}
-use Rattle.cvss_v3_metric.specs.declared.base.scope.Scope.{Scope}
-use Rattle.cvss_v3_metric.specs.declared.base.scope.Scope.TheVariants as scope
-use Rattle.cvss_v3_metric.specs.declared.environmental.modified.Modified.{Modified}
-use Rattle.cvss_v3_metric.specs.declared.environmental.modified.ModifiedScope.{ModifiedScope}
-use Rattle.cvss_v3_metric.specs.declared.environmental.modified.ModifiedScope.TheVariants as modified_scope
+use Rattle.cvss_metric.specs.v3.Modified.{replaced, weight_or}
+use Rattle.cvss_metric.specs.v3.Table.{Value, weight_of, absent_weight, scoped_weight}
+use Rattle.cvss_metric.specs.declared.v3.base.access.PrivilegesRequired.{PrivilegesRequired}
+use Rattle.cvss_metric.specs.declared.v3.base.scope.Scope.{Scope}
+use Rattle.cvss_metric.specs.declared.v3.base.scope.Scope.TheVariants as scope
+use Rattle.cvss_metric.specs.declared.v3.environmental.modified.Modified.{Modified}
+use Rattle.cvss_metric.specs.declared.v3.environmental.modified.ModifiedScope.{ModifiedScope}
+use Rattle.cvss_metric.specs.declared.v3.environmental.modified.ModifiedScope.TheVariants as modified_scope
 
 -- the weight of a value of a metric: where there is none that of Not Defined, and 0 of a base metric
 abbrev pub weight_at : (kind : MetricType) → Option (Value kind) → ℕ

@@ -11,7 +11,7 @@ ghost use Rattle.cvss_score.specs.v3.private.Weights.{AreBounded, AreOfTables};
 use crate::v3::equations::{Parts, exploitability, first_number, sub_score, temporal, weighted};
 use crate::v3::rounding::round_tenths;
 use crate::v3::{Exponent, Rules, Weights};
-use cvss_v3_metric::MetricType;
+use cvss_metric::v3::MetricType;
 
 impl Weights {
     /// The weight of a metric, which the scopes have not.

@@ -1,13 +1,13 @@
 //! What the values of metrics weigh, in hundredths, and which value counts.
 
 ghost use Rattle.std.specs.Prelude.{◌≡◌};
-ghost use Rattle.cvss_v3_metric.specs.Modified.{weight_or};
-ghost use Rattle.cvss_v3_metric.specs.Table.{weight_of};
+ghost use Rattle.cvss_metric.specs.v3.Modified.{weight_or};
+ghost use Rattle.cvss_metric.specs.v3.Table.{weight_of};
 ghost use Rattle.cvss_score.specs.v3.Weighing.{effective, effective_scope, is_changed as is_scope_changed, privileges_weight};
 
-use cvss_v3_metric::MetricValue;
-use cvss_v3_metric::base::{PrivilegesRequired, Scope};
-use cvss_v3_metric::environmental::{Modified, ModifiedScope};
+use cvss_metric::v3::MetricValue;
+use cvss_metric::v3::base::{PrivilegesRequired, Scope};
+use cvss_metric::v3::environmental::{Modified, ModifiedScope};
 
 /// The weight of a value in hundredths, or another where the metric is absent.
 #[inline(always)]

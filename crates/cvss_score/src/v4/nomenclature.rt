@@ -4,7 +4,7 @@ ghost use Rattle.std.specs.Prelude.{◌≡◌, ◌≤◌, length, IfOk, IfErr, O
 ghost use Rattle.cvss_score.specs.v4.Nomenclature.{text_of, nomenclature_with, ReportsNoNomenclature};
 
 use cvss_base::Error;
-use cvss_v4_metric::threat::ExploitMaturity;
+use cvss_metric::v4::threat::ExploitMaturity;
 use std::alloc::Global;
 use std::fmt;
 

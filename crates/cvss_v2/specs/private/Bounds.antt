@@ -2,7 +2,7 @@
 use Rattle.std.specs.Prelude.{ℕ, max, map}
 use Rattle.std.specs.List.{fold}
 use Rattle.cvss_base.specs.declared.v2.MetricType.{MetricType}
-use Rattle.cvss_v2_metric.specs.Table.{rows_of}
+use Rattle.cvss_metric.specs.v2.Table.{rows_of}
 
 -- the greatest weight of a metric's values
 abbrev pub greatest_weight : MetricType → ℕ

@@ -5,9 +5,9 @@ use Rattle.cvss_text.specs.private.Walk.{HasNoValue, VersionLaws}
 use Rattle.cvss_base.specs.declared.v2.MetricType.{MetricType}
 use Rattle.cvss_base.specs.declared.v2.MetricType.TheVariants.{A, AC, AV, Au, C, I, E, RL, RC, CDP, TD, CR, IR, AR}
 use Rattle.cvss_v2.specs.declared.vector.Vector.{Vector}
-use Rattle.cvss_v2_metric.specs.Table.{Value}
+use Rattle.cvss_metric.specs.v2.Table.{Value}
 use Rattle.cvss_v2.specs.Vector.{v2, value_at}
-use Rattle.cvss_v2_metric.specs.private.TableLaws.{plain_spelling, one_value}
+use Rattle.cvss_metric.specs.v2.private.TableLaws.{plain_spelling, one_value}
 
 -- the vector with a value, or none, for each metric
 abbrev pub vector_of : ((kind : MetricType) → Option (Value kind)) → Vector

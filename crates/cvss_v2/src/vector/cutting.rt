@@ -4,7 +4,7 @@ ghost use Rattle.std.specs.Prelude.{◌≡◌, ◌∷◌, [], ◌++◌, IfSome};
 ghost use Rattle.cvss_base.specs.Text.{colon};
 ghost use Rattle.cvss_base.specs.V2Types.{name_of};
 
-use cvss_v2_metric::MetricType;
+use cvss_metric::v2::MetricType;
 
 /// The metric with whose name and a colon a piece begins, and what follows these.
 #[inline(always)]

@@ -7,9 +7,9 @@ ghost use Rattle.cvss_score.specs.v2.Scores.{impact, adjusted_impact, exploitabi
 ghost use Rattle.cvss_v2.specs.Weights.{weight_in, weights_of};
 
 use crate::vector::Vector;
+use cvss_metric::v2::MetricType;
 use cvss_score::v2::Score;
 use cvss_score::v2::score::of_tenths;
-use cvss_v2_metric::MetricType;
 
 /// A thousandth, in counts of 10^-24.
 const THOUSANDTH: i128 = 1_000_000_000_000_000_000_000;

@@ -7,15 +7,15 @@ ghost use Rattle.cvss_base.specs.Text.{slash};
 ghost use Rattle.cvss_base.specs.V2Types.{name_of};
 ghost use Rattle.cvss_text.specs.private.Values.{shown};
 ghost use Rattle.cvss_base.specs.declared.v2.MetricType.TheVariants.{AC, AV, Au};
-ghost use Rattle.cvss_v2_metric.specs.Table.{metric_component, spelling_of};
+ghost use Rattle.cvss_metric.specs.v2.Table.{metric_component, spelling_of};
 ghost use Rattle.cvss_v2.specs.Vector.{v2};
 
 use crate::vector::Vector;
+use cvss_metric::v2::base::{AccessComplexity, AccessVector, Authentication};
+use cvss_metric::v2::{MetricType, MetricValue};
 use cvss_text::fast_path::{after_three, put_read, rest_after_name};
 use cvss_text::in_order::InOrder;
 use cvss_text::values::{letter_in_order, two_in_order};
-use cvss_v2_metric::base::{AccessComplexity, AccessVector, Authentication};
-use cvss_v2_metric::{MetricType, MetricValue};
 
 impl InOrder for Vector {
     type Kind = MetricType;

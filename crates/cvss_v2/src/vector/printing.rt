@@ -3,18 +3,18 @@
 ghost use Rattle.std.specs.Prelude.{◌≡◌, [], Some};
 ghost use Rattle.cvss_base.specs.Version.{canonical_text};
 ghost use Rattle.cvss_text.specs.Listing.{listed_metrics, metrics_left};
-ghost use Rattle.cvss_v2_metric.specs.Table.{listed};
+ghost use Rattle.cvss_metric.specs.v2.Table.{listed};
 ghost use Rattle.cvss_v2.specs.Vector.{v2};
 
 use crate::each_metric;
 use crate::vector::Vector;
 use MetricType::*;
+use cvss_metric::v2::MetricType;
 use cvss_text::buffer::TextBuffer;
 use cvss_text::metrics::{self, Listed};
 use cvss_text::print::{Printed, write_text};
 use cvss_text::values::{shown_at, write_value};
 use cvss_text::{show_at, write_each};
-use cvss_v2_metric::MetricType;
 use std::fmt;
 
 /// The metrics that a vector has, each with the spelling of its value; at most 14.

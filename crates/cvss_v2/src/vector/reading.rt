@@ -4,7 +4,7 @@ ghost use Rattle.std.specs.Prelude.{false, ⊤, ◌≡◌};
 ghost use Rattle.cvss_base.specs.V2Types.{name_of, v2_reason};
 ghost use Rattle.cvss_base.specs.Version.{read, reading};
 ghost use Rattle.cvss_text.specs.private.Walk.{IsFilled, IsPut, elsewhere};
-ghost use Rattle.cvss_v2_metric.specs.Table.{spelling_of};
+ghost use Rattle.cvss_metric.specs.v2.Table.{spelling_of};
 ghost use Rattle.cvss_v2.specs.Vector.{v2, value_at};
 ghost use Rattle.cvss_v2.specs.private.VectorLaws.{v2_laws};
 
@@ -13,12 +13,12 @@ use super::in_order::first_three_in_order;
 use crate::each_metric;
 use crate::vector::Vector;
 use cvss_base::Error;
+use cvss_metric::v2::{MetricType, MetricValue};
 use cvss_text::in_order::{whole, with_others};
 use cvss_text::refusing::Refused;
 use cvss_text::values::{Spells, three_in_order};
 use cvss_text::walk::{ComponentError, Components};
 use cvss_text::{fill_at, kinds};
-use cvss_v2_metric::{MetricType, MetricValue};
 
 /// The metrics in printing order (guide, section 2.4).
 const PRINTED: &[MetricType] = &each_metric!(kinds!(MetricType));

@@ -2,14 +2,14 @@
 
 ghost use Rattle.std.specs.Prelude.{◌≡◌, ◌≤◌, option_map};
 ghost use Rattle.cvss_score.specs.v2.private.Bounds.{AreBounded};
-ghost use Rattle.cvss_v2_metric.specs.Table.{weight_of, absent_weight};
+ghost use Rattle.cvss_metric.specs.v2.Table.{weight_of, absent_weight};
 ghost use Rattle.cvss_v2.specs.Vector.{value_at};
 ghost use Rattle.cvss_v2.specs.Weights.{weight_in, weights_of};
 ghost use Rattle.cvss_v2.specs.private.Bounds.{greatest_weight};
 
 use crate::vector::Vector;
+use cvss_metric::v2::{MetricType, MetricValue};
 use cvss_score::v2::Weights;
-use cvss_v2_metric::{MetricType, MetricValue};
 
 impl Vector {
     /// What the metrics weigh, of which the equations make the scores.

@@ -6,8 +6,8 @@ use Rattle.cvss_base.specs.Version.{numeral}
 use Rattle.cvss_base.specs.declared.v3.MetricType.{MetricType}
 use Rattle.cvss_base.specs.declared.v3.MetricType.TheVariants.{A, AC, AV, C, I, PR, S, UI, E, RL, RC, CR, IR, AR, MAV, MAC, MPR, MUI, MS, MC, MI, MA}
 use Rattle.cvss_text.proofs.NumeralLemmas.{numeral-injective, numeral-plain}
-use Rattle.cvss_v3_metric.specs.private.TableLaws.{plain_spelling, one_value}
-use Rattle.cvss_v3_metric.specs.Table.{Value}
+use Rattle.cvss_metric.specs.v3.private.TableLaws.{plain_spelling, one_value}
+use Rattle.cvss_metric.specs.v3.Table.{Value}
 use Rattle.cvss_v3.specs.declared.vector.Vector.{Vector}
 use Rattle.cvss_v3.specs.Vector.{v3, value_at}
 

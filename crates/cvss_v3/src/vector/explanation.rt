@@ -9,9 +9,9 @@ ghost use Rattle.cvss_score.specs.v3.Weighing.{weight_in};
 ghost use Rattle.cvss_v3.specs.VectorWeights.{weights_of};
 
 use crate::vector::Vector;
+use cvss_metric::v3::MetricType;
 use cvss_score::v3::Score;
 use cvss_score::v3::score::of_tenths;
-use cvss_v3_metric::MetricType;
 
 /// A hundredth, in counts of 10^-24.
 const HUNDREDTH: i128 = 10_000_000_000_000_000_000_000;

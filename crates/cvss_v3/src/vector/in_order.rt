@@ -5,16 +5,16 @@
 ghost use Rattle.std.specs.Prelude.{◌≡◌, IfSome, ◌∷◌, ◌++◌, None};
 ghost use Rattle.cvss_base.specs.Text.{slash};
 ghost use Rattle.cvss_base.specs.declared.v3.MetricType.TheVariants.{AC, AV, PR, UI};
-ghost use Rattle.cvss_v3_metric.specs.Table.{metric_component, spelling_of};
+ghost use Rattle.cvss_metric.specs.v3.Table.{metric_component, spelling_of};
 ghost use Rattle.cvss_v3.specs.Complete.{first_missing_base};
 ghost use Rattle.cvss_v3.specs.Vector.{v3};
 
 use crate::vector::Vector;
+use cvss_metric::v3::MetricType;
+use cvss_metric::v3::base::{AttackComplexity, AttackVector, PrivilegesRequired, UserInteraction};
 use cvss_text::fast_path::after_three;
 use cvss_text::in_order::InOrder;
 use cvss_text::values::{letter_in_order, put_value, three_in_order};
-use cvss_v3_metric::MetricType;
-use cvss_v3_metric::base::{AttackComplexity, AttackVector, PrivilegesRequired, UserInteraction};
 
 /// Puts the values of these metrics one after another, and gives what follows them.
 macro_rules! put_each {

@@ -4,18 +4,18 @@ ghost use Rattle.std.specs.Prelude.{◌≡◌, ◌++◌, Some, codes};
 ghost use Rattle.std.specs.Fmt.{WritesOnOk};
 ghost use Rattle.cvss_base.specs.Version.{numeral, canonical_text, version_piece};
 ghost use Rattle.cvss_text.specs.Listing.{listed_metrics, metrics_left};
-ghost use Rattle.cvss_v3_metric.specs.Table.{listed};
+ghost use Rattle.cvss_metric.specs.v3.Table.{listed};
 ghost use Rattle.cvss_v3.specs.Vector.{v3};
 
 use crate::each_metric;
 use crate::vector::Vector;
 use MetricType::*;
+use cvss_metric::v3::MetricType;
 use cvss_text::buffer::TextBuffer;
 use cvss_text::metrics::{self, Listed};
 use cvss_text::print::{Printed, write_components};
 use cvss_text::values::{shown_at, write_value};
 use cvss_text::{show_at, write_each};
-use cvss_v3_metric::MetricType;
 use std::fmt;
 
 /// The metrics that a vector has, each with the spelling of its value; at most 22.

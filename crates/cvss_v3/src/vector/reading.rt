@@ -4,7 +4,7 @@ ghost use Rattle.std.specs.Prelude.{◌≡◌, None, true};
 ghost use Rattle.cvss_base.specs.V3Types.{name_of, v3_reason};
 ghost use Rattle.cvss_text.specs.private.Walk.{HasNoValue, IsFilled, IsPut, elsewhere};
 ghost use Rattle.cvss_base.specs.Version.{read, reading};
-ghost use Rattle.cvss_v3_metric.specs.Table.{spelling_of};
+ghost use Rattle.cvss_metric.specs.v3.Table.{spelling_of};
 ghost use Rattle.cvss_v3.specs.Complete.{first_missing_base};
 ghost use Rattle.cvss_v3.specs.Vector.{v3, value_at};
 ghost use Rattle.cvss_v3.specs.private.VectorLaws.{v3_laws, v3_front_laws};
@@ -14,13 +14,13 @@ use super::in_order::first_four_in_order;
 use crate::each_metric;
 use crate::vector::Vector;
 use cvss_base::Error;
+use cvss_metric::v3::{MetricType, MetricValue, reported_kind};
 use cvss_text::front::Prefixed;
 use cvss_text::in_order::{whole, with_others};
 use cvss_text::refusing::Refused;
 use cvss_text::values::{Spells, four_in_order};
 use cvss_text::walk::{ComponentError, Components};
 use cvss_text::{fill_at, kinds};
-use cvss_v3_metric::{MetricType, MetricValue, reported_kind};
 
 /// The metrics in printing order (v3.1 specification, section 6).
 const PRINTED: &[MetricType] = &each_metric!(kinds!(MetricType));
@@ -184,7 +184,7 @@ impl<M: MetricValue> Spells<M> for Vector {
     }
 
     #[inline(always)]
-    #[tactic(auto, using(cvss_v3_metric::specs::private::TableLaws::uppercased_spelling))]
+    #[tactic(auto, using(cvss_metric::specs::v3::private::TableLaws::uppercased_spelling))]
     fn spelled(text: &[u8]) -> Option<M> {
         M::read_bytes(text)
     }

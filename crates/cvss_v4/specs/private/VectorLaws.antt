@@ -10,7 +10,7 @@ use Rattle.cvss_text.proofs.NumeralLemmas.{numeral-injective, numeral-plain}
 use Rattle.cvss_v4.specs.private.TableLaws.{plain_spelling, one_value}
 use Rattle.cvss_v4.specs.declared.vector.Vector.{Vector}
 use Rattle.cvss_v4.specs.Table.{Value, value_at, values_of}
-use Rattle.cvss_v4_metric.specs.Table.{printed}
+use Rattle.cvss_metric.specs.v4.Table.{printed}
 use Rattle.cvss_v4.specs.Vector.{v4}
 
 -- vectors with one version piece have one minor version

@@ -4,7 +4,7 @@ ghost use Rattle.std.specs.Prelude.{◌≡◌, IfSome, [], ◌∷◌, ◌++◌, 
 ghost use Rattle.cvss_base.specs.Text.{uppercased};
 ghost use Rattle.cvss_base.specs.V4Types.{name_of};
 
-use cvss_v4_metric::MetricType;
+use cvss_metric::v4::MetricType;
 
 /// The metric whose name is this letter, in any ASCII case, as in the functions below.
 #[inline(always)]

@@ -5,17 +5,17 @@
 ghost use Rattle.std.specs.Prelude.{◌≡◌, IfSome, ◌∷◌, ◌++◌, ⊤};
 ghost use Rattle.cvss_base.specs.Text.{slash};
 ghost use Rattle.cvss_base.specs.declared.v4.MetricType.TheVariants.{AC, AT, AV, U};
-ghost use Rattle.cvss_v4_metric.specs.Table.{metric_component, spelling_at};
-ghost use Rattle.cvss_v4_metric.specs.Table as rank;
+ghost use Rattle.cvss_metric.specs.v4.Table.{metric_component, spelling_at};
+ghost use Rattle.cvss_metric.specs.v4.Table as rank;
 ghost use Rattle.cvss_v4.specs.Vector.{v4};
 
 use crate::vector::Vector;
+use cvss_metric::v4::base::{AttackComplexity, AttackRequirements, AttackVector};
+use cvss_metric::v4::supplemental::ProviderUrgency;
+use cvss_metric::v4::{MetricType, MetricValue};
 use cvss_text::fast_path::{after_three, put_read};
 use cvss_text::in_order::InOrder;
 use cvss_text::values::{letter_in_order, put_value, two_in_order};
-use cvss_v4_metric::base::{AttackComplexity, AttackRequirements, AttackVector};
-use cvss_v4_metric::supplemental::ProviderUrgency;
-use cvss_v4_metric::{MetricType, MetricValue};
 
 /// Puts the values of these metrics one after another, and gives what follows them.
 macro_rules! put_each {

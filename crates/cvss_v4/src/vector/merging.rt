@@ -6,17 +6,14 @@ ghost use Rattle.cvss_score.specs.v4.Effective.{meaning, attack_vectors, privile
 ghost use Rattle.cvss_v4.specs.Merging.{effective_of, letter_at, merged};
 
 use crate::vector::Vector;
-use cvss_score::v4::scoring::effective::{
-    Effective, ExploitMaturity, Requirement, SafetyImpact, SubsequentImpact, VulnerableImpact,
-};
-use cvss_v4_metric::base::{
+use cvss_metric::v4::base::{
     AttackComplexity, AttackRequirements, AttackVector,
     AvailabilityImpactToTheSubsequentSystem as SA, AvailabilityImpactToTheVulnerableSystem as VA,
     ConfidentialityImpactToTheSubsequentSystem as SC,
     ConfidentialityImpactToTheVulnerableSystem as VC, IntegrityImpactToTheSubsequentSystem as SI,
     IntegrityImpactToTheVulnerableSystem as VI, PrivilegesRequired, UserInteraction,
 };
-use cvss_v4_metric::environmental::{
+use cvss_metric::v4::environmental::{
     AvailabilityRequirements, ConfidentialityRequirements, IntegrityRequirements,
     ModifiedAttackComplexity, ModifiedAttackRequirements, ModifiedAttackVector,
     ModifiedAvailabilityImpactToTheSubsequentSystem as MSA,
@@ -27,7 +24,10 @@ use cvss_v4_metric::environmental::{
     ModifiedIntegrityImpactToTheVulnerableSystem as MVI, ModifiedPrivilegesRequired,
     ModifiedUserInteraction,
 };
-use cvss_v4_metric::threat::ExploitMaturity as E;
+use cvss_metric::v4::threat::ExploitMaturity as E;
+use cvss_score::v4::scoring::effective::{
+    Effective, ExploitMaturity, Requirement, SafetyImpact, SubsequentImpact, VulnerableImpact,
+};
 
 /// The effective value of a metric that is not modified: the first where it is absent or not defined.
 macro_rules! defined {

@@ -9,12 +9,12 @@ ghost use Rattle.cvss_v4.specs.Vector.{v4};
 
 use crate::each_metric;
 use crate::vector::Vector;
+use cvss_metric::v4::MetricType;
 use cvss_text::buffer::TextBuffer;
 use cvss_text::metrics::{self, Listed};
 use cvss_text::print::{Printed, write_components};
 use cvss_text::values::{shown_at, write_value};
 use cvss_text::{show_at, write_each};
-use cvss_v4_metric::MetricType;
 use std::fmt;
 
 /// The metrics that a vector has, each with the spelling of its value.

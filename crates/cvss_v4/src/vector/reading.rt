@@ -4,7 +4,7 @@ ghost use Rattle.std.specs.Prelude.{◌≡◌, true, ⊤};
 ghost use Rattle.cvss_base.specs.V4Types.{name_of, v4_reason};
 ghost use Rattle.cvss_text.specs.private.Walk.{HasNoValue, IsFilled, IsPut, elsewhere};
 ghost use Rattle.cvss_base.specs.Version.{read, reading};
-ghost use Rattle.cvss_v4_metric.specs.Table.{spelling_at};
+ghost use Rattle.cvss_metric.specs.v4.Table.{spelling_at};
 ghost use Rattle.cvss_v4.specs.Table.{value_at};
 ghost use Rattle.cvss_v4.specs.Vector.{v4};
 ghost use Rattle.cvss_v4.specs.private.TableLaws.{width};
@@ -13,16 +13,16 @@ ghost use Rattle.cvss_v4.specs.private.VectorLaws.{v4_laws, v4_front_laws};
 use super::cutting::{named_by_one, named_by_three, named_by_two};
 use super::in_order::first_three_in_order;
 use crate::each_metric;
-use crate::laws::default_vectors_have_no_metric;
+use crate::laws::vectors_are_their_values;
 use crate::vector::Vector;
 use cvss_base::Error;
+use cvss_metric::v4::{MetricType, MetricValue};
 use cvss_text::front::Prefixed;
 use cvss_text::in_order::{whole, with_others};
 use cvss_text::refusing::Refused;
 use cvss_text::values::{Spells, three_in_order, two_in_order};
 use cvss_text::walk::{ComponentError, Components};
 use cvss_text::{fill_at, kinds};
-use cvss_v4_metric::{MetricType, MetricValue};
 
 /// The metrics in printing order (v4.0 specification, section 7).
 const PRINTED: &[MetricType] = &each_metric!(kinds!(MetricType));
@@ -181,7 +181,7 @@ impl Vector {
         ensures version { result.minor_version ≡ 0 }
         ensures valueless { HasNoValue v4 result }
     {
-        default_vectors_have_no_metric();
+        vectors_are_their_values();
         Vector::default()
     }
 }

@@ -4,9 +4,9 @@ use Rattle.cvss_base.specs.declared.v2.MetricType.TheVariants as metric_v2
 use Rattle.cvss_base.specs.declared.v3.MetricType as kind_v3
 use Rattle.cvss_base.specs.declared.v3.MetricType.TheVariants as metric_v3
 use Rattle.cvss_base.specs.declared.v4.MetricType as kind_v4
-use Rattle.cvss_v2_metric.specs.Table as table_v2
-use Rattle.cvss_v3_metric.specs.Table as table_v3
-use Rattle.cvss_v4_metric.specs.Table as table_v4
+use Rattle.cvss_metric.specs.v2.Table as table_v2
+use Rattle.cvss_metric.specs.v3.Table as table_v3
+use Rattle.cvss_metric.specs.v4.Table as table_v4
 use Rattle.cvss_json_record.specs.Words.{AreRowsOf}
 use Rattle.cvss_json_record.specs.WordsV2 as v2
 use Rattle.cvss_json_record.specs.WordsV3 as v3

@@ -4,7 +4,7 @@ use Rattle.std.specs.Prelude.{◌≤◌, ℕ, Bool, true, false, List, ◌∷◌
 use Rattle.std.specs.List.{Contains}
 use Rattle.cvss_base.specs.declared.v3.MetricType.{MetricType}
 use Rattle.cvss_base.specs.declared.v3.MetricType.TheVariants.{AC, AV, C, PR, UI, E, RL, RC, CR}
-use Rattle.cvss_v3_metric.specs.Table.{rows_of, changed_privileges}
+use Rattle.cvss_metric.specs.v3.Table.{rows_of, changed_privileges}
 use Rattle.cvss_score.specs.declared.v3.weights.Weights.{Weights}
 
 -- the weights of a metric's values

@@ -1,7 +1,7 @@
 //! The effective values of a vector: those that remain once each modified metric has replaced its
 //! base metric and each undefined one its default (v4.0 specification, sections 4.2 and 8.2).
 
-pub use cvss_v4_metric::base::{
+pub use cvss_metric::v4::base::{
     AttackComplexity, AttackRequirements, AttackVector, PrivilegesRequired, UserInteraction,
 };
 

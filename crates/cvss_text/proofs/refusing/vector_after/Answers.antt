@@ -2,8 +2,23 @@ use Rattle.std.proofs.Common.{subst}
 use Rattle.cvss_base.specs.Reported.{Reports}
 use Rattle.cvss_text.proofs.refusing.vector_after.Goals as goal
 
+pub returns-in-Ok-clause-denoted : goal.returns-in-Ok-clause-denoted
+returns-in-Ok-clause-denoted g c = rw c.as_bytes.ensures.value at c.in-Ok.ensures.denoted
+
+pub returns-in-Ok-clause-well_formed : goal.returns-in-Ok-clause-well_formed
+returns-in-Ok-clause-well_formed g c = c.in-Ok.ensures.well_formed
+
+pub returns-in-Ok-clause-accepts : goal.returns-in-Ok-clause-accepts
+returns-in-Ok-clause-accepts g c = λ v denotes formed. let same = (rw c.as_bytes.ensures.value at c.in-Ok.ensures.accepts) v denotes formed in cc
+
 pub returns-in-Ok-clause-refuses : goal.returns-in-Ok-clause-refuses
 returns-in-Ok-clause-refuses g c = rw c.as_bytes.ensures.value at c.in-Ok.ensures.refuses
+
+pub returns-in-Err-clause-accepts : goal.returns-in-Err-clause-accepts
+returns-in-Err-clause-accepts g c = λ v denotes formed. let same = (rw c.as_bytes.ensures.value at c.in-Err.ensures.accepts) v denotes formed in cc
+
+pub returns-in-Err-clause-refused : goal.returns-in-Err-clause-refused
+returns-in-Err-clause-refused g c = record { reason = _; first = rw c.as_bytes.ensures.value at c.in-Err.ensures.refused; reported = c.error_of.ensures }
 
 pub returns-in-Err-clause-refuses : goal.returns-in-Err-clause-refuses
 returns-in-Err-clause-refuses g c = λ reason first.

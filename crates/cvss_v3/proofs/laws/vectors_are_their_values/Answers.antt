@@ -1,11 +1,11 @@
 use Rattle.std.proofs.Common.{◌≡◌, Bool, true, false, Option, rules, arith, refl}
 use Rattle.std.specs.Option.{option_eq}
 use Rattle.cvss_base.specs.declared.v3.MetricType.TheVariants.{A}
-use Rattle.cvss_v3_metric.specs.contracts.environmental.modified.ModifiedScopePartialEq.TheImpl.{ghosts}
-use Rattle.cvss_v3_metric.specs.declared.environmental.modified.Modified.{Modified}
-use Rattle.cvss_v3_metric.specs.declared.environmental.modified.Modified.TheVariants.{NotDefined, Modified as Set}
-use Rattle.cvss_v3_metric.specs.declared.environmental.modified.ModifiedScope.{ModifiedScope}
-use Rattle.cvss_v3_metric.specs.private.ModifiedLaws.{modified_equality}
+use Rattle.cvss_metric.specs.contracts.v3.environmental.modified.ModifiedScopePartialEq.TheImpl.{ghosts}
+use Rattle.cvss_metric.specs.declared.v3.environmental.modified.Modified.{Modified}
+use Rattle.cvss_metric.specs.declared.v3.environmental.modified.Modified.TheVariants.{NotDefined, Modified as Set}
+use Rattle.cvss_metric.specs.declared.v3.environmental.modified.ModifiedScope.{ModifiedScope}
+use Rattle.cvss_metric.specs.v3.private.ModifiedLaws.{modified_equality}
 use Rattle.cvss_text.proofs.EqualLemmas.{Reports, Reporting, options, comparisons}
 use Rattle.cvss_v3.specs.contracts.vector.VectorEq.TheImpl.Laws.{laws-law}
 use Rattle.cvss_v3.proofs.laws.vectors_are_their_values.Goals as goal

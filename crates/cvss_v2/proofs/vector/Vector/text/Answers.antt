@@ -1,7 +1,7 @@
 use Rattle.std.proofs.Common.{◌++◌, drop, ap, ◌∙◌}
 use Rattle.cvss_text.proofs.PrintLemmas.{joined_after_first}
 use Rattle.cvss_text.specs.private.Printing.{texts_with_slash}
-use Rattle.cvss_v2_metric.specs.Table.{printed}
+use Rattle.cvss_metric.specs.v2.Table.{printed}
 use Rattle.cvss_v2.specs.Vector.{v2}
 use Rattle.cvss_v2.proofs.vector.Vector.text.Goals as goal
 

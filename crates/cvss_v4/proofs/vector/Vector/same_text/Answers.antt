@@ -7,5 +7,5 @@ use Rattle.cvss_v4.proofs.vector.Vector.same_text.Goals as goal
 
 pub returns-clause-texts : goal.returns-clause-texts
 returns-clause-texts c =
-    let equal = c.equality_is_that_of_values.ensures.vector c.args.self.now c.args.other.now in
+    let equal = c.vectors_are_their_values.ensures.equality c.args.self.now c.args.other.now in
     rw c.eq.ensures (λ yes. ap (canonical_text v4) (equal.0 yes), λ same. equal.1 (same_text-once v4 v4_laws v4_front_laws _ _ same))

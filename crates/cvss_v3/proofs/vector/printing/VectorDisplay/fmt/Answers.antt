@@ -1,7 +1,7 @@
 use Rattle.std.proofs.Common.{refl, sym}
 use Rattle.std.proofs.Output.{has_written_append, has_written_of_eq}
 use Rattle.cvss_text.proofs.PrintLemmas.{joined-with_slash}
-use Rattle.cvss_v3_metric.specs.Table.{printed}
+use Rattle.cvss_metric.specs.v3.Table.{printed}
 use Rattle.cvss_v3.specs.Vector.{v3}
 use Rattle.cvss_v3.proofs.vector.printing.VectorDisplay.fmt.Goals as goal
 

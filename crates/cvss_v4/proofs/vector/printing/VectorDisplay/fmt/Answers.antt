@@ -1,7 +1,7 @@
 use Rattle.std.proofs.Common.{refl, sym}
 use Rattle.std.proofs.Output.{has_written_append, has_written_of_eq}
 use Rattle.cvss_text.proofs.PrintLemmas.{joined-with_slash}
-use Rattle.cvss_v4_metric.specs.Table.{printed}
+use Rattle.cvss_metric.specs.v4.Table.{printed}
 use Rattle.cvss_v4.specs.Vector.{v4}
 use Rattle.cvss_v4.proofs.vector.printing.VectorDisplay.fmt.Goals as goal
 

@@ -1,0 +1,11 @@
+-- When two errors of overrides say the same.
+use Rattle.std.specs.Prelude.{◌≡◌}
+use Rattle.cvss_laws.specs.base.Errors.{ReportTheSame}
+use Rattle.cvss_v4.specs.declared.vector.overriding.OverrideError.{OverrideError}
+use Rattle.cvss_v4.specs.declared.vector.overriding.OverrideError.TheVariants.{NotEnvironmental, Refused}
+
+-- two errors are of one kind and at one place, and say the same of the text there
+abbrev pub AreAlike : OverrideError → OverrideError → Type 0
+AreAlike (NotEnvironmental index) (NotEnvironmental other) = index ≡ other
+AreAlike (Refused index error) (Refused other reported) = (index ≡ other) × ReportTheSame error reported
+AreAlike _ _ = ⊥

@@ -1,0 +1,40 @@
+-- What holds of each value in the table of CVSS v3, checked value by value.
+use Rattle.std.specs.Prelude.{◌≡◌, ◌≢◌, ℕ, ◌-◌, ◌<◌, Bool, false, List, [], ◌∷◌, length, get_or, codes, bytes_eq}
+use Rattle.std.specs.List.{list_any}
+use Rattle.std.proofs.Common.{rules}
+use Rattle.cvss_base.specs.Text.{uppercased, slash}
+use Rattle.cvss_base.specs.private.Component.{delimiter_bytes}
+use Rattle.cvss_base.specs.declared.v3.MetricType.{MetricType}
+use Rattle.cvss_base.specs.declared.v3.MetricType.TheVariants.{A}
+use Rattle.cvss_metric.specs.v3.Table.{Value, rows_of, spelling_of, metric_component}
+
+-- whether the metric has the value X
+abbrev pub has_undefined : MetricType → Bool
+has_undefined kind = list_any (λ row. bytes_eq row.0 (codes "X")) (rows_of kind)
+
+-- a spelling is its own text in upper case
+pub uppercased_spelling : (kind : MetricType) (value : Value kind) → uppercased (spelling_of kind value) ≡ spelling_of kind value
+uppercased_spelling A = search rules
+uppercased_spelling _ = search rules
+
+-- no spelling has a slash or a colon
+pub plain_spelling : (kind : MetricType) (value : Value kind) → delimiter_bytes (spelling_of kind value) ≡ 0
+plain_spelling A = search rules
+plain_spelling _ = search rules
+
+-- two values with one spelling, as it is read, are one
+pub one_value : (kind : MetricType) (x y : Value kind) → uppercased (spelling_of kind x) ≡ uppercased (spelling_of kind y) → x ≡ y
+one_value A = search rules
+one_value _ = search rules
+
+-- no value is X where the metric has no X
+pub none_undefined : (kind : MetricType) (value : Value kind) → has_undefined kind ≡ false → spelling_of kind value ≢ codes "X"
+none_undefined A = search rules
+none_undefined _ = search rules
+
+-- a component ends in the one letter that spells its value
+pub ends_in_letter : (kind : MetricType) (value : Value kind) (text : List ℕ) → text ≡ slash ∷ metric_component kind value → (0 < length text) × (spelling_of kind value ≡ get_or text (length text - 1) 0 ∷ [])
+ends_in_letter kind value text is = rw is (ended kind value) where
+  ended : (kind : MetricType) (value : Value kind) → (0 < length (slash ∷ metric_component kind value)) × (spelling_of kind value ≡ get_or (slash ∷ metric_component kind value) (length (slash ∷ metric_component kind value) - 1) 0 ∷ [])
+  ended A = search rules
+  ended _ = search rules

@@ -1,0 +1,154 @@
+//! The temporal metrics (guide, section 2.2).
+
+ghost use Rattle.std.specs.Prelude.{Some};
+ghost use Rattle.std.proofs.Common.{rules};
+ghost use Rattle.cvss_base.specs.declared.v2.MetricType.TheVariants.{E, RL, RC};
+ghost use Rattle.cvss_metric.specs.v2.Table.{metric_component};
+
+use crate::v2::metric::{MetricEnum, MetricType, MetricValue};
+use std::fmt;
+
+/// How far techniques or code to exploit are developed (guide, section 2.2.1).
+#[derive(Clone, Copy, Debug, PartialEq, Eq, PartialOrd, Ord)]
+pub enum Exploitability {
+    Unproven,
+    ProofOfConcept,
+    Functional,
+    High,
+    NotDefined,
+}
+
+impl MetricEnum for Exploitability {
+    ghost law = { Prim.search rules };
+}
+
+impl MetricValue for Exploitability {
+    const KIND: MetricType = MetricType::E;
+
+    ghost KIND = { E };
+
+    ghost value = { λ metric. metric };
+
+    fn values() -> &'static [Self] {
+        use Exploitability::*;
+        &[Unproven, ProofOfConcept, Functional, High, NotDefined]
+    }
+
+    fn row(self) -> (&'static str, u64) {
+        match self {
+            Self::Unproven => ("/E:U", 850),
+            Self::ProofOfConcept => ("/E:POC", 900),
+            Self::Functional => ("/E:F", 950),
+            Self::High => ("/E:H", 1000),
+            Self::NotDefined => ("/E:ND", 1000),
+        }
+    }
+}
+
+impl fmt::Display for Exploitability {
+    ghost output = { λ metric. Some (metric_component E metric) };
+
+    ghost styled_output = { λ metric _. Some (metric_component E metric) };
+
+    fn fmt<W: fmt::Write>(&self, f: &mut fmt::Formatter<W>) -> fmt::Result {
+        self.write(f)
+    }
+}
+
+/// How far the remedy is (guide, section 2.2.2).
+#[derive(Clone, Copy, Debug, PartialEq, Eq, PartialOrd, Ord)]
+pub enum RemediationLevel {
+    OfficialFix,
+    TemporaryFix,
+    Workaround,
+    Unavailable,
+    NotDefined,
+}
+
+impl MetricEnum for RemediationLevel {
+    ghost law = { Prim.search rules };
+}
+
+impl MetricValue for RemediationLevel {
+    const KIND: MetricType = MetricType::RL;
+
+    ghost KIND = { RL };
+
+    ghost value = { λ metric. metric };
+
+    fn values() -> &'static [Self] {
+        use RemediationLevel::*;
+        &[
+            OfficialFix,
+            TemporaryFix,
+            Workaround,
+            Unavailable,
+            NotDefined,
+        ]
+    }
+
+    fn row(self) -> (&'static str, u64) {
+        match self {
+            Self::OfficialFix => ("/RL:OF", 870),
+            Self::TemporaryFix => ("/RL:TF", 900),
+            Self::Workaround => ("/RL:W", 950),
+            Self::Unavailable => ("/RL:U", 1000),
+            Self::NotDefined => ("/RL:ND", 1000),
+        }
+    }
+}
+
+impl fmt::Display for RemediationLevel {
+    ghost output = { λ metric. Some (metric_component RL metric) };
+
+    ghost styled_output = { λ metric _. Some (metric_component RL metric) };
+
+    fn fmt<W: fmt::Write>(&self, f: &mut fmt::Formatter<W>) -> fmt::Result {
+        self.write(f)
+    }
+}
+
+/// How sure the report is (guide, section 2.2.3).
+#[derive(Clone, Copy, Debug, PartialEq, Eq, PartialOrd, Ord)]
+pub enum ReportConfidence {
+    Unconfirmed,
+    Uncorroborated,
+    Confirmed,
+    NotDefined,
+}
+
+impl MetricEnum for ReportConfidence {
+    ghost law = { Prim.search rules };
+}
+
+impl MetricValue for ReportConfidence {
+    const KIND: MetricType = MetricType::RC;
+
+    ghost KIND = { RC };
+
+    ghost value = { λ metric. metric };
+
+    fn values() -> &'static [Self] {
+        use ReportConfidence::*;
+        &[Unconfirmed, Uncorroborated, Confirmed, NotDefined]
+    }
+
+    fn row(self) -> (&'static str, u64) {
+        match self {
+            Self::Unconfirmed => ("/RC:UC", 900),
+            Self::Uncorroborated => ("/RC:UR", 950),
+            Self::Confirmed => ("/RC:C", 1000),
+            Self::NotDefined => ("/RC:ND", 1000),
+        }
+    }
+}
+
+impl fmt::Display for ReportConfidence {
+    ghost output = { λ metric. Some (metric_component RC metric) };
+
+    ghost styled_output = { λ metric _. Some (metric_component RC metric) };
+
+    fn fmt<W: fmt::Write>(&self, f: &mut fmt::Formatter<W>) -> fmt::Result {
+        self.write(f)
+    }
+}

@@ -1,0 +1,184 @@
+//! The impact on the component that suffers most (v3.1 specification, section 2.3).
+
+ghost use Rattle.std.specs.Prelude.{◌≡◌, ◌∷◌, Some};
+ghost use Rattle.std.proofs.Common.{rules};
+ghost use Rattle.cvss_base.specs.declared.v3.MetricType.TheVariants.{C, I, A, MC, MI, MA};
+ghost use Rattle.cvss_metric.specs.v3.Table.{metric_component};
+
+use crate::v3::environmental::BaseMetric;
+use crate::v3::metric::{MetricEnum, MetricType, MetricValue};
+use std::fmt;
+
+/// What becomes known to those who may not know it (v3.1 specification, section 2.3.1).
+#[derive(Clone, Copy, Debug, PartialEq, Eq, PartialOrd, Ord)]
+pub enum Confidentiality {
+    None,
+    Low,
+    High,
+}
+
+impl MetricValue for Confidentiality {
+    const KIND: MetricType = MetricType::C;
+
+    ghost KIND = { C };
+
+    ghost value = { λ metric. metric };
+
+    fn row(self) -> (&'static str, Option<u64>) {
+        match self {
+            Self::None => ("/C:N", Some(0)),
+            Self::Low => ("/C:L", Some(22)),
+            Self::High => ("/C:H", Some(56)),
+        }
+    }
+
+    #[inline(always)]
+    fn read_letter(letter: u8) -> Option<Self> {
+        match letter {
+            b'N' => Some(Self::None),
+            b'L' => Some(Self::Low),
+            b'H' => Some(Self::High),
+            _ => None,
+        }
+    }
+}
+
+impl MetricEnum for Confidentiality {
+    ghost law = { Prim.search rules };
+}
+
+impl fmt::Display for Confidentiality {
+    ghost output = { λ metric. Some (metric_component C metric) };
+
+    ghost styled_output = { λ metric _. Some (metric_component C metric) };
+
+    fn fmt<W: fmt::Write>(&self, f: &mut fmt::Formatter<W>) -> fmt::Result {
+        self.write(f)
+    }
+}
+
+impl BaseMetric for Confidentiality {
+    const MODIFIED_TYPE: MetricType = MetricType::MC;
+
+    ghost MODIFIED_TYPE = { MC };
+
+    ghost own_value = { λ metric. Some (record { kind = MC; value = metric }) };
+
+    ghost base_law = { Prim.search rules };
+}
+
+/// What can no longer be trusted to be genuine (v3.1 specification, section 2.3.2).
+#[derive(Clone, Copy, Debug, PartialEq, Eq, PartialOrd, Ord)]
+pub enum Integrity {
+    None,
+    Low,
+    High,
+}
+
+impl MetricValue for Integrity {
+    const KIND: MetricType = MetricType::I;
+
+    ghost KIND = { I };
+
+    ghost value = { λ metric. metric };
+
+    fn row(self) -> (&'static str, Option<u64>) {
+        match self {
+            Self::None => ("/I:N", Some(0)),
+            Self::Low => ("/I:L", Some(22)),
+            Self::High => ("/I:H", Some(56)),
+        }
+    }
+
+    #[inline(always)]
+    fn read_letter(letter: u8) -> Option<Self> {
+        match letter {
+            b'N' => Some(Self::None),
+            b'L' => Some(Self::Low),
+            b'H' => Some(Self::High),
+            _ => None,
+        }
+    }
+}
+
+impl MetricEnum for Integrity {
+    ghost law = { Prim.search rules };
+}
+
+impl fmt::Display for Integrity {
+    ghost output = { λ metric. Some (metric_component I metric) };
+
+    ghost styled_output = { λ metric _. Some (metric_component I metric) };
+
+    fn fmt<W: fmt::Write>(&self, f: &mut fmt::Formatter<W>) -> fmt::Result {
+        self.write(f)
+    }
+}
+
+impl BaseMetric for Integrity {
+    const MODIFIED_TYPE: MetricType = MetricType::MI;
+
+    ghost MODIFIED_TYPE = { MI };
+
+    ghost own_value = { λ metric. Some (record { kind = MI; value = metric }) };
+
+    ghost base_law = { Prim.search rules };
+}
+
+/// What can no longer be used (v3.1 specification, section 2.3.3).
+#[derive(Clone, Copy, Debug, PartialEq, Eq, PartialOrd, Ord)]
+pub enum Availability {
+    None,
+    Low,
+    High,
+}
+
+impl MetricValue for Availability {
+    const KIND: MetricType = MetricType::A;
+
+    ghost KIND = { A };
+
+    ghost value = { λ metric. metric };
+
+    fn row(self) -> (&'static str, Option<u64>) {
+        match self {
+            Self::None => ("/A:N", Some(0)),
+            Self::Low => ("/A:L", Some(22)),
+            Self::High => ("/A:H", Some(56)),
+        }
+    }
+
+    #[inline(always)]
+    fn read_letter(letter: u8) -> Option<Self> {
+        match letter {
+            b'N' => Some(Self::None),
+            b'L' => Some(Self::Low),
+            b'H' => Some(Self::High),
+            _ => None,
+        }
+    }
+}
+
+impl MetricEnum for Availability {
+    ghost law = { Prim.search rules };
+}
+
+impl fmt::Display for Availability {
+    ghost output = { λ metric. Some (metric_component A metric) };
+
+    ghost styled_output = { λ metric _. Some (metric_component A metric) };
+
+    fn fmt<W: fmt::Write>(&self, f: &mut fmt::Formatter<W>) -> fmt::Result {
+        self.write(f)
+    }
+}
+
+impl BaseMetric for Availability {
+    const MODIFIED_TYPE: MetricType = MetricType::MA;
+
+    ghost MODIFIED_TYPE = { MA };
+
+    ghost own_value = { λ metric. Some (record { kind = MA; value = metric }) };
+
+    ghost base_law = { Prim.search rules };
+}

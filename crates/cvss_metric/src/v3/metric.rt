@@ -1,0 +1,238 @@
+//! What all metrics of CVSS v3 have in common.
+
+ghost use Rattle.std.specs.Prelude.{◌≡◌, [], ◌∷◌, ◌*◌, ◌^◌, ◌↔◌, pos, IsTrue, IsSome, IfSome, IfOk, IfErr, Some, unwrap_or, refl};
+ghost use Rattle.std.specs.Fmt.{WritesOnOk, WritesStyledOnOk};
+ghost use Rattle.cvss_base.specs.Refusal.{BadValue};
+ghost use Rattle.cvss_base.specs.Reported.{Reports};
+ghost use Rattle.cvss_base.specs.V3Types.{v3_reason, name_of};
+ghost use Rattle.cvss_base.specs.Exact.{IsWithinLimit};
+ghost use Rattle.cvss_base.specs.declared.v3.MetricType.{MetricType};
+ghost use Rattle.cvss_base.specs.Text.{slash, uppercased};
+ghost use Rattle.cvss_metric.specs.v3.Table.{Value, spelling_of, weight_of, metric_component, reported_kind};
+ghost use Rattle.cvss_metric.specs.v3.Metrics.{IsMetric};
+
+use cvss_base::Error;
+use cvss_base::component::write_component;
+pub use cvss_base::v3::MetricType;
+use std::alloc::Global;
+use std::fmt;
+
+/// A hundredth, in counts of 10^-24.
+pub(crate) const HUNDREDTH: i128 = 10_000_000_000_000_000_000_000;
+
+/// What is in vectors as a component: how values are spelled, read from their spelling, and
+/// weighed.
+pub trait MetricValue: Copy + 'static {
+    /// Which metric this is, the same as `Metric::TYPE`.
+    const KIND: MetricType;
+
+    ghost KIND: { MetricType };
+
+    ghost value: { Self → Value KIND };
+
+    /// A slash and the component that stands for the value in a vector, and the value's weight in
+    /// hundredths, if it has one (v3.1 specification, section 7.4).
+    fn row(self) -> (&'static str, Option<u64>)
+        ensures text { result.0.now ≡ slash ∷ metric_component KIND (value self) }
+        ensures weight { result.1 ≡ weight_of KIND (value self) };
+
+    /// The value that is spelled by this letter, exactly as it is written: each value is spelled by
+    /// one letter.
+    fn read_letter(letter: u8) -> Option<Self>
+        ensures spelled { IfSome result (λ metric. spelling_of KIND (value metric) ≡ letter ∷ []) }
+        ensures read { (metric : Self) → spelling_of KIND (value metric) ≡ letter ∷ []
+            → result ≡ Some metric };
+
+    /// A slash and the component that stands for the value in a vector.
+    final fn with_slash(self) -> &'static str
+        ensures { result.now ≡ slash ∷ metric_component KIND (value self) }
+    {
+        self.row().0
+    }
+
+    /// The letter that spells the value in a vector.
+    final fn letter(self) -> u8
+        ensures { spelling_of KIND (value self) ≡ result ∷ [] }
+    {
+        let text = self.with_slash().as_bytes();
+        text[text.len() - 1]
+    }
+
+    /// Writes the component that stands for the value in a vector, and the same under any options.
+    final fn write<W: fmt::Write>(self, f: &mut fmt::Formatter<W>) -> fmt::Result
+        ensures plain { WritesOnOk W.write_str_gives f.old result
+            (metric_component KIND (value self)) f.new }
+        ensures styled { WritesStyledOnOk W.write_str_gives f.old result
+            (metric_component KIND (value self)) f.new }
+    {
+        write_component(self.with_slash(), f)
+    }
+
+    /// The value's weight in hundredths, if it has one (v3.1 specification, section 7.4).
+    final fn hundredths(self) -> Option<u64>
+        ensures { result ≡ weight_of KIND (value self) }
+    {
+        self.row().1
+    }
+
+    /// The value with this spelling, in any ASCII case.
+    final fn read_bytes(text: &[u8]) -> Option<Self>
+        ensures spelled { IfSome result
+            (λ metric. spelling_of KIND (value metric) ≡ uppercased text.now) }
+        ensures read { (metric : Self) → spelling_of KIND (value metric) ≡ uppercased text.now
+            → result ≡ Some metric }
+    {
+        match text {
+            [letter] => read_in_any_case(*letter),
+            _ => None,
+        }
+    }
+}
+
+/// An enum of the values that the specification gives for a metric, which are compared.
+// A trait of its own, so that the proof of code that reads or prints a vector loads no comparison.
+pub trait MetricEnum: MetricValue + Eq + Ord + fmt::Debug + fmt::Display {
+    ghost law: { IsMetric Self.KIND Self.value ⟦<Self as Ord>⟧.cmp ⟦<Self as PartialEq>⟧.eq
+        ⟦<Self as Clone>⟧.is_clone ⟦<Self as Clone>⟧.is_infallible };
+}
+
+/// A metric, as it is named and read.
+pub trait Metric: MetricEnum {
+    /// Which metric this is.
+    const TYPE: MetricType;
+
+    ghost TYPE: { MetricType };
+
+    /// The metric that a refused value is reported under: of a modified metric its base metric.
+    const FAULT_TYPE: MetricType;
+
+    ghost FAULT_TYPE: { MetricType };
+
+    /// The metric's abbreviation.
+    fn name() -> &'static str
+        ensures { result.now ≡ name_of TYPE }
+    {
+        Self::TYPE.name()
+    }
+
+    // The metric is that of the values.
+    ghost typed: { TYPE ≡ Self.KIND };
+
+    ghost reported: { FAULT_TYPE ≡ reported_kind Self.KIND };
+
+    /// How the value is spelled in a vector.
+    #[tactic(auto, using(cvss_base::proofs::WithSlashLemmas::after_colon))]
+    final fn as_str(self) -> &'static str
+        ensures { result.now ≡ spelling_of Self.KIND (Self.value self) }
+    {
+        &self.with_slash()[Self::KIND.name().len() + 2..]
+    }
+
+    /// The value with this spelling, in any ASCII case.
+    final fn read_uppercased(text: &str) -> Option<Self>
+        ensures spelled { IfSome result
+            (λ metric. spelling_of Self.KIND (Self.value metric) ≡ uppercased text.now) }
+        ensures read { (metric : Self) → spelling_of Self.KIND (Self.value metric) ≡ uppercased text.now
+            → result ≡ Some metric }
+    {
+        Self::read_bytes(text.as_bytes())
+    }
+
+    /// The value with this spelling, exactly as it is written.
+    #[tactic(auto, using(crate::specs::v3::private::TableLaws::uppercased_spelling))]
+    final fn read(text: &str) -> Option<Self>
+        ensures spelled { IfSome result (λ metric. spelling_of Self.KIND (Self.value metric) ≡ text.now) }
+        ensures read { (metric : Self) → spelling_of Self.KIND (Self.value metric) ≡ text.now
+            → result ≡ Some metric }
+    {
+        let metric = Self::read_uppercased(text)?;
+        if metric.as_str() == text {
+            Some(metric)
+        } else {
+            None
+        }
+    }
+
+    /// The value with this spelling, exactly as it is written.
+    ///
+    /// # Errors
+    ///
+    /// `InvalidMetricV3` with the text where the metric has no such value.
+    final fn from_str(alloc: Global, text: &str) -> Result<Self, Error>
+        ensures spelled { IfOk result (λ metric. spelling_of Self.KIND (Self.value metric) ≡ text.now) }
+        ensures read { (metric : Self) → spelling_of Self.KIND (Self.value metric) ≡ text.now
+            → result ≡ Ok metric }
+        ensures refused { IfErr result (Reports v3_reason (BadValue FAULT_TYPE text.now)) }
+    {
+        match Self::read(text) {
+            Some(metric) => Ok(metric),
+            None => {
+                let value = String::from_str(alloc, text)?;
+                Err(Error::InvalidMetricV3 {
+                    metric_type: Self::FAULT_TYPE,
+                    value,
+                })
+            }
+        }
+    }
+
+    /// Whether the value has a weight.
+    final fn has_score(self) -> bool
+        ensures { IsTrue result ↔ IsSome (weight_of Self.KIND (Self.value self)) }
+    {
+        self.hundredths().is_some()
+    }
+
+    /// The value's weight in counts of 10^-24 (v3.1 specification, section 7.4).
+    final fn score(self) -> i128
+        requires { IsSome (weight_of Self.KIND (Self.value self)) }
+        ensures value { result ≡ pos (unwrap_or (weight_of Self.KIND (Self.value self)) 0 * 10 ^ 22) }
+        ensures limit { IsWithinLimit result }
+    {
+        i128::from(self.hundredths().unwrap()) * HUNDREDTH
+    }
+}
+
+impl<M: MetricEnum> Metric for M {
+    const TYPE: MetricType = M::KIND;
+
+    ghost TYPE = { M.KIND };
+
+    const FAULT_TYPE: MetricType = reported_kind(M::KIND);
+
+    ghost FAULT_TYPE = { reported_kind M.KIND };
+
+    ghost typed = { refl };
+
+    ghost reported = { refl };
+}
+
+/// The value that is spelled by this letter in any ASCII case. As each spelling is a letter in upper
+/// case, it suffices to clear the bit by which the cases of a letter differ.
+#[inline(always)]
+#[tactic(auto, using(crate::proofs::v3::LetterLemmas::one_letter))]
+fn read_in_any_case<M: MetricValue>(letter: u8) -> Option<M>
+    ensures spelled { IfSome result
+        (λ metric. spelling_of M.KIND (M.value metric) ≡ uppercased (letter ∷ [])) }
+    ensures read { (metric : M) → spelling_of M.KIND (M.value metric) ≡ uppercased (letter ∷ [])
+        → result ≡ Some metric }
+{
+    M::read_letter(letter & 0xDF)
+}
+
+/// The metric that a refused value is reported under: of a modified metric its base metric.
+pub const fn reported_kind(kind: MetricType) -> MetricType
+    ensures { result ≡ reported_kind kind }
+{
+    match kind {
+        MetricType::MAV => MetricType::AV,
+        MetricType::MAC => MetricType::AC,
+        MetricType::MPR => MetricType::PR,
+        MetricType::MUI => MetricType::UI,
+        MetricType::MS => MetricType::S,
+        MetricType::MC => MetricType::C,
+        MetricType::MI => MetricType::I,
+        MetricType::MA => MetricType::A,
+        kind => kind,
+    }
+}

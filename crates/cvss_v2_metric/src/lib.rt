@@ -1,9 +1,0 @@
-//! The metrics of CVSS v2, each an enum of its values.
-#![tactic(auto)]
-
-pub mod base;
-pub mod environmental;
-mod metric;
-pub mod temporal;
-
-pub use metric::{Metric, MetricEnum, MetricType, MetricValue};
