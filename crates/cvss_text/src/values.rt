@@ -1,15 +1,13 @@
 //! The values of one metric, as they are read and printed in components, once for all versions.
 
-ghost use Rattle.std.specs.Prelude.{◌≡◌, ◌≤◌, ◌+◌, ◌++◌, ◌∷◌, [], ℕ, Bool, List, IfSome, length, option_copied, option_map};
+ghost use Rattle.std.specs.Prelude.{◌≡◌, ◌≤◌, ◌+◌, ◌++◌, ◌∷◌, [], ℕ, Bool, List, IfSome, length};
 ghost use Rattle.cvss_base.specs.Text.{component, read_as, slash};
-ghost use Rattle.cvss_base.specs.Version.{component_of};
-ghost use Rattle.cvss_text.specs.private.Printing.{with_slash};
 ghost use Rattle.cvss_text.specs.private.Values.{shown};
 ghost use Rattle.cvss_text.specs.private.Walk.{IsFilled};
 
 use crate::buffer::TextBuffer;
 use crate::fast_path::{put_read, rest_after_name};
-use crate::walk::{ComponentError, Components};
+use crate::walk::ComponentError;
 
 /// A version, as it spells the values of one of its metrics.
 pub trait Spells<M: Copy> {
@@ -143,21 +141,6 @@ pub fn letter_in_order<V: Spells<M>, M: Copy>(text: &[u8]) -> Option<(M, &[u8])>
         [letter, rest @ ..] => Some((V::by_letter(*letter)?, rest)),
         [] => None,
     }
-}
-
-/// A slash and the component of the value that a vector has for a metric.
-pub fn shown_at<V: Components + Spells<M>, M: Copy>(
-    vector: &V,
-    kind: V::Kind,
-    here: V::Kind,
-    value: Option<M>,
-) -> Option<&'static str>
-    requires here { kind ≡ here }
-    requires value { component_of V.version vector.now here
-        ≡ option_map (component V.metric) (option_map V.spelling value) }
-    ensures { option_copied result ≡ with_slash (component_of V.version vector.now kind) }
-{
-    Some(V::shown(value?))
 }
 
 /// Appends a slash and the component of a value, if there is one.
