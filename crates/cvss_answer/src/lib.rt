@@ -5,7 +5,5 @@
 mod answer;
 mod score_line;
 mod segments;
-mod setting;
 
 pub use answer::{Vectors, answer_score, write_canonical, write_error, write_vector};
-pub use setting::answer_with_metrics;

@@ -3,8 +3,8 @@ use Rattle.std.specs.Prelude.{◌≡◌, ◌⊎◌, ℕ, ◌-◌, ◌==◌, Bool
 use Rattle.std.specs.Global.{Vec}
 use Rattle.std.specs.Io.KnownBytes.{Keeps}
 use Rattle.std.specs.Str.{IsUtf8}
-use Rattle.cvss_answer.specs.Setting.{set_rule}
 use Rattle.cvss_subcommands.specs.Scoring.{AnswersLines, Scores, WritesText}
+use Rattle.cvss_subcommands.specs.Setting.{set_rule}
 use Rattle.cvss_subcommands.specs.Triaging.{settings_of}
 use Rattle.cvss_audit.specs.Task.{audit_ends}
 use Rattle.cvss_audit.specs.declared.task.Audit as audit

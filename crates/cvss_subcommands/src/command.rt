@@ -13,8 +13,8 @@ use crate::help::{
 };
 use crate::requests::{Options, Request, request_of};
 use crate::score::score;
+use crate::setting::Set;
 use crate::subcommand::Subcommand;
-use crate::tasks::Set;
 use crate::triage::triage_lines;
 use cvss_audit::{Audit, Layout};
 use cvss_lines::{RunFault, write_whole};

@@ -9,6 +9,7 @@ mod help;
 mod hint;
 mod requests;
 mod score;
+mod setting;
 mod subcommand;
 mod tasks;
 mod triage;

@@ -2,12 +2,11 @@
 
 ghost use Rattle.std.specs.Prelude.{false, true};
 ghost use Rattle.cvss_answer.specs.Answers.{score_rule};
-ghost use Rattle.cvss_answer.specs.Setting.{set_rule};
 ghost use Rattle.cvss_lines.specs.Prefixed.{is_one_text};
 ghost use Rattle.cvss_lines.specs.Runs.{Ends};
 ghost use Rattle.cvss_rows.specs.Rows.{IsRow};
 
-use cvss_answer::{answer_score, answer_with_metrics};
+use cvss_answer::answer_score;
 use cvss_lines::{Answering, OutputBuffer, RunFault, Summary, run};
 use cvss_program::{LineAnswer, Task};
 use cvss_rows::{Format, Rows};
@@ -85,29 +84,4 @@ impl Task for ScoreRow {
         };
         run(&rows, alloc, reader, writer)
     }
-}
-
-/// Sets metrics in the vector, and scores it.
-#[derive(Drop)]
-pub(crate) struct Set<'a> {
-    /// With slashes between them.
-    pub(crate) metrics: &'a str,
-}
-
-impl Answering for Set<'_> {
-    ghost rule = { λ set. set_rule set.metrics.now };
-
-    fn answer_line(
-        &self,
-        _alloc: Global,
-        _number: u64,
-        line: &[u8],
-        answers: &mut OutputBuffer,
-    ) -> Result<bool, AllocError> {
-        answer_with_metrics(line, self.metrics, answers)
-    }
-}
-
-impl LineAnswer for Set<'_> {
-    ghost one_text = { λ _. is_one_text _ _ };
 }

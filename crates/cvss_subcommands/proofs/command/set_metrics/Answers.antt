@@ -1,7 +1,7 @@
 use Rattle.std.proofs.Common.{◌≡◌, Ok, inl, rules, subst}
-use Rattle.cvss_answer.specs.Setting.{set_rule}
 use Rattle.cvss_subcommands.specs.Done.{Answers, joined_metrics}
 use Rattle.cvss_subcommands.specs.Scoring.{AnswersLines}
+use Rattle.cvss_subcommands.specs.Setting.{set_rule}
 use Rattle.cvss_subcommands.proofs.command.set_metrics.Goals as goal
 
 pub returns : goal.returns

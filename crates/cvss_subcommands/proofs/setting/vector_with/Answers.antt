@@ -1,5 +1,5 @@
 use Rattle.std.proofs.Common.{inl, inr, refl}
-use Rattle.cvss_answer.proofs.setting.vector_with.Goals as goal
+use Rattle.cvss_subcommands.proofs.setting.vector_with.Goals as goal
 
 pub returns-in-Err-clause-rejected : goal.returns-in-Err-clause-rejected
 returns-in-Err-clause-rejected c =

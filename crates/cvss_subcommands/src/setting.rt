@@ -1,0 +1,65 @@
+//! What `cvss set` answers to a line.
+
+ghost use Rattle.std.specs.Prelude.{IfOk, IfErr};
+ghost use Rattle.cvss_any.specs.Answers.{HasScore};
+ghost use Rattle.cvss_subcommands.specs.Setting.{IsSetError, IsSetWhole, set_rule};
+ghost use Rattle.cvss_lines.specs.Prefixed.{is_one_text};
+
+use cvss_answer::{write_error, write_vector};
+use cvss_any::{Cvss, ReadError, Refusal};
+use cvss_lines::{Answering, OutputBuffer};
+use cvss_program::LineAnswer;
+use std::alloc::{AllocError, Global};
+
+/// Sets metrics in the vector, and scores it. A vector of CVSS v3 that lacks base metrics then is
+/// answered by the first of them.
+#[derive(Drop)]
+pub(crate) struct Set<'a> {
+    /// With slashes between them.
+    pub(crate) metrics: &'a str,
+}
+
+impl Answering for Set<'_> {
+    ghost rule = { λ set. set_rule set.metrics.now };
+
+    #[tactic(auto, using(cvss_answer::proofs::ScoringLemmas::vector_written))]
+    fn answer_line(
+        &self,
+        _alloc: Global,
+        _number: u64,
+        line: &[u8],
+        answers: &mut OutputBuffer,
+    ) -> Result<bool, AllocError> {
+        match vector_with(line, self.metrics) {
+            Ok(vector) => {
+                write_vector(&vector, vector.published(), answers)?;
+                Ok(true)
+            }
+            Err(error) => {
+                write_error(error, answers)?;
+                Ok(false)
+            }
+        }
+    }
+}
+
+impl LineAnswer for Set<'_> {
+    ghost one_text = { λ _. is_one_text _ _ };
+}
+
+/// The vector of a line with metrics set, which are joined by slashes.
+fn vector_with<'a>(line: &'a [u8], metrics: &'a str) -> Result<Cvss, ReadError<'a>>
+    ensures set { IfOk result (IsSetWhole metrics.now line.now) }
+    ensures scored { IfOk result (λ new. HasScore new) }
+    ensures rejected { IfErr result (IsSetError metrics.now line.now) }
+{
+    let vector = Cvss::read(line)?;
+    let new = match vector.with_metrics(metrics) {
+        Ok(new) => new,
+        Err(error) => return Err(ReadError::Invalid(error.reason)),
+    };
+    match new.first_missing() {
+        None => Ok(new),
+        Some(metric) => Err(ReadError::Invalid(Refusal::Missing(metric))),
+    }
+}
