@@ -63,9 +63,9 @@ impl Publishing for Vectors {
     // A call of its own keeps the segments out of the frame of an accepted line.
     #[inline(never)]
     fn reject(error: ReadError<'_>, out: &mut Vec<u8>) -> Result<(), AllocError> {
-        out.extend_from_slice("error: ".as_bytes())?;
+        out.extend_from_slice(b"error: ")?;
         push_segments(&Message::of(error).segments, out)?;
-        out.extend_from_slice(&[b'\n'])
+        out.extend_from_slice(b"\n")
     }
 }
 
