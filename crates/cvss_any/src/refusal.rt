@@ -59,7 +59,7 @@ impl<'a> Refusal<'a> {
         match fault {
             ReadFault::V2(fault) => Refusal::of_version::<v2::Vector>(fault),
             ReadFault::V3(fault) => Refusal::of_version::<v3::Vector>(fault),
-            ReadFault::V4(fault) => Refusal::of_version::<v4::Vector>(fault),
+            ReadFault::V4(fault) => Refusal::from(fault),
         }
     }
 
