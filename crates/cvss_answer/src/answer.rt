@@ -114,10 +114,10 @@ pub fn write_vector(
     ensures { OnOk result (answers.new.bytes.items ≡ answers.old.bytes.items
         ++ written_text (vector_answer vector.now published.tenths)) }
 {
-    if write_text(vector, answers).is_err() {
-        return Err(AllocError);
+    match write_text(vector, answers) {
+        Ok(()) => answers.push(score_line(published).as_bytes()),
+        Err(_) => Err(AllocError),
     }
-    answers.push(score_line(published).as_bytes())
 }
 
 /// Writes a vector's text.
