@@ -26,3 +26,11 @@ returns-clause-accepted g c = AreOverrides-all (g.T.Texts.texts c.args.texts) _ 
 
 pub returns-clause-faultless : goal.returns-clause-faultless
 returns-clause-faultless g c = no_objection_held (g.T.Texts.texts c.args.texts) c.loop-cut.given (returns-clause-accepted g c)
+
+pub loop-cut-smaller : goal.loop-cut-smaller
+loop-cut-smaller g c = omega (arith, ap length c.in-Some.ensures.cut)
+
+pub overflow_sub-result : goal.overflow_sub-result
+overflow_sub-result g c =
+    let read = c.loop-cut.invariant.read in
+    omega (arith, c.count.ensures, c.count-in-Err.ensures, ap length read.cut, length-append read.before (g.T.Texts.texts c.loop-cut.left))
