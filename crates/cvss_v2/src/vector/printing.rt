@@ -1,8 +1,10 @@
 //! How a vector is printed, and its metrics as a list.
 
-ghost use Rattle.std.specs.Prelude.{◌≡◌, [], Some};
-ghost use Rattle.cvss_base.specs.Version.{canonical_text};
+ghost use Rattle.std.specs.Prelude.{◌≡◌, [], Some, option_copied, option_map};
+ghost use Rattle.cvss_base.specs.Text.{component};
+ghost use Rattle.cvss_base.specs.Version.{canonical_text, component_of};
 ghost use Rattle.cvss_text.specs.Listing.{listed_metrics, metrics_left};
+ghost use Rattle.cvss_text.specs.private.Printing.{with_slash};
 ghost use Rattle.cvss_metric.specs.v2.Table.{listed};
 ghost use Rattle.cvss_v2.specs.Vector.{v2};
 
@@ -13,7 +15,7 @@ use cvss_metric::v2::MetricType;
 use cvss_text::buffer::TextBuffer;
 use cvss_text::metrics::{self, Listed};
 use cvss_text::print::{Printed, write_text};
-use cvss_text::values::{shown_at, write_value};
+use cvss_text::values::{Spells, write_value};
 use cvss_text::{show_at, write_each};
 use std::fmt;
 
@@ -65,4 +67,20 @@ impl fmt::Display for Vector {
     fn fmt<W: fmt::Write>(&self, f: &mut fmt::Formatter<W>) -> fmt::Result {
         write_text(self.text(&mut TextBuffer::new()), f)
     }
+}
+
+/// A slash and the component of the value that a vector has for a metric.
+// It is not generic in the vector, whose traits the proof of each call would have to show.
+fn shown_at<V: Spells<M>, M: Copy>(
+    vector: &Vector,
+    kind: MetricType,
+    here: MetricType,
+    value: Option<M>,
+) -> Option<&'static str>
+    requires here { kind ≡ here }
+    requires value { component_of v2 vector.now here
+        ≡ option_map (component V.metric) (option_map V.spelling value) }
+    ensures { option_copied result ≡ with_slash (component_of v2 vector.now kind) }
+{
+    Some(V::shown(value?))
 }

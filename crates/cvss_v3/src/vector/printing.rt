@@ -1,9 +1,11 @@
 //! How a vector is printed, and its metrics as a list.
 
-ghost use Rattle.std.specs.Prelude.{◌≡◌, ◌++◌, Some, codes};
+ghost use Rattle.std.specs.Prelude.{◌≡◌, ◌++◌, Some, codes, option_copied, option_map};
 ghost use Rattle.std.specs.Fmt.{WritesOnOk};
-ghost use Rattle.cvss_base.specs.Version.{numeral, canonical_text, version_piece};
+ghost use Rattle.cvss_base.specs.Text.{component};
+ghost use Rattle.cvss_base.specs.Version.{component_of, numeral, canonical_text, version_piece};
 ghost use Rattle.cvss_text.specs.Listing.{listed_metrics, metrics_left};
+ghost use Rattle.cvss_text.specs.private.Printing.{with_slash};
 ghost use Rattle.cvss_metric.specs.v3.Table.{listed};
 ghost use Rattle.cvss_v3.specs.Vector.{v3};
 
@@ -14,7 +16,7 @@ use cvss_metric::v3::MetricType;
 use cvss_text::buffer::TextBuffer;
 use cvss_text::metrics::{self, Listed};
 use cvss_text::print::{Printed, write_components};
-use cvss_text::values::{shown_at, write_value};
+use cvss_text::values::{Spells, write_value};
 use cvss_text::{show_at, write_each};
 use std::fmt;
 
@@ -73,4 +75,20 @@ impl fmt::Display for Vector {
         self.write_version(f)?;
         write_components(self, f)
     }
+}
+
+/// A slash and the component of the value that a vector has for a metric.
+// It is not generic in the vector, whose traits the proof of each call would have to show.
+fn shown_at<V: Spells<M>, M: Copy>(
+    vector: &Vector,
+    kind: MetricType,
+    here: MetricType,
+    value: Option<M>,
+) -> Option<&'static str>
+    requires here { kind ≡ here }
+    requires value { component_of v3 vector.now here
+        ≡ option_map (component V.metric) (option_map V.spelling value) }
+    ensures { option_copied result ≡ with_slash (component_of v3 vector.now kind) }
+{
+    Some(V::shown(value?))
 }
