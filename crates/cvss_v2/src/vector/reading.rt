@@ -3,10 +3,10 @@
 ghost use Rattle.std.specs.Prelude.{false, ⊤, ◌≡◌};
 ghost use Rattle.cvss_base.specs.V2Types.{name_of, v2_reason};
 ghost use Rattle.cvss_base.specs.Version.{read, reading};
-ghost use Rattle.cvss_text.specs.private.Walk.{IsFilled, IsPut, elsewhere};
+ghost use Rattle.cvss_text.specs.private.Walk.{IsFilled, IsPut};
 ghost use Rattle.cvss_metric.specs.v2.Table.{spelling_of};
 ghost use Rattle.cvss_v2.specs.Vector.{v2, value_at};
-ghost use Rattle.cvss_v2.specs.private.VectorLaws.{v2_laws};
+ghost use Rattle.cvss_v2.specs.private.VectorLaws.{with_value, v2_laws};
 
 use super::cutting::cut_named;
 use super::in_order::first_three_in_order;
@@ -164,7 +164,6 @@ impl<M: MetricValue> Spells<M> for Vector {
 
 /// What filling the place of a metric answered. A law: where all else is kept, the value is put into
 /// the vector.
-#[tactic(auto, using(cvss_text::proofs::PutLemmas::put_at, crate::specs::private::VectorLaws::v2_laws))]
 fn filled(
     kind: MetricType,
     here: MetricType,
@@ -176,7 +175,7 @@ fn filled(
     requires here { kind ≡ here }
     requires filled { IsFilled (reading v2 here) (value_at old.now here) (read v2 value.now) answer
         (value_at new.now here) }
-    requires kept { elsewhere v2 here new.now ≡ elsewhere v2 here old.now }
+    requires kept { new.now ≡ with_value old.now here (value_at new.now here) }
     ensures { IsPut v2 old.now kind (read v2 value.now) result new.now }
 {
     answer

@@ -1,13 +1,14 @@
 -- What the walk over a text needs to know of CVSS v3.
-use Rattle.std.specs.Prelude.{◌≡◌, ℕ, ◌++◌, codes, Option, None, refl}
+use Rattle.std.specs.Prelude.{◌≡◌, ◌++◌, codes, Option, None, refl}
+use Rattle.std.specs.List.{fold}
 use Rattle.std.proofs.Common.{sym, ◌∙◌}
-use Rattle.cvss_text.specs.private.Walk.{HasNoValue, VersionLaws, FrontLaws}
+use Rattle.cvss_text.specs.private.Walk.{HasNoValue, VersionLaws, FrontLaws, elsewhere}
 use Rattle.cvss_base.specs.Version.{numeral}
 use Rattle.cvss_base.specs.declared.v3.MetricType.{MetricType}
 use Rattle.cvss_base.specs.declared.v3.MetricType.TheVariants.{A, AC, AV, C, I, PR, S, UI, E, RL, RC, CR, IR, AR, MAV, MAC, MPR, MUI, MS, MC, MI, MA}
 use Rattle.cvss_text.proofs.NumeralLemmas.{numeral-injective, numeral-plain}
 use Rattle.cvss_metric.specs.v3.private.TableLaws.{plain_spelling, one_value}
-use Rattle.cvss_metric.specs.v3.Table.{Value}
+use Rattle.cvss_metric.specs.v3.Table.{Value, printed}
 use Rattle.cvss_v3.specs.declared.vector.Vector.{Vector}
 use Rattle.cvss_v3.specs.Vector.{v3, value_at}
 
@@ -17,45 +18,50 @@ one_minor_version v w same =
     let numerals : numeral v.minor_version ≡ numeral w.minor_version = cc in
     numeral-injective v.minor_version w.minor_version numerals
 
--- the vector with a minor version and a value, or none, for each metric
-abbrev pub vector_of : ℕ → ((kind : MetricType) → Option (Value kind)) → Vector
-vector_of minor_version value = record {
-  minor_version = minor_version;
-  av = value AV;
-  ac = value AC;
-  pr = value PR;
-  ui = value UI;
-  s = value S;
-  c = value C;
-  i = value I;
-  a = value A;
-  e = value E;
-  rl = value RL;
-  rc = value RC;
-  cr = value CR;
-  ir = value IR;
-  ar = value AR;
-  mav = value MAV;
-  mac = value MAC;
-  mpr = value MPR;
-  mui = value MUI;
-  ms = value MS;
-  mc = value MC;
-  mi = value MI;
-  ma = value MA;
-}
+-- the vector with another value, or none, for a metric
+abbrev pub with_value : Vector → (kind : MetricType) → Option (Value kind) → Vector
+with_value v AV value = record v { av = value }
+with_value v AC value = record v { ac = value }
+with_value v PR value = record v { pr = value }
+with_value v UI value = record v { ui = value }
+with_value v S value = record v { s = value }
+with_value v C value = record v { c = value }
+with_value v I value = record v { i = value }
+with_value v A value = record v { a = value }
+with_value v E value = record v { e = value }
+with_value v RL value = record v { rl = value }
+with_value v RC value = record v { rc = value }
+with_value v CR value = record v { cr = value }
+with_value v IR value = record v { ir = value }
+with_value v AR value = record v { ar = value }
+with_value v MAV value = record v { mav = value }
+with_value v MAC value = record v { mac = value }
+with_value v MPR value = record v { mpr = value }
+with_value v MUI value = record v { mui = value }
+with_value v MS value = record v { ms = value }
+with_value v MC value = record v { mc = value }
+with_value v MI value = record v { mi = value }
+with_value v MA value = record v { ma = value }
+
+-- it has all else as it was
+pub elsewhere_kept : (here : MetricType) (v : Vector) (value : Option (Value here)) → elsewhere v3 here (with_value v here value) ≡ elsewhere v3 here v
+elsewhere_kept = elim [ A ↦ λ v value. refl | _ ↦ λ v value. refl ]
+
+-- the vector with a value, or none, for each metric
+abbrev pub with_values : Vector → ((kind : MetricType) → Option (Value kind)) → Vector
+with_values v value = fold (λ new kind. with_value new kind (value kind)) v printed
 
 -- it has these values
-pub vector_has : (minor_version : ℕ) (value : (kind : MetricType) → Option (Value kind)) (kind : MetricType) → value_at (vector_of minor_version value) kind ≡ value kind
-vector_has minor_version value = elim [ A ↦ refl | _ ↦ refl ]
+pub vector_has : (v : Vector) (value : (kind : MetricType) → Option (Value kind)) (kind : MetricType) → value_at (with_values v value) kind ≡ value kind
+vector_has v value = elim [ A ↦ refl | _ ↦ refl ]
 
 -- a vector is its minor version and its values
 one_vector : (v w : Vector) → v3.front v ≡ v3.front w → ((kind : MetricType) → value_at v kind ≡ value_at w kind) → v ≡ w
-one_vector v w front same = λ i. vector_of (one_minor_version v w front i) (λ kind. same kind i)
+one_vector v w front same = λ i. with_values (record v { minor_version = one_minor_version v w front i }) (λ kind. same kind i)
 
 -- of each minor version there is one vector without values
-pub without_values : (v : Vector) → HasNoValue v3 v → v ≡ vector_of v.minor_version (λ _. None)
-without_values v empty = one_vector v _ refl (λ kind. empty.none kind ∙ sym (vector_has v.minor_version (λ _. None) kind))
+pub without_values : (v : Vector) → HasNoValue v3 v → v ≡ with_values v (λ _. None)
+without_values v empty = one_vector v _ refl (λ kind. empty.none kind ∙ sym (vector_has v (λ _. None) kind))
 
 pub v3_laws : VersionLaws v3
 v3_laws = record {

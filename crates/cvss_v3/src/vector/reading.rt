@@ -2,12 +2,12 @@
 
 ghost use Rattle.std.specs.Prelude.{◌≡◌, None, true};
 ghost use Rattle.cvss_base.specs.V3Types.{name_of, v3_reason};
-ghost use Rattle.cvss_text.specs.private.Walk.{HasNoValue, IsFilled, IsPut, elsewhere};
+ghost use Rattle.cvss_text.specs.private.Walk.{HasNoValue, IsFilled, IsPut};
 ghost use Rattle.cvss_base.specs.Version.{read, reading};
 ghost use Rattle.cvss_metric.specs.v3.Table.{spelling_of};
 ghost use Rattle.cvss_v3.specs.Complete.{first_missing_base};
 ghost use Rattle.cvss_v3.specs.Vector.{v3, value_at};
-ghost use Rattle.cvss_v3.specs.private.VectorLaws.{v3_laws, v3_front_laws};
+ghost use Rattle.cvss_v3.specs.private.VectorLaws.{with_value, v3_laws, v3_front_laws};
 
 use super::cutting::{named_by_one, named_by_three, named_by_two};
 use super::in_order::first_four_in_order;
@@ -197,7 +197,6 @@ impl<M: MetricValue> Spells<M> for Vector {
 
 /// What filling the place of a metric answered. A law: where all else is kept, the value is put into
 /// the vector.
-#[tactic(auto, using(cvss_text::proofs::PutLemmas::put_at, crate::specs::private::VectorLaws::v3_laws))]
 fn filled(
     kind: MetricType,
     here: MetricType,
@@ -209,7 +208,7 @@ fn filled(
     requires here { kind ≡ here }
     requires filled { IsFilled (reading v3 here) (value_at old.now here) (read v3 value.now) answer
         (value_at new.now here) }
-    requires kept { elsewhere v3 here new.now ≡ elsewhere v3 here old.now }
+    requires kept { new.now ≡ with_value old.now here (value_at new.now here) }
     ensures { IsPut v3 old.now kind (read v3 value.now) result new.now }
 {
     answer

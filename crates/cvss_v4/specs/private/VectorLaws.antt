@@ -2,7 +2,7 @@
 use Rattle.std.specs.Prelude.{◌≡◌, ◌++◌, codes, Option, None, refl}
 use Rattle.std.specs.List.{fold}
 use Rattle.std.proofs.Common.{sym, ◌∙◌}
-use Rattle.cvss_text.specs.private.Walk.{HasNoValue, VersionLaws, FrontLaws}
+use Rattle.cvss_text.specs.private.Walk.{HasNoValue, VersionLaws, FrontLaws, elsewhere}
 use Rattle.cvss_base.specs.Version.{numeral}
 use Rattle.cvss_base.specs.declared.v4.MetricType.{MetricType}
 use Rattle.cvss_base.specs.declared.v4.MetricType.TheVariants as metric
@@ -26,6 +26,10 @@ with_values v value = fold (λ new kind. (values_of kind).with_value new (value 
 -- it has these values
 pub vector_has : (v : Vector) (value : (kind : MetricType) → Option (Value kind)) (kind : MetricType) → value_at (with_values v value) kind ≡ value kind
 vector_has v value = elim [ metric.AC ↦ refl | _ ↦ refl ]
+
+-- a vector with another value for a metric has all else as it was
+pub elsewhere_kept : (here : MetricType) (v : Vector) (value : Option (Value here)) → elsewhere v4 here ((values_of here).with_value v value) ≡ elsewhere v4 here v
+elsewhere_kept = elim [ metric.AC ↦ λ v value. refl | _ ↦ λ v value. refl ]
 
 -- a vector is its minor version and its values
 one_vector : (v w : Vector) → v4.front v ≡ v4.front w → ((kind : MetricType) → value_at v kind ≡ value_at w kind) → v ≡ w

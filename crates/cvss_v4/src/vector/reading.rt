@@ -2,10 +2,10 @@
 
 ghost use Rattle.std.specs.Prelude.{◌≡◌, true, ⊤};
 ghost use Rattle.cvss_base.specs.V4Types.{name_of, v4_reason};
-ghost use Rattle.cvss_text.specs.private.Walk.{HasNoValue, IsFilled, IsPut, elsewhere};
+ghost use Rattle.cvss_text.specs.private.Walk.{HasNoValue, IsFilled, IsPut};
 ghost use Rattle.cvss_base.specs.Version.{read, reading};
 ghost use Rattle.cvss_metric.specs.v4.Table.{spelling_at};
-ghost use Rattle.cvss_v4.specs.Table.{value_at};
+ghost use Rattle.cvss_v4.specs.Table.{value_at, values_of};
 ghost use Rattle.cvss_v4.specs.Vector.{v4};
 ghost use Rattle.cvss_v4.specs.private.TableLaws.{width};
 ghost use Rattle.cvss_v4.specs.private.VectorLaws.{v4_laws, v4_front_laws};
@@ -218,7 +218,6 @@ impl<M: MetricValue> Spells<M> for Vector {
 
 /// What filling the place of a metric answered. A law: where all else is kept, the value is put into
 /// the vector.
-#[tactic(auto, using(cvss_text::proofs::PutLemmas::put_at, crate::specs::private::VectorLaws::v4_laws))]
 fn filled(
     kind: MetricType,
     here: MetricType,
@@ -230,7 +229,7 @@ fn filled(
     requires here { kind ≡ here }
     requires filled { IsFilled (reading v4 here) (value_at old.now here) (read v4 value.now) answer
         (value_at new.now here) }
-    requires kept { elsewhere v4 here new.now ≡ elsewhere v4 here old.now }
+    requires kept { new.now ≡ (values_of here).with_value old.now (value_at new.now here) }
     ensures { IsPut v4 old.now kind (read v4 value.now) result new.now }
 {
     answer
