@@ -2,13 +2,18 @@
 
 ghost use Rattle.std.specs.Prelude.{◌≡◌};
 ghost use Rattle.cvss_score.specs.v3.private.Weights.{AreBounded, AreOfTables};
+ghost use Rattle.cvss_score.specs.v3.Weighing.{effective};
 ghost use Rattle.cvss_v3.specs.VectorWeights.{weights_of};
+ghost use Rattle.cvss_metric.specs.v3.Modified.{weight_or};
+ghost use Rattle.cvss_metric.specs.v3.Table.{weight_of};
 
 use crate::vector::Vector;
 use cvss_score::v3::Weights;
 use cvss_score::v3::weighing::{
     effective, effective_scope, is_changed, modified_privileges, scoped_weight, weight,
 };
+use cvss_metric::v3::MetricValue;
+use cvss_metric::v3::environmental::Modified;
 
 impl Vector {
     /// What the metrics weigh, of which the equations make the scores.
@@ -41,14 +46,14 @@ impl Vector {
             cr: weight(self.cr, 100),
             ir: weight(self.ir, 100),
             ar: weight(self.ar, 100),
-            mav: weight(effective(self.mav, self.av), 0),
-            mac: weight(effective(self.mac, self.ac), 0),
+            mav: effective_weight(self.mav, self.av),
+            mac: effective_weight(self.mac, self.ac),
             mpr: modified_privileges(self.mpr, self.pr, self.ms, self.s),
-            mui: weight(effective(self.mui, self.ui), 0),
+            mui: effective_weight(self.mui, self.ui),
             modified_changed: self.is_modified_scope_changed(),
-            mc: weight(effective(self.mc, self.c), 0),
-            mi: weight(effective(self.mi, self.i), 0),
-            ma: weight(effective(self.ma, self.a), 0),
+            mc: effective_weight(self.mc, self.c),
+            mi: effective_weight(self.mi, self.i),
+            ma: effective_weight(self.ma, self.a),
         }
     }
 
@@ -77,4 +82,12 @@ impl Vector {
     {
         is_changed(effective_scope(self.ms, self.s))
     }
+}
+
+/// The weight of a modified metric in hundredths, where it is defined, and else of the base metric.
+#[inline(always)]
+fn effective_weight<M: MetricValue>(modified: Option<Modified<M>>, base: Option<M>) -> u64
+    ensures { result ≡ weight_or (λ metric. weight_of M.KIND (M.value metric)) (effective modified base) 0 }
+{
+    weight(effective(modified, base), 0)
 }
