@@ -8,3 +8,9 @@ pub returns-clause-value : goal.returns-clause-value
 returns-clause-value c =
     v2-equal (lit< tt) (lit< tt) (equal_trans (lit< tt) (record { equal = omega (arith, ints) }) c.base_number.ensures.value)
     (omega (arith, ints)) c.rounded.ensures
+
+pub rounded-requires-clause-low : goal.rounded-requires-clause-low
+rounded-requires-clause-low c = omega (arith, ints, c.base_number.ensures.on_scale.low)
+
+pub rounded-requires-clause-high : goal.rounded-requires-clause-high
+rounded-requires-clause-high c = omega (arith, ints, c.base_number.ensures.on_scale.high)
