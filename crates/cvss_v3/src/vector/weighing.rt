@@ -8,12 +8,12 @@ ghost use Rattle.cvss_metric.specs.v3.Modified.{weight_or};
 ghost use Rattle.cvss_metric.specs.v3.Table.{weight_of};
 
 use crate::vector::Vector;
+use cvss_metric::v3::MetricValue;
+use cvss_metric::v3::environmental::Modified;
 use cvss_score::v3::Weights;
 use cvss_score::v3::weighing::{
     effective, effective_scope, is_changed, modified_privileges, scoped_weight, weight,
 };
-use cvss_metric::v3::MetricValue;
-use cvss_metric::v3::environmental::Modified;
 
 impl Vector {
     /// What the metrics weigh, of which the equations make the scores.
