@@ -104,7 +104,6 @@ pub fn write_canonical(
 /// # Errors
 ///
 /// Out of memory. A beginning of the answer may be written then.
-#[tactic(auto, using(crate::proofs::ScoringLemmas::answer_written))]
 pub fn write_vector(
     vector: &Cvss,
     published: Published,
