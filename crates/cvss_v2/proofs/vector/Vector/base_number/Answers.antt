@@ -5,3 +5,8 @@ use Rattle.cvss_v2.proofs.vector.Vector.base_number.Goals as goal
 
 pub returns-clause-value : goal.returns-clause-value
 returns-clause-value c = equal_trans (lit< tt) (record { equal = omega (arith, ints) }) (rw c.shared_weights.ensures.value at c.base_number.ensures.value)
+
+pub returns-clause-limit : goal.returns-clause-limit
+returns-clause-limit c =
+    let scale = c.base_number.ensures.on_scale in
+    record { from_lowest = omega (arith, ints, scale.low); to_highest = omega (arith, ints, scale.high) }

@@ -14,3 +14,8 @@ returns-clause-value c = λ temporal is_temporal.
     let same = temporal_alone w (adjusted_impact w) (lit< tt) own.result temporal (rw c.shared_weights-weights.ensures.value at own.ensures.value) is_temporal in
     equal_trans (lit< tt) (record { equal = omega (arith, ints) })
     (rw (c.shared_weights-weights.ensures.value, same) at (simp (to_z-of_z w64 own.result (search rules)) at c.environmental_number-number.ensures.value))
+
+pub returns-clause-limit : goal.returns-clause-limit
+returns-clause-limit c =
+    let scale = c.environmental_number-number.ensures.on_scale in
+    record { from_lowest = omega (arith, ints, scale.low); to_highest = omega (arith, ints, scale.high) }
