@@ -29,7 +29,8 @@ macro_rules! write_each {
     }};
 }
 
-/// Fills the field of the metric that is asked for. What the vector held is for the law alone.
+/// Fills the field of the metric that is asked for. What the vector held before and after is for the law
+/// alone.
 #[macro_export]
 macro_rules! fill_at {
     (($kind:ident: $kinds:ident, $filled:ident($vector:ident: $vectors:ident, $value:ident, $old:ident))
@@ -38,10 +39,10 @@ macro_rules! fill_at {
             $($kinds::$name => $filled(
                 $kind,
                 $kinds::$name,
-                &$old,
+                $old,
                 $value,
                 cvss_text::values::fill::<$vectors, _>(&mut $vector.$field, $value),
-                $vector,
+                *$vector,
             ),)*
         }
     };

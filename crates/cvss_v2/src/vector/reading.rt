@@ -167,16 +167,16 @@ impl<M: MetricValue> Spells<M> for Vector {
 fn filled(
     kind: MetricType,
     here: MetricType,
-    old: &Vector,
+    old: Vector,
     value: &[u8],
     answer: Result<(), ComponentError>,
-    new: &Vector,
+    new: Vector,
 ) -> Result<(), ComponentError>
     requires here { kind ≡ here }
-    requires filled { IsFilled (reading v2 here) (value_at old.now here) (read v2 value.now) answer
-        (value_at new.now here) }
-    requires kept { new.now ≡ with_value old.now here (value_at new.now here) }
-    ensures { IsPut v2 old.now kind (read v2 value.now) result new.now }
+    requires filled { IsFilled (reading v2 here) (value_at old here) (read v2 value.now) answer
+        (value_at new here) }
+    requires kept { new ≡ with_value old here (value_at new here) }
+    ensures { IsPut v2 old kind (read v2 value.now) result new }
 {
     answer
 }

@@ -200,16 +200,16 @@ impl<M: MetricValue> Spells<M> for Vector {
 fn filled(
     kind: MetricType,
     here: MetricType,
-    old: &Vector,
+    old: Vector,
     value: &[u8],
     answer: Result<(), ComponentError>,
-    new: &Vector,
+    new: Vector,
 ) -> Result<(), ComponentError>
     requires here { kind ≡ here }
-    requires filled { IsFilled (reading v3 here) (value_at old.now here) (read v3 value.now) answer
-        (value_at new.now here) }
-    requires kept { new.now ≡ with_value old.now here (value_at new.now here) }
-    ensures { IsPut v3 old.now kind (read v3 value.now) result new.now }
+    requires filled { IsFilled (reading v3 here) (value_at old here) (read v3 value.now) answer
+        (value_at new here) }
+    requires kept { new ≡ with_value old here (value_at new here) }
+    ensures { IsPut v3 old kind (read v3 value.now) result new }
 {
     answer
 }

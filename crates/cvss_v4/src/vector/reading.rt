@@ -221,16 +221,16 @@ impl<M: MetricValue> Spells<M> for Vector {
 fn filled(
     kind: MetricType,
     here: MetricType,
-    old: &Vector,
+    old: Vector,
     value: &[u8],
     answer: Result<(), ComponentError>,
-    new: &Vector,
+    new: Vector,
 ) -> Result<(), ComponentError>
     requires here { kind ≡ here }
-    requires filled { IsFilled (reading v4 here) (value_at old.now here) (read v4 value.now) answer
-        (value_at new.now here) }
-    requires kept { new.now ≡ (values_of here).with_value old.now (value_at new.now here) }
-    ensures { IsPut v4 old.now kind (read v4 value.now) result new.now }
+    requires filled { IsFilled (reading v4 here) (value_at old here) (read v4 value.now) answer
+        (value_at new here) }
+    requires kept { new ≡ (values_of here).with_value old (value_at new here) }
+    ensures { IsPut v4 old kind (read v4 value.now) result new }
 {
     answer
 }
