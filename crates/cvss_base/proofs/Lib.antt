@@ -5,6 +5,5 @@ pub mod FindLemmas
 pub mod PrintedLemmas
 pub mod RoundingLemmas
 pub mod WithSlashLemmas
-pub mod SpellingLemmas
 pub mod TenthsLemmas
 pub mod TestLemmas

@@ -9,7 +9,7 @@ use Rattle.cvss_base.proofs.FindLemmas.{found_passes}
 use Rattle.cvss_base.specs.Text.{uppercased}
 use Rattle.cvss_base.specs.declared.v4.MetricType.{MetricType}
 use Rattle.cvss_base.specs.declared.v4.MetricType.TheVariants.{AC}
-use Rattle.cvss_base.proofs.SpellingLemmas.{differ}
+use Rattle.cvss_metric.proofs.SpellingLemmas.{differ}
 use Rattle.cvss_metric.specs.v4.Reading.{IsReading}
 use Rattle.cvss_metric.specs.v4.Table.{spellings_of}
 

@@ -1,6 +1,6 @@
 use Rattle.std.proofs.Common.{ap, ◌∙◌}
 use Rattle.cvss_base.specs.V2Types.{name_of}
-use Rattle.cvss_base.proofs.SpellingLemmas.{spelling_got}
+use Rattle.cvss_metric.proofs.SpellingLemmas.{spelling_got}
 use Rattle.cvss_metric.specs.v2.Table.{spelling_of}
 use Rattle.cvss_metric.proofs.v2.metric.spelling.Goals as goal
 

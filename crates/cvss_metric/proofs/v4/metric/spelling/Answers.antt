@@ -1,6 +1,6 @@
 use Rattle.std.proofs.Common.{ap, ◌∙◌}
 use Rattle.cvss_base.specs.V4Types.{name_of}
-use Rattle.cvss_base.proofs.SpellingLemmas.{spelling_got}
+use Rattle.cvss_metric.proofs.SpellingLemmas.{spelling_got}
 use Rattle.cvss_metric.specs.v4.Table.{spelling_at}
 use Rattle.cvss_metric.proofs.v4.metric.spelling.Goals as goal
 

@@ -5,7 +5,7 @@ use Rattle.std.proofs.lemmas.Iterator.Consumers.{YieldsList-from_copied}
 use Rattle.std.proofs.lemmas.Iterator.Search.{find_from_yields_List}
 use Rattle.std.proofs.lemmas.Slice.Eq.{bytes_eq-Decides}
 use Rattle.std.specs.Str.{str_eq_ignore_ascii_case}
-use Rattle.cvss_base.proofs.SpellingLemmas.{first_alike, read_first}
+use Rattle.cvss_metric.proofs.SpellingLemmas.{first_alike, read_first}
 use Rattle.cvss_metric.proofs.v4.ReadingLemmas.{found_alike, lowered_alike, spellings_differ}
 use Rattle.cvss_metric.specs.v4.Table.{spelling_at}
 use Rattle.cvss_metric.proofs.v4.metric.MetricValue.read_bytes.Goals as goal
