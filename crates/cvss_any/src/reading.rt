@@ -1,7 +1,7 @@
 //! How a text is read by the rules of the version that it says. It takes no memory: a fault borrows
 //! the part of the text that it names.
 
-ghost use Rattle.std.specs.Prelude.{◌≡◌, ◌↔◌, IsAscii, IsTrue, IsUtf8, Err};
+ghost use Rattle.std.specs.Prelude.{◌≡◌, ◌↔◌, IsTrue, IsUtf8, Err};
 ghost use Rattle.cvss_base.specs.Reported.{Reports};
 ghost use Rattle.cvss_text.specs.Route.{ToNoVersion, route_of};
 ghost use Rattle.cvss_text.specs.private.Routing as is_reported;
@@ -125,18 +125,5 @@ pub(crate) fn read_error_of<'a>(text: &'a [u8], refusal: Refusal<'a>) -> ReadErr
 fn is_utf8(bytes: &[u8]) -> bool
     ensures { IsTrue result ↔ IsUtf8 bytes.now }
 {
-    is_ascii(bytes) || str::from_utf8(bytes).is_ok()
-}
-
-/// Whether bytes are ASCII, by the bits of all, which the compiler joins many at once.
-#[inline(always)]
-#[tactic(auto, using(std::proofs::lemmas::Nat::le_or_l, std::proofs::lemmas::Nat::le_or_r))]
-fn is_ascii(bytes: &[u8]) -> bool
-    ensures { IsTrue result → IsAscii bytes.now }
-{
-    let mut bits = 0;
-    for byte in bytes {
-        bits |= *byte;
-    }
-    bits < 128
+    bytes.is_ascii() || str::from_utf8(bytes).is_ok()
 }
