@@ -1,7 +1,8 @@
 -- What is answered of a vector of any version, from what its version answers, where metrics are set; and a vector that is
 -- built is what the text of its version and its components denotes.
-use Rattle.std.proofs.Common.{◌≡◌, ℕ, ◌≤◌, List, Option, IfSome, Ok, Err, length, refl, sym, ap, ◌∙◌, subst, arith, false, [], ◌∷◌, ◌++◌, codes, length-append, lit<, Contains}
+use Rattle.std.proofs.Common.{◌≡◌, ℕ, ◌≤◌, List, Option, IfOk, IfSome, Result, Ok, Err, length, refl, sym, ap, ◌∙◌, subst, arith, false, [], ◌∷◌, ◌++◌, codes, length-append, lit<, Contains}
 use Rattle.std.proofs.lemmas.Option.{IfSome_then}
+use Rattle.std.proofs.lemmas.Result.{IfOk-weaker}
 use Rattle.cvss_base.specs.V4Types.{most_metrics}
 use Rattle.cvss_base.specs.Refusal.{Refusal}
 use Rattle.cvss_base.specs.Version.{numeral, version_piece}
@@ -53,9 +54,12 @@ module _ {V K : Type 0} {version : base.Version V K} {IsIt : V → Type 0} {IsRe
   }
 
 -- a vector that has a score keeps one
-pub scored_with : (cvss new : Cvss) (metrics : List ℕ) → IsWith cvss metrics new → HasScore cvss → HasScore new
-scored_with (CvssV40 v) new metrics is scored = subst HasScore (sym is.is) (IsComplete-set v4 v4_laws v (components_in metrics) is.own is.holds scored)
-scored_with _ new metrics is scored = subst HasScore (sym is.is) tt
+keeps_score : (cvss new : Cvss) (metrics : List ℕ) → HasScore cvss → IsWith cvss metrics new → HasScore new
+keeps_score (CvssV40 v) new metrics scored is = subst HasScore (sym is.is) (IsComplete-set v4 v4_laws v (components_in metrics) is.own is.holds scored)
+keeps_score _ new metrics scored is = subst HasScore (sym is.is) tt
+
+pub scored_with : (cvss : Cvss) (metrics : List ℕ) (answer : Result Cvss SetError) → IfOk answer (IsWith cvss metrics) → HasScore cvss → IfOk answer (λ new. HasScore new)
+scored_with cvss metrics answer with scored = IfOk-weaker answer _ _ (λ new. keeps_score cvss new metrics scored) with
 
 -- a text is denoted after the piece that says its version
 denoted_after : {V K : Type 0} (version : base.Version V K) (text : List ℕ) (v : V) (reported : List ℕ) → has slash (version_piece reported) ≡ false → IsBuilt version (version_piece reported ∷ []) (pieces text) v → base.Denotes version (version_piece reported ++ slash ∷ text) v
@@ -70,15 +74,18 @@ built_v3 minor text v supported plain built = record {
   more = λ same. omega (arith, ap length same, length-append (version_piece (codes "3." ++ numeral minor)) (slash ∷ text));
 }
 
-pub denoted_built : (version : Version) (new : Cvss) (text : List ℕ) → IsBuiltAs version text new → DenotesCvss (text_with version text) new
-denoted_built V20 new text is = rw is.is (record { denoted = Denotes-pieces v2 text [] (pieces text) refl is.own is.holds.front_is is.holds.components; complete = is.holds.complete })
-denoted_built V30 new text is = rw is.is (built_v3 0 text is.own (0, lit< tt, refl) refl is.holds)
-denoted_built V31 new text is = rw is.is (built_v3 1 text is.own (1, lit< tt, refl) refl is.holds)
-denoted_built V40 new text is = rw is.is (record {
+denotes_built : (version : Version) (new : Cvss) (text : List ℕ) → IsBuiltAs version text new → DenotesCvss (text_with version text) new
+denotes_built V20 new text is = rw is.is (record { denoted = Denotes-pieces v2 text [] (pieces text) refl is.own is.holds.front_is is.holds.components; complete = is.holds.complete })
+denotes_built V30 new text is = rw is.is (built_v3 0 text is.own (0, lit< tt, refl) refl is.holds)
+denotes_built V31 new text is = rw is.is (built_v3 1 text is.own (1, lit< tt, refl) refl is.holds)
+denotes_built V40 new text is = rw is.is (record {
   denoted = denoted_after v4 text is.own (codes "4.0") refl is.holds;
   well_formed = record { complete = is.holds.complete; supported = record { reported = codes "4.0"; front_is = is.holds.front_is; supported = (0, lit< tt, refl) } };
 })
 
+pub denoted_built : (version : Version) (text : List ℕ) (answer : Result Cvss SetError) → IfOk answer (IsBuiltAs version text) → IfOk answer (λ new. DenotesCvss (text_with version text) new)
+denoted_built version text answer = IfOk-weaker answer _ _ (λ new. denotes_built version new text)
+
 -- so it has a score
-pub scored_built : (version : Version) (new : Cvss) (text : List ℕ) → IsBuiltAs version text new → HasScore new
-scored_built version new text is = scored (text_with version text) new (denoted_built version new text is)
+pub scored_built : (version : Version) (text : List ℕ) (answer : Result Cvss SetError) → IfOk answer (IsBuiltAs version text) → IfOk answer (λ new. HasScore new)
+scored_built version text answer built = IfOk-weaker answer _ _ (scored (text_with version text)) (denoted_built version text answer built)

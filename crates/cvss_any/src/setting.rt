@@ -78,7 +78,12 @@ impl Cvss {
             (error.index ≡ index) × (refusal_of error.reason ≡ reason)) }
         ensures bound { IfErr result (λ error. IfSome error.index (λ index. index ≤ most_metrics)) }
     {
-        with_by_version(self, metrics)
+        match self {
+            Cvss::CvssV20(vector) => with_version(vector, 0, 0, metrics),
+            Cvss::CvssV30(vector) => with_version(vector, vector.minor_version, 0, metrics),
+            Cvss::CvssV31(vector) => with_version(vector, vector.minor_version, 1, metrics),
+            Cvss::CvssV40(vector) => with_version(vector, vector.minor_version, 0, metrics),
+        }
     }
 
     /// The vector of a version that components make, which a text joins by slashes, in any order and
@@ -104,19 +109,12 @@ impl Cvss {
             (error.index ≡ index) × (refusal_of error.reason ≡ reason)) }
         ensures bound { IfErr result (λ error. IfSome error.index (λ index. index ≤ most_metrics)) }
     {
-        build_by_version(version, metrics)
-    }
-}
-
-fn with_by_version<'a>(cvss: &Cvss, metrics: &'a str) -> Result<Cvss, SetError<'a>>
-    ensures { IsAnsweredBy (IsWith cvss.now metrics.now) (IsWithReason cvss.now metrics.now)
-        result }
-{
-    match cvss {
-        Cvss::CvssV20(vector) => with_version(vector, 0, 0, metrics),
-        Cvss::CvssV30(vector) => with_version(vector, vector.minor_version, 0, metrics),
-        Cvss::CvssV31(vector) => with_version(vector, vector.minor_version, 1, metrics),
-        Cvss::CvssV40(vector) => with_version(vector, vector.minor_version, 0, metrics),
+        match version {
+            Version::V20 => build_version::<v2::Vector>(0, metrics),
+            Version::V30 => build_version::<v3::Vector>(0, metrics),
+            Version::V31 => build_version::<v3::Vector>(1, metrics),
+            Version::V40 => build_version::<v4::Vector>(0, metrics),
+        }
     }
 }
 
@@ -137,18 +135,6 @@ fn with_version<'a, V: OneVersion>(
     match set(vector, V::without_metrics(own), metrics) {
         Ok(new) => Ok(new.join(said)),
         Err(error) => Err(SetError::of::<V>(error)),
-    }
-}
-
-fn build_by_version(version: Version, metrics: &str) -> Result<Cvss, SetError<'_>>
-    ensures { IsAnsweredBy (IsBuiltAs version metrics.now) (IsBuiltReason version metrics.now)
-        result }
-{
-    match version {
-        Version::V20 => build_version::<v2::Vector>(0, metrics),
-        Version::V30 => build_version::<v3::Vector>(0, metrics),
-        Version::V31 => build_version::<v3::Vector>(1, metrics),
-        Version::V40 => build_version::<v4::Vector>(0, metrics),
     }
 }
 
