@@ -1,6 +1,6 @@
 -- What is answered of a vector of any version, from what its version answers, where metrics are set; and a vector that is
 -- built is what the text of its version and its components denotes.
-use Rattle.std.proofs.Common.{◌≡◌, ℕ, ◌≤◌, List, Option, IfOk, IfSome, Result, Ok, Err, length, refl, sym, ap, ◌∙◌, subst, arith, false, [], ◌∷◌, ◌++◌, codes, length-append, lit<, Contains}
+use Rattle.std.proofs.Common.{◌≡◌, ℕ, ◌≤◌, List, Option, IfOk, Result, Ok, Err, length, refl, sym, ap, ◌∙◌, subst, arith, false, [], ◌∷◌, ◌++◌, codes, length-append, lit<, Contains}
 use Rattle.std.proofs.lemmas.Option.{IfSome_then}
 use Rattle.std.proofs.lemmas.Result.{IfOk-weaker}
 use Rattle.cvss_base.specs.V4Types.{most_metrics}
@@ -15,6 +15,7 @@ use Rattle.cvss_any.specs.Answers.{HasScore}
 use Rattle.cvss_any.specs.Setting.{IsOf, IsWith, IsBuiltAs, text_with}
 use Rattle.cvss_any.specs.private.{IsAnsweredBy, front_of}
 use Rattle.cvss_any.specs.declared.metric_type.MetricType.{MetricType}
+use Rattle.cvss_any.specs.declared.refusal.Refusal as declared
 use Rattle.cvss_any.specs.declared.setting.SetError.{SetError}
 use Rattle.cvss_any.specs.declared.vector.Cvss.{Cvss}
 use Rattle.cvss_any.specs.declared.vector.Cvss.TheVariants.{CvssV40}
@@ -42,15 +43,15 @@ module _ {V K : Type 0} {version : base.Version V K} {IsIt : V → Type 0} {IsRe
     bound = tt;
   }
 
-  pub answered_err : (refused : Option ℕ × Fault K) (error : SetError) → error.index ≡ refused.0 → refusal_of error.reason ≡ wrapped of_any (reason_of version refused.1) → length version.printed ≤ most_metrics → IsAnswered version IsIt IsReason (Err refused) → IsAnsweredBy (IsOf wrap IsIt) (λ index. IsReasonOf of_any (IsReason index)) (Err error)
-  answered_err refused error at says most is = record {
+  pub answered_err : (index : Option ℕ) (fault : Fault K) (reason : declared.Refusal) → refusal_of reason ≡ wrapped of_any (reason_of version fault) → length version.printed ≤ most_metrics → IsAnswered version IsIt IsReason (Err (index, fault)) → IsAnsweredBy (IsOf wrap IsIt) (λ index. IsReasonOf of_any (IsReason index)) (Err (record { index = index; reason = reason }))
+  answered_err index fault reason says most is = record {
     accepted = tt;
     accepts = λ cvss of. absurd (let no = is.accepts of.own of.holds in cc);
-    refused = record { own = reason_of version refused.1; first = subst (λ each. IsReason each (reason_of version refused.1)) (sym at) is.refused; is = says };
+    refused = record { own = reason_of version fault; first = is.refused; is = says };
     refuses = λ other reason of.
         let same = is.refuses other of.own of.first in
-        (at ∙ same.0, says ∙ ap (wrapped of_any) same.1 ∙ sym of.is);
-    bound = IfSome_then error.index (subst (λ each. IfSome each (λ i. i ≤ length version.printed)) (sym at) is.bound) (λ i within. omega (arith, within, most));
+        (same.0, says ∙ ap (wrapped of_any) same.1 ∙ sym of.is);
+    bound = IfSome_then index is.bound (λ i within. omega (arith, within, most));
   }
 
 -- a vector that has a score keeps one

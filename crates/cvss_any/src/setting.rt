@@ -6,9 +6,8 @@ ghost use Rattle.cvss_base.specs.V4Types.{most_metrics};
 ghost use Rattle.cvss_base.specs.Refusal as spec;
 ghost use Rattle.cvss_base.specs.Text.{pieces};
 ghost use Rattle.cvss_text.specs.Setting.{IsBuildReason, IsBuilt, IsSet, IsSetReason, components_in};
-ghost use Rattle.cvss_text.specs.private.Walk.{reason_of};
 ghost use Rattle.cvss_any.specs.Answers.{HasScore};
-ghost use Rattle.cvss_any.specs.Dispatch.{DenotesCvss, IsReasonOf, wrapped};
+ghost use Rattle.cvss_any.specs.Dispatch.{DenotesCvss, IsReasonOf};
 ghost use Rattle.cvss_any.specs.Refusals.{refusal_of};
 ghost use Rattle.cvss_any.specs.Setting.{IsBuiltAs, IsBuiltReason, IsOf, IsWith, IsWithReason, text_with};
 ghost use Rattle.cvss_any.specs.declared.metric_type.MetricType.{MetricType};
@@ -19,7 +18,6 @@ use crate::refusal::Refusal;
 use crate::vector::Cvss;
 use crate::{v2, v3, v4};
 use cvss_text::setting::{build, set};
-use cvss_text::walk::Fault;
 
 /// A version of CVSS.
 #[derive(Clone, Copy, Debug, PartialEq, Eq)]
@@ -38,20 +36,6 @@ pub struct SetError<'a> {
     pub index: Option<usize>,
     /// What is wrong: `BadComponent`, `UnknownName`, `BadValue`, `Repeated` or `Missing`.
     pub reason: Refusal<'a>,
-}
-
-impl<'a> SetError<'a> {
-    fn of<V: OneVersion>(error: (Option<usize>, Fault<'a, V::Kind>)) -> SetError<'a>
-        ensures index { result.index ≡ error.entry.0 }
-        ensures reason { refusal_of result.reason
-            ≡ wrapped V.wrap (reason_of V.version error.entry.1) }
-    {
-        let (index, fault) = error;
-        SetError {
-            index,
-            reason: Refusal::of_version::<V>(fault),
-        }
-    }
 }
 
 impl Cvss {
@@ -134,7 +118,10 @@ fn with_version<'a, V: OneVersion>(
 {
     match set(vector, V::without_metrics(own), metrics) {
         Ok(new) => Ok(new.join(said)),
-        Err(error) => Err(SetError::of::<V>(error)),
+        Err((index, fault)) => Err(SetError {
+            index,
+            reason: Refusal::of_version::<V>(fault),
+        }),
     }
 }
 
@@ -147,6 +134,9 @@ fn build_version<V: OneVersion>(minor_version: usize, metrics: &str) -> Result<C
 {
     match build(V::without_metrics(minor_version), metrics) {
         Ok(new) => Ok(new.join(minor_version)),
-        Err(error) => Err(SetError::of::<V>(error)),
+        Err((index, fault)) => Err(SetError {
+            index,
+            reason: Refusal::of_version::<V>(fault),
+        }),
     }
 }
