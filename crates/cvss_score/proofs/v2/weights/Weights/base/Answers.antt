@@ -14,3 +14,11 @@ rounded-requires-clause-low c = omega (arith, ints, c.base_number.ensures.on_sca
 
 pub rounded-requires-clause-high : goal.rounded-requires-clause-high
 rounded-requires-clause-high c = omega (arith, ints, c.base_number.ensures.on_scale.high)
+
+pub returns-clause-on_scale : goal.returns-clause-on_scale
+returns-clause-on_scale c =
+    let near = c.rounded.ensures.lifted.nearest in
+    record {
+      low = omega (arith, ints, near.to_half_above.at_most, c.base_number.ensures.on_scale.low);
+      high = omega (arith, ints, near.from_half_below.at_most, c.base_number.ensures.on_scale.high);
+    }
