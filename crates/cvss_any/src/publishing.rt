@@ -17,6 +17,7 @@ use crate::refusal::{ReadError, Refusal};
 use crate::vector::Cvss;
 use crate::{v2, v3, v4};
 use cvss_text::buffer::TextBuffer;
+use cvss_text::in_order::whole;
 use cvss_text::route::{Route, route_at_once, route_of_text};
 use cvss_text::walk::read_text;
 use std::alloc::AllocError;
@@ -118,7 +119,7 @@ fn published_whole<V: OneVersion>(
 {
     let empty = V::without_metrics(minor_version);
     V::reads_by_its_rules(text, components, minor_version, empty);
-    let vector = empty.whole_in_order(components)?;
+    let vector = whole(empty, components)?;
     Some(vector.join(minor_version).published())
 }
 

@@ -1,5 +1,5 @@
 -- A text that begins with the components of a vector in printing order is read up to their end.
-use Rattle.std.proofs.Common.{◌≡◌, ℕ, ◌<◌, All, Ok, List, [], ◌∷◌, ◌++◌, append_assoc, append-nil, false, drop, flat_map, length, refl, sym, ap, ◌∙◌, subst, take, arith}
+use Rattle.std.proofs.Common.{◌≡◌, ℕ, ◌<◌, All, Ok, List, [], ◌∷◌, ◌++◌, None, append_assoc, append-nil, false, drop, flat_map, length, refl, sym, ap, ◌∙◌, subst, take, arith}
 use Rattle.std.proofs.lemmas.List.{take-append-drop}
 use Rattle.std.proofs.lemmas.List.Concat.{flat_map-append}
 use Rattle.std.proofs.lemmas.List.Elements.{All-cons, All-nil}
@@ -7,7 +7,7 @@ use Rattle.std.proofs.lemmas.List.Splits.{join_with_byte-slice_split, slice_spli
 use Rattle.cvss_base.specs.Text.{slash, pieces, joined}
 use Rattle.cvss_base.specs.Version.{Version, AreComponentsOf, canonical_text, components_of}
 use Rattle.cvss_text.specs.private.Printing.{text_with_slash, texts_with_slash}
-use Rattle.cvss_text.specs.private.Walk.{VersionLaws, HasReadTo, IsInOrderTo, IsReadLeft, IsWhole}
+use Rattle.cvss_text.specs.private.Walk.{VersionLaws, HasReadTo, IsBaseTo, IsInOrderTo, IsReadLeft, IsWhole, first_missing}
 use Rattle.cvss_text.proofs.CanonicalLemmas.{own_components}
 use Rattle.cvss_text.proofs.ComponentLemmas.{IsUncut, are_parts, are_uncut, pieces-all, pieces-then}
 use Rattle.cvss_text.proofs.WalkLemmas.{HasReadTo-start, IsReadLeft-complete}
@@ -24,13 +24,7 @@ texts_in_turn text_of [] rest = refl
 texts_in_turn text_of (kind ∷ kinds) rest =
     ap (λ after. text_of kind ++ after) (texts_in_turn text_of kinds rest) ∙ sym (append_assoc (text_of kind) (flat_map text_of kinds) rest)
 
--- a text that begins with what each metric of the vector is printed as
-pub IsInOrderTo-turns : {V K : Type 0} (version : Version V K) {front : List (List ℕ)} {v : V} {text rest : List ℕ} → slash ∷ text ≡ in_turn (text_with_slash version v) version.printed rest
-    → version.front v ≡ front → IsInOrderTo version front text v rest
-IsInOrderTo-turns version {v = v} {rest = rest} is front =
-    record { is = is ∙ texts_in_turn (text_with_slash version v) version.printed rest; front_is = front }
-
--- and has nothing after these
+-- a text that has nothing after the components
 pub IsInOrderTo-end : {V K : Type 0} (version : Version V K) (front : List (List ℕ)) (text : List ℕ) (v : V) (rest : List ℕ) → length rest < 1 → IsInOrderTo version front text v rest → IsInOrderTo version front text v []
 IsInOrderTo-end version front text v [] none is = is
 IsInOrderTo-end version front text v (byte ∷ rest) none is = absurd (omega (arith, none))
@@ -90,6 +84,19 @@ module _ {V K : Type 0} (version : Version V K) (count : ℕ) where
   base_and_others : (v : V) → texts_with_slash version v version.printed ≡ base_of v ++ others_of v
   base_and_others v =
       sym (ap (texts_with_slash version v) (take-append-drop count version.printed)) ∙ flat_map-append (text_with_slash version v) (take count version.printed) (drop count version.printed)
+
+  with_base : (v : V) (rest : List ℕ) → others_of v ≡ [] → base_of v ++ rest ≡ texts_with_slash version v version.printed ++ rest
+  with_base v rest bare = ap (λ all. all ++ rest) (sym (base_and_others v ∙ (ap (λ others. base_of v ++ others) bare ∙ append-nil (base_of v))))
+
+  -- a text that begins with what each base metric of the vector is printed as
+  pub IsBaseTo-turns : {HasBase : V → Type 0} {front : List (List ℕ)} {v : V} {text rest : List ℕ} → slash ∷ text ≡ in_turn (text_with_slash version v) (take count version.printed) rest
+      → version.front v ≡ front → first_missing version v ≡ None → HasBase v → others_of v ≡ [] → IsBaseTo version count HasBase front text v rest
+  IsBaseTo-turns {v = v} {rest = rest} is front present has_base bare = record {
+    in_order = record { is = is ∙ (texts_in_turn (text_with_slash version v) (take count version.printed) rest ∙ with_base v rest bare); front_is = front };
+    present = present;
+    has_base = has_base;
+    bare = bare;
+  }
 
   -- a text is in order to where the optional metrics that are read after the base metrics end
   pub IsInOrderTo-others : (base new : V) (text rest : List ℕ) → others_of base ≡ [] → text ≡ others_of new ++ rest → base_of new ≡ base_of base → version.front new ≡ version.front base → (front : List (List ℕ)) (begun : List ℕ) → IsInOrderTo version front begun base text → IsInOrderTo version front begun new rest

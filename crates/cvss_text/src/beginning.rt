@@ -5,6 +5,7 @@ ghost use Rattle.cvss_base.specs.Text.{pieces, slash};
 ghost use Rattle.cvss_text.specs.private.Pieces.{pieces_left};
 ghost use Rattle.cvss_text.specs.private.Walk.{HasNoValue, HasReadTo, IsInOrderTo};
 
+use crate::in_order::begun;
 use crate::pieces::{Pieces, pieces_of};
 use crate::walk::Components;
 
@@ -17,7 +18,7 @@ pub(crate) fn begin<'a, V: Components>(text: &'a [u8], vector: &mut V) -> Pieces
     ensures read { HasReadTo V.version (pieces text.now) (pieces_left result) vector.new }
     ensures front { V.version.front vector.new ≡ V.version.front vector.old }
 {
-    match vector.begun_in_order(text) {
+    match begun(*vector, text) {
         Some((begun, rest)) => begin_after(text, begun, rest, vector),
         None => pieces_of(text),
     }

@@ -47,3 +47,13 @@ macro_rules! fill_at {
         }
     };
 }
+
+/// Puts the values of these fields one after another, as a text begins with them, and gives what follows
+/// them.
+#[macro_export]
+macro_rules! put_each {
+    ($vector:ident: $vectors:ident, $text:ident: $($field:ident)*) => {{
+        $(let $text = cvss_text::values::put_value::<$vectors, _>(&mut $vector.$field, $text);)*
+        $text
+    }};
+}

@@ -1,12 +1,13 @@
 //! The walk over a vector's components, once for all versions. It takes no memory: a fault borrows
 //! the part of the text that it names.
 
-ghost use Rattle.std.specs.Prelude.{◌≡◌, ◌∷◌, ℕ, List, IfSome, IfOk, IfErr, OnOk, Some, None, All, IsUtf8};
+ghost use Rattle.std.specs.Prelude.{◌≡◌, ◌∷◌, ◌++◌, ℕ, List, IfSome, IfOk, IfErr, OnOk, Some, None, All, IsUtf8, drop, take};
 ghost use Rattle.cvss_text.specs.private.Pieces.{pieces_left};
 ghost use Rattle.cvss_base.specs.Text.{IsComponent, pieces};
 ghost use Rattle.cvss_base.specs.Version.{AreComponentsOf, Version, read};
 ghost use Rattle.cvss_base.specs.Refusal.{piece_at};
-ghost use Rattle.cvss_text.specs.private.Walk.{HasNoValue, IsAnswerBare, IsEmpty, IsInOrderTo, IsPut, IsCut, IsReadLeft, IsWhole, VersionLaws, Puts, Adds, IsFaultOf, IsFirstOfPieces, first_missing, IsPrintable, reason_of};
+ghost use Rattle.cvss_text.specs.private.Printing.{texts_with_slash};
+ghost use Rattle.cvss_text.specs.private.Walk.{HasNoValue, IsAnswerBare, IsBaseTo, IsEmpty, IsPut, IsCut, IsReadLeft, VersionLaws, Puts, Adds, IsFaultOf, IsFirstOfPieces, first_missing, IsPrintable, reason_of};
 
 use crate::beginning::begin;
 use crate::cutting::{cut_component, cut_first};
@@ -50,6 +51,9 @@ pub trait Components: Copy {
     /// is missing: in CVSS v3, where a text may lack base metrics, that it has them all.
     ghost has_base: { Self → Type 0 };
 
+    /// How many base metrics there are. They are printed before the optional ones.
+    ghost base_count: { ℕ };
+
     /// Whether names and values are read in any ASCII case.
     fn any_case() -> bool
         ensures { result ≡ version.any_case };
@@ -67,19 +71,24 @@ pub trait Components: Copy {
     fn cut(piece: &[u8]) -> Option<(Self::Kind, &[u8])>
         ensures { IfSome result (λ cut. IsCut version piece.now cut.0 cut.1.now) };
 
-    /// This vector without values with the components of a text, if all of it is in printing order and
-    /// no mandatory metric is missing. It may be `None` for any text, which is then read the longer way.
-    fn whole_in_order(self, text: &[u8]) -> Option<Self>
+    /// This vector without values with the base metrics with which a text begins in printing order, and
+    /// what follows them, if no base metric is missing there.
+    // `Caller` changes nothing. Each of the two callers gives a type of its own, and so has a copy of its own:
+    // a function of this size is inlined only where it has one caller.
+    fn base_in_order<'a, Caller>(self, text: &'a [u8]) -> Option<(Self, &'a [u8])>
         requires { HasNoValue version self }
-        ensures whole { IfSome result (IsWhole version (version.front self) text.now) }
-        ensures base { IfSome result has_base };
+        ensures { IfSome result (λ read. IsBaseTo version base_count has_base (version.front self)
+            text.now read.0 read.1.now) };
 
-    /// This vector without values with the components with which a text begins in printing order, and
-    /// what follows them. How many these are is for speed alone.
-    fn begun_in_order<'a>(self, text: &'a [u8]) -> Option<(Self, &'a [u8])>
-        requires { HasNoValue version self }
-        ensures { IfSome result
-            (λ begun. IsInOrderTo version (version.front self) text.now begun.0 begun.1.now) };
+    /// Puts the optional metrics with which a text begins into the vector, and gives what follows them.
+    fn put_others<'a>(&mut self, text: &'a [u8]) -> &'a [u8]
+        ensures text { text.now ≡ texts_with_slash version self.new
+            (drop base_count version.printed) ++ result.now }
+        ensures base { texts_with_slash version self.new (take base_count version.printed)
+            ≡ texts_with_slash version self.old (take base_count version.printed) }
+        ensures front { version.front self.new ≡ version.front self.old }
+        ensures missing { first_missing version self.new ≡ first_missing version self.old }
+        ensures has_base { has_base self.old → has_base self.new };
 
     /// The metric that a refused value is reported under.
     fn reported_kind(kind: Self::Kind) -> Self::Kind

@@ -1,6 +1,6 @@
 -- What the private walk over the components does at each step. What callers rely on is in
 -- Version and Refusal.
-use Rattle.std.specs.Prelude.{◌≡◌, ◌≢◌, ℕ, ◌⊎◌, List, [], ◌∷◌, ◌++◌, length, map, Option, Some, None, IsSome, Result, Ok, IfOk, OnOk, IfErr, OnErr, IsErrAnd, Contains, slice_get, find, is_none, ⊤, if◌then◌else◌, bytes_eq}
+use Rattle.std.specs.Prelude.{◌≡◌, ◌≢◌, ℕ, ◌⊎◌, List, [], ◌∷◌, ◌++◌, length, map, drop, Option, Some, None, IsSome, Result, Ok, IfOk, OnOk, IfErr, OnErr, IsErrAnd, Contains, slice_get, find, is_none, ⊤, if◌then◌else◌, bytes_eq}
 use Rattle.std.specs.List.{All, range_with_len, sum_by}
 use Rattle.std.specs.Borrow.{Bor}
 use Rattle.std.specs.Str.{IsUtf8}
@@ -141,6 +141,14 @@ pub record HasReadTo {V K : Type 0} (version : Version V K) (parts left : List (
 pub record IsInOrderTo {V K : Type 0} (version : Version V K) (front : List (List ℕ)) (text : List ℕ) (v : V) (rest : List ℕ) : Type 0 where
   pub is : slash ∷ text ≡ texts_with_slash version v version.printed ++ rest
   pub front_is : version.front v ≡ front
+
+-- a text of components begins with those of the vector, as above, which lacks no mandatory metric, has its base metrics, and
+-- has no others
+pub record IsBaseTo {V K : Type 0} (version : Version V K) (base_count : ℕ) (HasBase : V → Type 0) (front : List (List ℕ)) (text : List ℕ) (v : V) (rest : List ℕ) : Type 0 where
+  pub in_order : IsInOrderTo version front text v rest
+  pub present : first_missing version v ≡ None
+  pub has_base : HasBase v
+  pub bare : texts_with_slash version v (drop base_count version.printed) ≡ []
 
 -- all of the text is the components of the vector, in printing order, which lacks no mandatory metric
 pub record IsWhole {V K : Type 0} (version : Version V K) (front : List (List ℕ)) (text : List ℕ) (v : V) : Type 0 where

@@ -1,49 +1,24 @@
-//! How a text is read whose components are in printing order, each as it is printed: it is gone
-//! through once, with no cutting and no searching. From where it is in another order on it is read
-//! by the walk over its components, for which `reading` puts them one by one.
+//! What reading in printing order has of its own: the first three metrics, of which the first has no slash
+//! before it, and values of one to three letters. A text is gone through once, with no cutting and no
+//! searching.
 
-ghost use Rattle.std.specs.Prelude.{◌≡◌, IfSome, ◌∷◌, ◌++◌, ⊤};
+ghost use Rattle.std.specs.Prelude.{◌≡◌, IfSome, ◌∷◌, ◌++◌};
 ghost use Rattle.cvss_base.specs.Text.{slash};
 ghost use Rattle.cvss_base.specs.V2Types.{name_of};
 ghost use Rattle.cvss_text.specs.private.Values.{shown};
 ghost use Rattle.cvss_base.specs.declared.v2.MetricType.TheVariants.{AC, AV, Au};
 ghost use Rattle.cvss_metric.specs.v2.Table.{metric_component, spelling_of};
-ghost use Rattle.cvss_v2.specs.Vector.{v2};
 
 use crate::vector::Vector;
+use cvss_metric::v2::MetricValue;
 use cvss_metric::v2::base::{AccessComplexity, AccessVector, Authentication};
-use cvss_metric::v2::{MetricType, MetricValue};
 use cvss_text::fast_path::{after_three, put_read, rest_after_name};
-use cvss_text::in_order::InOrder;
 use cvss_text::values::{letter_in_order, two_in_order};
-
-impl InOrder for Vector {
-    type Kind = MetricType;
-
-    ghost version = { v2 };
-
-    ghost has_base = { λ _. ⊤ };
-
-    ghost base_count = { 6 };
-
-    // A call of its own keeps the vector in memory, where each metric is stored once.
-    #[inline(never)]
-    fn put_others<'a>(&mut self, text: &'a [u8]) -> &'a [u8] {
-        let text = put_value(&mut self.e, text);
-        let text = put_value(&mut self.rl, text);
-        let text = put_value(&mut self.rc, text);
-        let text = put_value(&mut self.cdp, text);
-        let text = put_value(&mut self.td, text);
-        let text = put_value(&mut self.cr, text);
-        let text = put_value(&mut self.ir, text);
-        put_value(&mut self.ar, text)
-    }
-}
 
 /// Puts the value of a metric into its place, if a text begins with a slash and its component, and
 /// gives what follows that; else no value, and the text.
 #[inline(always)]
-fn put_value<'a, M: MetricValue>(place: &mut Option<M>, text: &'a [u8]) -> &'a [u8]
+pub(super) fn put_value<'a, M: MetricValue>(place: &mut Option<M>, text: &'a [u8]) -> &'a [u8]
     ensures { text.now ≡ shown (name_of M.KIND) (λ value. spelling_of M.KIND (M.value value)) place.new
         ++ result.now }
 {

@@ -9,12 +9,11 @@ ghost use Rattle.cvss_v2.specs.Vector.{v2, value_at};
 ghost use Rattle.cvss_v2.specs.private.VectorLaws.{with_value, v2_laws};
 
 use super::cutting::cut_named;
-use super::in_order::first_three_in_order;
+use super::in_order::{first_three_in_order, put_value};
 use crate::each_metric;
 use crate::vector::Vector;
 use cvss_base::Error;
 use cvss_metric::v2::{MetricType, MetricValue};
-use cvss_text::in_order::{whole, with_others};
 use cvss_text::refusing::Refused;
 use cvss_text::values::{Spells, three_in_order};
 use cvss_text::walk::{ComponentError, Components};
@@ -29,6 +28,8 @@ impl Components for Vector {
     ghost version = { v2 };
 
     ghost has_base = { λ _. ⊤ };
+
+    ghost base_count = { 6 };
 
     ghost version_laws = { v2_laws };
 
@@ -56,7 +57,7 @@ impl Components for Vector {
     }
 
     #[inline(always)]
-    fn whole_in_order(self, text: &[u8]) -> Option<Vector> {
+    fn base_in_order<'a, Caller>(self, text: &'a [u8]) -> Option<(Vector, &'a [u8])> {
         // No six base metrics are shorter, so their lengths are compared once.
         if text.len() < 26 {
             return None;
@@ -72,29 +73,20 @@ impl Components for Vector {
             a: Some(a),
             ..self
         };
-        whole(base, text)
+        Some((base, text))
     }
 
-    // Where not all are in order, the first three are read again: kept, they would cost the others more.
+    // A call of its own keeps the vector in memory, where each metric is stored once.
     #[inline(never)]
-    fn begun_in_order<'a>(self, text: &'a [u8]) -> Option<(Vector, &'a [u8])> {
-        let (av, ac, au, text) = first_three_in_order(text)?;
-        let begun = Vector {
-            av: Some(av),
-            ac: Some(ac),
-            au: Some(au),
-            ..self
-        };
-        let Some((c, i, a, text)) = three_in_order::<Vector, _, _, _>(text) else {
-            return Some((begun, text));
-        };
-        let base = Vector {
-            c: Some(c),
-            i: Some(i),
-            a: Some(a),
-            ..begun
-        };
-        Some(with_others(base, text))
+    fn put_others<'a>(&mut self, text: &'a [u8]) -> &'a [u8] {
+        let text = put_value(&mut self.e, text);
+        let text = put_value(&mut self.rl, text);
+        let text = put_value(&mut self.rc, text);
+        let text = put_value(&mut self.cdp, text);
+        let text = put_value(&mut self.td, text);
+        let text = put_value(&mut self.cr, text);
+        let text = put_value(&mut self.ir, text);
+        put_value(&mut self.ar, text)
     }
 
     #[inline(always)]

@@ -1,44 +1,15 @@
-//! How a text is read whose components are in printing order, each as it is printed: it is gone
-//! through once, with no cutting and no searching. From where it is in another order or case on it
-//! is read by the walk over its components, for which `reading` puts them one by one.
+//! What reading in printing order has of its own: the first four metrics, of which the first has no slash
+//! before it. A text is gone through once, with no cutting and no searching.
 
-ghost use Rattle.std.specs.Prelude.{◌≡◌, IfSome, ◌∷◌, ◌++◌, None};
+ghost use Rattle.std.specs.Prelude.{◌≡◌, IfSome, ◌∷◌, ◌++◌};
 ghost use Rattle.cvss_base.specs.Text.{slash};
 ghost use Rattle.cvss_base.specs.declared.v3.MetricType.TheVariants.{AC, AV, PR, UI};
 ghost use Rattle.cvss_metric.specs.v3.Table.{metric_component, spelling_of};
-ghost use Rattle.cvss_v3.specs.Complete.{first_missing_base};
-ghost use Rattle.cvss_v3.specs.Vector.{v3};
 
 use crate::vector::Vector;
-use cvss_metric::v3::MetricType;
 use cvss_metric::v3::base::{AttackComplexity, AttackVector, PrivilegesRequired, UserInteraction};
 use cvss_text::fast_path::after_three;
-use cvss_text::in_order::InOrder;
-use cvss_text::values::{letter_in_order, put_value, three_in_order};
-
-/// Puts the values of these metrics one after another, and gives what follows them.
-macro_rules! put_each {
-    ($vector:ident, $text:ident: $($field:ident)*) => {{
-        $(let $text = put_value::<Vector, _>(&mut $vector.$field, $text);)*
-        $text
-    }};
-}
-
-impl InOrder for Vector {
-    type Kind = MetricType;
-
-    ghost version = { v3 };
-
-    ghost has_base = { λ vector. first_missing_base vector ≡ None };
-
-    ghost base_count = { 8 };
-
-    // A call of its own keeps the vector in memory, where each metric is stored once.
-    #[inline(never)]
-    fn put_others<'a>(&mut self, text: &'a [u8]) -> &'a [u8] {
-        put_each!(self, text: e rl rc cr ir ar mav mac mpr mui ms mc mi ma)
-    }
-}
+use cvss_text::values::{letter_in_order, three_in_order};
 
 /// The values of the first four metrics, and what follows their components in a text.
 type First<'a> = (

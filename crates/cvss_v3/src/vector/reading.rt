@@ -16,11 +16,10 @@ use crate::vector::Vector;
 use cvss_base::Error;
 use cvss_metric::v3::{MetricType, MetricValue, reported_kind};
 use cvss_text::front::Prefixed;
-use cvss_text::in_order::{whole, with_others};
 use cvss_text::refusing::Refused;
 use cvss_text::values::{Spells, four_in_order};
 use cvss_text::walk::{ComponentError, Components};
-use cvss_text::{fill_at, kinds};
+use cvss_text::{fill_at, kinds, put_each};
 
 /// The metrics in printing order (v3.1 specification, section 6).
 const PRINTED: &[MetricType] = &each_metric!(kinds!(MetricType));
@@ -31,6 +30,8 @@ impl Components for Vector {
     ghost version = { v3 };
 
     ghost has_base = { λ vector. first_missing_base vector ≡ None };
+
+    ghost base_count = { 8 };
 
     ghost version_laws = { v3_laws };
 
@@ -59,7 +60,7 @@ impl Components for Vector {
     }
 
     #[inline(always)]
-    fn whole_in_order(self, text: &[u8]) -> Option<Vector> {
+    fn base_in_order<'a, Caller>(self, text: &'a [u8]) -> Option<(Vector, &'a [u8])> {
         // No eight base metrics are shorter, so their lengths are compared once.
         if text.len() < 35 {
             return None;
@@ -77,31 +78,13 @@ impl Components for Vector {
             a: Some(a),
             ..self
         };
-        whole(base, text)
+        Some((base, text))
     }
 
-    // Where not all are in order, these four are read again: kept, they would cost the others more.
+    // A call of its own keeps the vector in memory, where each metric is stored once.
     #[inline(never)]
-    fn begun_in_order<'a>(self, text: &'a [u8]) -> Option<(Vector, &'a [u8])> {
-        let (av, ac, pr, ui, text) = first_four_in_order(text)?;
-        let begun = Vector {
-            av: Some(av),
-            ac: Some(ac),
-            pr: Some(pr),
-            ui: Some(ui),
-            ..self
-        };
-        let Some((s, c, i, a, text)) = four_in_order::<Vector, _, _, _, _>(text) else {
-            return Some((begun, text));
-        };
-        let base = Vector {
-            s: Some(s),
-            c: Some(c),
-            i: Some(i),
-            a: Some(a),
-            ..begun
-        };
-        Some(with_others(base, text))
+    fn put_others<'a>(&mut self, text: &'a [u8]) -> &'a [u8] {
+        put_each!(self: Vector, text: e rl rc cr ir ar mav mac mpr mui ms mc mi ma)
     }
 
     fn reported_kind(kind: MetricType) -> MetricType {

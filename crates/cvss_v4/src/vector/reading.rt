@@ -11,18 +11,18 @@ ghost use Rattle.cvss_v4.specs.private.TableLaws.{width};
 ghost use Rattle.cvss_v4.specs.private.VectorLaws.{v4_laws, v4_front_laws};
 
 use super::cutting::{named_by_one, named_by_three, named_by_two};
-use super::in_order::first_three_in_order;
+use super::in_order::{first_three_in_order, urgency_in_order};
 use crate::each_metric;
 use crate::laws::vectors_are_their_values;
 use crate::vector::Vector;
 use cvss_base::Error;
 use cvss_metric::v4::{MetricType, MetricValue};
+use cvss_text::fast_path::put_read;
 use cvss_text::front::Prefixed;
-use cvss_text::in_order::{whole, with_others};
 use cvss_text::refusing::Refused;
 use cvss_text::values::{Spells, three_in_order, two_in_order};
 use cvss_text::walk::{ComponentError, Components};
-use cvss_text::{fill_at, kinds};
+use cvss_text::{fill_at, kinds, put_each};
 
 /// The metrics in printing order (v4.0 specification, section 7).
 const PRINTED: &[MetricType] = &each_metric!(kinds!(MetricType));
@@ -33,6 +33,8 @@ impl Components for Vector {
     ghost version = { v4 };
 
     ghost has_base = { λ _. ⊤ };
+
+    ghost base_count = { 11 };
 
     ghost version_laws = { v4_laws };
 
@@ -62,7 +64,7 @@ impl Components for Vector {
     }
 
     #[inline(always)]
-    fn whole_in_order(self, text: &[u8]) -> Option<Vector> {
+    fn base_in_order<'a, Caller>(self, text: &'a [u8]) -> Option<(Vector, &'a [u8])> {
         // No eleven base metrics are shorter, so their lengths are compared once.
         if text.len() < 54 {
             return None;
@@ -85,38 +87,15 @@ impl Components for Vector {
             sa: Some(sa),
             ..self
         };
-        whole(base, text)
+        Some((base, text))
     }
 
-    // Where not all are in order, the first five are read again: kept, they would cost the others more.
+    // A call of its own keeps the vector in memory, where each metric is stored once.
     #[inline(never)]
-    fn begun_in_order<'a>(self, text: &'a [u8]) -> Option<(Vector, &'a [u8])> {
-        let (av, ac, at, text) = first_three_in_order(text)?;
-        let (pr, ui, text) = two_in_order::<Vector, _, _>(text)?;
-        let begun = Vector {
-            av: Some(av),
-            ac: Some(ac),
-            at: Some(at),
-            pr: Some(pr),
-            ui: Some(ui),
-            ..self
-        };
-        let Some((vc, vi, va, rest)) = three_in_order::<Vector, _, _, _>(text) else {
-            return Some((begun, text));
-        };
-        let Some((sc, si, sa, rest)) = three_in_order::<Vector, _, _, _>(rest) else {
-            return Some((begun, text));
-        };
-        let base = Vector {
-            vc: Some(vc),
-            vi: Some(vi),
-            va: Some(va),
-            sc: Some(sc),
-            si: Some(si),
-            sa: Some(sa),
-            ..begun
-        };
-        Some(with_others(base, rest))
+    fn put_others<'a>(&mut self, text: &'a [u8]) -> &'a [u8] {
+        let text =
+            put_each!(self: Vector, text: e cr ir ar mav mac mat mpr mui mvc mvi mva msc msi msa s au r v re);
+        put_read(&mut self.u, urgency_in_order(text), text)
     }
 
     fn reported_kind(kind: MetricType) -> MetricType {

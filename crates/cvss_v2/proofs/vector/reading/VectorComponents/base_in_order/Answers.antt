@@ -1,0 +1,9 @@
+use Rattle.std.proofs.Common.{refl}
+use Rattle.cvss_v2.specs.Vector.{v2}
+use Rattle.cvss_text.proofs.InOrderLemmas.{IsBaseTo-turns}
+use Rattle.cvss_v2.specs.private.VectorLaws.{without_values}
+use Rattle.cvss_v2.proofs.vector.reading.VectorComponents.base_in_order.Goals as goal
+
+pub returns : goal.returns
+returns g c =
+    rw (without_values c.args.self c.requires) (IsBaseTo-turns v2 6 (rw (c.in_ok-av.ensures, c.in_ok-c.ensures) refl) refl refl tt refl)

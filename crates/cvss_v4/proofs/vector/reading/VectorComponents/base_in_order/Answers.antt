@@ -1,0 +1,9 @@
+use Rattle.std.proofs.Common.{refl}
+use Rattle.cvss_v4.specs.Vector.{v4}
+use Rattle.cvss_text.proofs.InOrderLemmas.{IsBaseTo-turns}
+use Rattle.cvss_v4.specs.private.VectorLaws.{without_values}
+use Rattle.cvss_v4.proofs.vector.reading.VectorComponents.base_in_order.Goals as goal
+
+pub returns : goal.returns
+returns g c =
+    rw (without_values c.args.self c.requires) (IsBaseTo-turns v4 11 (rw (c.in_ok-av.ensures, c.in_ok-pr.ensures, c.in_ok-vc.ensures, c.in_ok-sc.ensures) refl) refl refl tt refl)
