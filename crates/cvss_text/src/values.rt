@@ -68,46 +68,8 @@ pub fn put_value<'a, V: Spells<M>, M: Copy>(place: &mut Option<M>, text: &'a [u8
     put_read(place, component_in_order::<V, M>(text), text)
 }
 
-/// The values of four metrics, where a text begins with a slash and the component of each, and what
+/// The values of two metrics, where a text begins with a slash and the component of each, and what
 /// follows them.
-#[inline(always)]
-pub fn four_in_order<
-    V: Spells<K> + Spells<L> + Spells<M> + Spells<N>,
-    K: Copy,
-    L: Copy,
-    M: Copy,
-    N: Copy,
->(text: &[u8]) -> Option<(K, L, M, N, &[u8])>
-    ensures { IfSome result (λ read. text.now
-        ≡ slash ∷ (component ⟦<V as Spells<K>>⟧.metric (⟦<V as Spells<K>>⟧.spelling read.0)
-        ++ (slash ∷ (component ⟦<V as Spells<L>>⟧.metric (⟦<V as Spells<L>>⟧.spelling read.1)
-        ++ (slash ∷ (component ⟦<V as Spells<M>>⟧.metric (⟦<V as Spells<M>>⟧.spelling read.2)
-        ++ (slash ∷ (component ⟦<V as Spells<N>>⟧.metric (⟦<V as Spells<N>>⟧.spelling read.3)
-        ++ read.4.now)))))))) }
-{
-    let (first, text) = component_in_order::<V, K>(text)?;
-    let (second, third, fourth, text) = three_in_order::<V, L, M, N>(text)?;
-    Some((first, second, third, fourth, text))
-}
-
-/// The values of three metrics, where a text begins with a slash and the component of each, and what
-/// follows them.
-#[inline(always)]
-pub fn three_in_order<V: Spells<K> + Spells<L> + Spells<M>, K: Copy, L: Copy, M: Copy>(
-    text: &[u8],
-) -> Option<(K, L, M, &[u8])>
-    ensures { IfSome result (λ read. text.now
-        ≡ slash ∷ (component ⟦<V as Spells<K>>⟧.metric (⟦<V as Spells<K>>⟧.spelling read.0)
-        ++ (slash ∷ (component ⟦<V as Spells<L>>⟧.metric (⟦<V as Spells<L>>⟧.spelling read.1)
-        ++ (slash ∷ (component ⟦<V as Spells<M>>⟧.metric (⟦<V as Spells<M>>⟧.spelling read.2)
-        ++ read.3.now)))))) }
-{
-    let (first, second, text) = two_in_order::<V, K, L>(text)?;
-    let (third, text) = component_in_order::<V, M>(text)?;
-    Some((first, second, third, text))
-}
-
-/// The values of two metrics, in the same way.
 #[inline(always)]
 pub fn two_in_order<V: Spells<K> + Spells<L>, K: Copy, L: Copy>(
     text: &[u8],
@@ -125,7 +87,7 @@ pub fn two_in_order<V: Spells<K> + Spells<L>, K: Copy, L: Copy>(
 /// The value of a metric that a letter spells, where a text begins with a slash and its component, and
 /// what is after that.
 #[inline(always)]
-fn component_in_order<V: Spells<M>, M: Copy>(text: &[u8]) -> Option<(M, &[u8])>
+pub fn component_in_order<V: Spells<M>, M: Copy>(text: &[u8]) -> Option<(M, &[u8])>
     ensures { IfSome result
         (λ read. text.now ≡ slash ∷ (component V.metric (V.spelling read.0) ++ read.1.now)) }
 {

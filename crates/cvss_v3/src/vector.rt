@@ -4,7 +4,6 @@ ghost use Rattle.std.specs.Prelude.{◌≡◌, ◌↔◌, IsTrue, IfSome, IsSome
 
 mod cutting;
 mod explanation;
-mod in_order;
 mod printing;
 mod reading;
 mod scores;

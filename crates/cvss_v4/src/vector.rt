@@ -4,7 +4,6 @@ ghost use Rattle.std.specs.Prelude.{◌≡◌, ◌↔◌, IsTrue, IfSome, IsSome
 
 mod cutting;
 mod groups;
-mod in_order;
 mod merging;
 mod overriding;
 mod printing;

@@ -1,19 +1,15 @@
-//! What reading in printing order has of its own: the first three metrics, of which the first has no slash
-//! before it, and values of one to three letters. A text is gone through once, with no cutting and no
-//! searching.
+//! How the values of a metric, of one to three letters, are read in a text whose components are in printing
+//! order.
 
-ghost use Rattle.std.specs.Prelude.{◌≡◌, IfSome, ◌∷◌, ◌++◌};
-ghost use Rattle.cvss_base.specs.Text.{slash};
+ghost use Rattle.std.specs.Prelude.{◌≡◌, IfSome, ◌++◌};
 ghost use Rattle.cvss_base.specs.V2Types.{name_of};
 ghost use Rattle.cvss_text.specs.private.Values.{shown};
-ghost use Rattle.cvss_base.specs.declared.v2.MetricType.TheVariants.{AC, AV, Au};
-ghost use Rattle.cvss_metric.specs.v2.Table.{metric_component, spelling_of};
+ghost use Rattle.cvss_metric.specs.v2.Table.{spelling_of};
 
 use crate::vector::Vector;
 use cvss_metric::v2::MetricValue;
-use cvss_metric::v2::base::{AccessComplexity, AccessVector, Authentication};
-use cvss_text::fast_path::{after_three, put_read, rest_after_name};
-use cvss_text::values::{letter_in_order, two_in_order};
+use cvss_text::fast_path::{put_read, rest_after_name};
+use cvss_text::values::letter_in_order;
 
 /// Puts the value of a metric into its place, if a text begins with a slash and its component, and
 /// gives what follows that; else no value, and the text.
@@ -42,19 +38,4 @@ fn value_in_order<M: MetricValue>(text: &[u8]) -> Option<(M, &[u8])>
         [_, _, _, ..] => text.split_at(3),
     };
     Some((M::read_bytes(value)?, rest))
-}
-
-/// The values of the first three metrics, where a text begins with their components, and what
-/// follows these.
-#[inline(always)]
-pub(super) fn first_three_in_order(
-    text: &[u8],
-) -> Option<(AccessVector, AccessComplexity, Authentication, &[u8])>
-    ensures { IfSome result (λ read. text.now ≡ metric_component AV read.0
-        ++ (slash ∷ (metric_component AC read.1
-        ++ (slash ∷ (metric_component Au read.2 ++ read.3.now))))) }
-{
-    let (av, text) = letter_in_order::<Vector, _>(after_three(text, *b"AV:")?)?;
-    let (ac, au, text) = two_in_order::<Vector, _, _>(text)?;
-    Some((av, ac, au, text))
 }

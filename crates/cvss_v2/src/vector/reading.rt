@@ -9,13 +9,14 @@ ghost use Rattle.cvss_v2.specs.Vector.{v2, value_at};
 ghost use Rattle.cvss_v2.specs.private.VectorLaws.{with_value, v2_laws};
 
 use super::cutting::cut_named;
-use super::in_order::{first_three_in_order, put_value};
+use super::in_order::put_value;
 use crate::each_metric;
 use crate::vector::Vector;
 use cvss_base::Error;
 use cvss_metric::v2::{MetricType, MetricValue};
+use cvss_text::fast_path::after_three;
 use cvss_text::refusing::Refused;
-use cvss_text::values::{Spells, three_in_order};
+use cvss_text::values::{Spells, component_in_order, letter_in_order, two_in_order};
 use cvss_text::walk::{ComponentError, Components};
 use cvss_text::{fill_at, kinds};
 
@@ -62,8 +63,10 @@ impl Components for Vector {
         if text.len() < 26 {
             return None;
         }
-        let (av, ac, au, text) = first_three_in_order(text)?;
-        let (c, i, a, text) = three_in_order::<Vector, _, _, _>(text)?;
+        let (av, text) = letter_in_order::<Vector, _>(after_three(text, *b"AV:")?)?;
+        let (ac, au, text) = two_in_order::<Vector, _, _>(text)?;
+        let (c, i, text) = two_in_order::<Vector, _, _>(text)?;
+        let (a, text) = component_in_order::<Vector, _>(text)?;
         let base = Vector {
             av: Some(av),
             ac: Some(ac),

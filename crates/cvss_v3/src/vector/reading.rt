@@ -10,14 +10,14 @@ ghost use Rattle.cvss_v3.specs.Vector.{v3, value_at};
 ghost use Rattle.cvss_v3.specs.private.VectorLaws.{with_value, v3_laws, v3_front_laws};
 
 use super::cutting::{named_by_one, named_by_three, named_by_two};
-use super::in_order::first_four_in_order;
 use crate::each_metric;
 use crate::vector::Vector;
 use cvss_base::Error;
 use cvss_metric::v3::{MetricType, MetricValue, reported_kind};
+use cvss_text::fast_path::after_three;
 use cvss_text::front::Prefixed;
 use cvss_text::refusing::Refused;
-use cvss_text::values::{Spells, four_in_order};
+use cvss_text::values::{Spells, component_in_order, letter_in_order, two_in_order};
 use cvss_text::walk::{ComponentError, Components};
 use cvss_text::{fill_at, kinds, put_each};
 
@@ -65,8 +65,11 @@ impl Components for Vector {
         if text.len() < 35 {
             return None;
         }
-        let (av, ac, pr, ui, text) = first_four_in_order(text)?;
-        let (s, c, i, a, text) = four_in_order::<Vector, _, _, _, _>(text)?;
+        let (av, text) = letter_in_order::<Vector, _>(after_three(text, *b"AV:")?)?;
+        let (ac, pr, text) = two_in_order::<Vector, _, _>(text)?;
+        let (ui, s, text) = two_in_order::<Vector, _, _>(text)?;
+        let (c, i, text) = two_in_order::<Vector, _, _>(text)?;
+        let (a, text) = component_in_order::<Vector, _>(text)?;
         let base = Vector {
             av: Some(av),
             ac: Some(ac),

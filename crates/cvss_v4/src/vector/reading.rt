@@ -1,26 +1,29 @@
 //! How a vector is read from a text, and the errors that say why a text is none.
 
-ghost use Rattle.std.specs.Prelude.{◌≡◌, true, ⊤};
+ghost use Rattle.std.specs.Prelude.{◌≡◌, ◌∷◌, ◌++◌, IfSome, true, ⊤};
+ghost use Rattle.cvss_base.specs.Text.{slash};
 ghost use Rattle.cvss_base.specs.V4Types.{name_of, v4_reason};
+ghost use Rattle.cvss_base.specs.declared.v4.MetricType.TheVariants.{U};
 ghost use Rattle.cvss_text.specs.private.Walk.{HasNoValue, IsFilled, IsPut};
 ghost use Rattle.cvss_base.specs.Version.{read, reading};
-ghost use Rattle.cvss_metric.specs.v4.Table.{spelling_at};
+ghost use Rattle.cvss_metric.specs.v4.Table.{metric_component, spelling_at};
+ghost use Rattle.cvss_metric.specs.v4.Table as rank;
 ghost use Rattle.cvss_v4.specs.Table.{value_at, values_of};
 ghost use Rattle.cvss_v4.specs.Vector.{v4};
 ghost use Rattle.cvss_v4.specs.private.TableLaws.{width};
 ghost use Rattle.cvss_v4.specs.private.VectorLaws.{v4_laws, v4_front_laws};
 
 use super::cutting::{named_by_one, named_by_three, named_by_two};
-use super::in_order::{first_three_in_order, urgency_in_order};
 use crate::each_metric;
 use crate::laws::vectors_are_their_values;
 use crate::vector::Vector;
 use cvss_base::Error;
+use cvss_metric::v4::supplemental::ProviderUrgency;
 use cvss_metric::v4::{MetricType, MetricValue};
-use cvss_text::fast_path::put_read;
+use cvss_text::fast_path::{after_three, put_read};
 use cvss_text::front::Prefixed;
 use cvss_text::refusing::Refused;
-use cvss_text::values::{Spells, three_in_order, two_in_order};
+use cvss_text::values::{Spells, letter_in_order, two_in_order};
 use cvss_text::walk::{ComponentError, Components};
 use cvss_text::{fill_at, kinds, put_each};
 
@@ -69,10 +72,12 @@ impl Components for Vector {
         if text.len() < 54 {
             return None;
         }
-        let (av, ac, at, text) = first_three_in_order(text)?;
+        let (av, text) = letter_in_order::<Vector, _>(after_three(text, *b"AV:")?)?;
+        let (ac, at, text) = two_in_order::<Vector, _, _>(text)?;
         let (pr, ui, text) = two_in_order::<Vector, _, _>(text)?;
-        let (vc, vi, va, text) = three_in_order::<Vector, _, _, _>(text)?;
-        let (sc, si, sa, text) = three_in_order::<Vector, _, _, _>(text)?;
+        let (vc, vi, text) = two_in_order::<Vector, _, _>(text)?;
+        let (va, sc, text) = two_in_order::<Vector, _, _>(text)?;
+        let (si, sa, text) = two_in_order::<Vector, _, _>(text)?;
         let base = Vector {
             av: Some(av),
             ac: Some(ac),
@@ -193,6 +198,23 @@ impl<M: MetricValue> Spells<M> for Vector {
     fn by_letter(letter: u8) -> Option<M> {
         M::read_letter(letter)
     }
+}
+
+/// The provider's urgency, if a slash and its component are the whole text, and nothing after it. Its
+/// spellings have several letters, and it is the last metric.
+#[inline(always)]
+fn urgency_in_order(text: &[u8]) -> Option<(ProviderUrgency, &[u8])>
+    ensures { IfSome result
+        (λ read. text.now ≡ slash ∷ (metric_component U (rank.U read.0) ++ read.1.now)) }
+{
+    if text.is_empty() {
+        return None;
+    }
+    let urgency = ProviderUrgency::values()
+        .iter()
+        .copied()
+        .find(|urgency| urgency.with_slash().as_bytes() == text)?;
+    Some((urgency, &[]))
 }
 
 /// What filling the place of a metric answered. A law: where all else is kept, the value is put into

@@ -6,4 +6,5 @@ use Rattle.cvss_v2.proofs.vector.reading.VectorComponents.base_in_order.Goals as
 
 pub returns : goal.returns
 returns g c =
-    rw (without_values c.args.self c.requires) (IsBaseTo-turns v2 6 (rw (c.in_ok-av.ensures, c.in_ok-c.ensures) refl) refl refl tt refl)
+    let read = rw (c.in_ok-av.ensures, c.in_ok-ac.ensures, c.in_ok-c.ensures, c.in_ok-a.ensures) at c.in_ok-after_three.ensures in
+    rw (without_values c.args.self c.requires) (IsBaseTo-turns v2 6 (rw read refl) refl refl tt refl)

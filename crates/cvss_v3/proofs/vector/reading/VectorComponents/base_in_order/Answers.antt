@@ -6,4 +6,5 @@ use Rattle.cvss_v3.proofs.vector.reading.VectorComponents.base_in_order.Goals as
 
 pub returns : goal.returns
 returns g c =
-    rw (without_values c.args.self c.requires) (IsBaseTo-turns v3 8 (rw (c.in_ok-av.ensures, c.in_ok-s.ensures) refl) refl refl refl refl)
+    let read = rw (c.in_ok-av.ensures, c.in_ok-ac.ensures, c.in_ok-ui.ensures, c.in_ok-c.ensures, c.in_ok-a.ensures) at c.in_ok-after_three.ensures in
+    rw (without_values c.args.self c.requires) (IsBaseTo-turns v3 8 (rw read refl) refl refl refl refl)

@@ -6,4 +6,5 @@ use Rattle.cvss_v4.proofs.vector.reading.VectorComponents.base_in_order.Goals as
 
 pub returns : goal.returns
 returns g c =
-    rw (without_values c.args.self c.requires) (IsBaseTo-turns v4 11 (rw (c.in_ok-av.ensures, c.in_ok-pr.ensures, c.in_ok-vc.ensures, c.in_ok-sc.ensures) refl) refl refl tt refl)
+    let read = rw (c.in_ok-av.ensures, c.in_ok-ac.ensures, c.in_ok-pr.ensures, c.in_ok-vc.ensures, c.in_ok-va.ensures, c.in_ok-si.ensures) at c.in_ok-after_three.ensures in
+    rw (without_values c.args.self c.requires) (IsBaseTo-turns v4 11 (rw read refl) refl refl tt refl)
