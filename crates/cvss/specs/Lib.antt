@@ -1,4 +1,5 @@
 pub mod Json
+pub mod MetricsV2
 pub mod laws
 pub use Rattle.cvss_any.specs.Answers
 pub use Rattle.cvss_any.specs.Bytes

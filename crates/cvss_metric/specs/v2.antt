@@ -1,3 +1,2 @@
-pub mod Metrics
 pub mod Table
 pub mod private

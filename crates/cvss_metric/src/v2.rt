@@ -5,4 +5,4 @@ pub mod environmental;
 mod metric;
 pub mod temporal;
 
-pub use metric::{Metric, MetricEnum, MetricType, MetricValue};
+pub use metric::{MetricType, MetricValue};

@@ -2,10 +2,10 @@
 
 use crate::kinds::{Asked, print_with, reported_at};
 use crate::shown::{print_error, print_value, show};
+use cvss::v2::{Metric, MetricType};
 use cvss_metric::v2::base::*;
 use cvss_metric::v2::environmental::*;
 use cvss_metric::v2::temporal::*;
-use cvss_metric::v2::{Metric, MetricType};
 use cvss_v2::each_metric;
 use std::io;
 

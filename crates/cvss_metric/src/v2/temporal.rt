@@ -1,11 +1,10 @@
 //! The temporal metrics (guide, section 2.2).
 
 ghost use Rattle.std.specs.Prelude.{Some};
-ghost use Rattle.std.proofs.Common.{rules};
 ghost use Rattle.cvss_base.specs.declared.v2.MetricType.TheVariants.{E, RL, RC};
 ghost use Rattle.cvss_metric.specs.v2.Table.{metric_component};
 
-use crate::v2::metric::{MetricEnum, MetricType, MetricValue};
+use crate::v2::metric::{MetricType, MetricValue};
 use std::fmt;
 
 /// How far techniques or code to exploit are developed (guide, section 2.2.1).
@@ -16,10 +15,6 @@ pub enum Exploitability {
     Functional,
     High,
     NotDefined,
-}
-
-impl MetricEnum for Exploitability {
-    ghost law = { Prim.search rules };
 }
 
 impl MetricValue for Exploitability {
@@ -63,10 +58,6 @@ pub enum RemediationLevel {
     Workaround,
     Unavailable,
     NotDefined,
-}
-
-impl MetricEnum for RemediationLevel {
-    ghost law = { Prim.search rules };
 }
 
 impl MetricValue for RemediationLevel {
@@ -115,10 +106,6 @@ pub enum ReportConfidence {
     Uncorroborated,
     Confirmed,
     NotDefined,
-}
-
-impl MetricEnum for ReportConfidence {
-    ghost law = { Prim.search rules };
 }
 
 impl MetricValue for ReportConfidence {

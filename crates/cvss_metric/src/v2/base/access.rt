@@ -1,11 +1,10 @@
 //! How an attacker gets at the component (guide, sections 2.1.1 to 2.1.3).
 
 ghost use Rattle.std.specs.Prelude.{Some};
-ghost use Rattle.std.proofs.Common.{rules};
 ghost use Rattle.cvss_base.specs.declared.v2.MetricType.TheVariants.{AV, AC, Au};
 ghost use Rattle.cvss_metric.specs.v2.Table.{metric_component};
 
-use crate::v2::metric::{MetricEnum, MetricType, MetricValue};
+use crate::v2::metric::{MetricType, MetricValue};
 use std::fmt;
 
 /// How near to the component the attacker has to be (guide, section 2.1.1).
@@ -14,10 +13,6 @@ pub enum AccessVector {
     Local,
     AdjacentNetwork,
     Network,
-}
-
-impl MetricEnum for AccessVector {
-    ghost law = { Prim.search rules };
 }
 
 impl MetricValue for AccessVector {
@@ -58,10 +53,6 @@ pub enum AccessComplexity {
     Low,
 }
 
-impl MetricEnum for AccessComplexity {
-    ghost law = { Prim.search rules };
-}
-
 impl MetricValue for AccessComplexity {
     const KIND: MetricType = MetricType::AC;
 
@@ -98,10 +89,6 @@ pub enum Authentication {
     Multiple,
     Single,
     None,
-}
-
-impl MetricEnum for Authentication {
-    ghost law = { Prim.search rules };
 }
 
 impl MetricValue for Authentication {

@@ -1,11 +1,10 @@
 //! What an attack does to the component (guide, sections 2.1.4 to 2.1.6).
 
 ghost use Rattle.std.specs.Prelude.{Some};
-ghost use Rattle.std.proofs.Common.{rules};
 ghost use Rattle.cvss_base.specs.declared.v2.MetricType.TheVariants.{C, I, A};
 ghost use Rattle.cvss_metric.specs.v2.Table.{metric_component};
 
-use crate::v2::metric::{MetricEnum, MetricType, MetricValue};
+use crate::v2::metric::{MetricType, MetricValue};
 use std::fmt;
 
 /// What an attack discloses (guide, section 2.1.4).
@@ -14,10 +13,6 @@ pub enum ConfidentialityImpact {
     None,
     Partial,
     Complete,
-}
-
-impl MetricEnum for ConfidentialityImpact {
-    ghost law = { Prim.search rules };
 }
 
 impl MetricValue for ConfidentialityImpact {
@@ -58,10 +53,6 @@ pub enum IntegrityImpact {
     Complete,
 }
 
-impl MetricEnum for IntegrityImpact {
-    ghost law = { Prim.search rules };
-}
-
 impl MetricValue for IntegrityImpact {
     const KIND: MetricType = MetricType::I;
 
@@ -98,10 +89,6 @@ pub enum AvailabilityImpact {
     None,
     Partial,
     Complete,
-}
-
-impl MetricEnum for AvailabilityImpact {
-    ghost law = { Prim.search rules };
 }
 
 impl MetricValue for AvailabilityImpact {

@@ -1,11 +1,10 @@
 //! How much may be lost, and how often (guide, sections 2.3.1 and 2.3.2).
 
 ghost use Rattle.std.specs.Prelude.{Some};
-ghost use Rattle.std.proofs.Common.{rules};
 ghost use Rattle.cvss_base.specs.declared.v2.MetricType.TheVariants.{CDP, TD};
 ghost use Rattle.cvss_metric.specs.v2.Table.{metric_component};
 
-use crate::v2::metric::{MetricEnum, MetricType, MetricValue};
+use crate::v2::metric::{MetricType, MetricValue};
 use std::fmt;
 
 /// What loss beside the system may come of it (guide, section 2.3.1).
@@ -17,10 +16,6 @@ pub enum CollateralDamagePotential {
     MediumHigh,
     High,
     NotDefined,
-}
-
-impl MetricEnum for CollateralDamagePotential {
-    ghost law = { Prim.search rules };
 }
 
 impl MetricValue for CollateralDamagePotential {
@@ -65,10 +60,6 @@ pub enum TargetDistribution {
     Medium,
     High,
     NotDefined,
-}
-
-impl MetricEnum for TargetDistribution {
-    ghost law = { Prim.search rules };
 }
 
 impl MetricValue for TargetDistribution {

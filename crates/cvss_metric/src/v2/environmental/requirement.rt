@@ -1,11 +1,10 @@
 //! What matters to the user (guide, section 2.3.3).
 
 ghost use Rattle.std.specs.Prelude.{Some};
-ghost use Rattle.std.proofs.Common.{rules};
 ghost use Rattle.cvss_base.specs.declared.v2.MetricType.TheVariants.{CR, IR, AR};
 ghost use Rattle.cvss_metric.specs.v2.Table.{metric_component};
 
-use crate::v2::metric::{MetricEnum, MetricType, MetricValue};
+use crate::v2::metric::{MetricType, MetricValue};
 use std::fmt;
 
 /// How much confidentiality matters to the user (guide, section 2.3.3).
@@ -15,10 +14,6 @@ pub enum ConfidentialityRequirement {
     Medium,
     High,
     NotDefined,
-}
-
-impl MetricEnum for ConfidentialityRequirement {
-    ghost law = { Prim.search rules };
 }
 
 impl MetricValue for ConfidentialityRequirement {
@@ -61,10 +56,6 @@ pub enum IntegrityRequirement {
     NotDefined,
 }
 
-impl MetricEnum for IntegrityRequirement {
-    ghost law = { Prim.search rules };
-}
-
 impl MetricValue for IntegrityRequirement {
     const KIND: MetricType = MetricType::IR;
 
@@ -103,10 +94,6 @@ pub enum AvailabilityRequirement {
     Medium,
     High,
     NotDefined,
-}
-
-impl MetricEnum for AvailabilityRequirement {
-    ghost law = { Prim.search rules };
 }
 
 impl MetricValue for AvailabilityRequirement {
