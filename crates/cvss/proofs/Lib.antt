@@ -1,1 +1,2 @@
 mod JsonLemmas
+mod ReadingLemmas

@@ -1,5 +1,7 @@
 pub mod Json
 pub mod MetricsV2
+pub mod MetricsV4
+pub mod ReadingV4
 pub mod laws
 pub use Rattle.cvss_any.specs.Answers
 pub use Rattle.cvss_any.specs.Bytes
@@ -52,8 +54,6 @@ pub use Rattle.cvss_score.specs.declared.v3.weights.Weights as WeightsTypeV3
 pub use Rattle.cvss_v3.specs.Vector as VectorV3
 pub use Rattle.cvss_v3.specs.VectorWeights as WeightsV3
 pub use Rattle.cvss_v3.specs.declared.vector.Vector as VectorTypeV3
-pub use Rattle.cvss_metric.specs.v4.Metrics as MetricsV4
-pub use Rattle.cvss_metric.specs.v4.Reading as ReadingV4
 pub use Rattle.cvss_metric.specs.v4.Table as TableV4
 pub use Rattle.cvss_score.specs.v4.AsSevere as AsSevereV4
 pub use Rattle.cvss_score.specs.v4.Classes as ClassesV4

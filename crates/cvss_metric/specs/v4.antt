@@ -1,3 +1,1 @@
-pub mod Metrics
-pub mod Reading
 pub mod Table

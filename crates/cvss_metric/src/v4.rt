@@ -6,4 +6,4 @@ mod metric;
 pub mod supplemental;
 pub mod threat;
 
-pub use metric::{Metric, MetricEnum, MetricType, MetricValue};
+pub use metric::{MetricType, MetricValue};

@@ -2,7 +2,7 @@
 
 use crate::kinds::{Asked, print_with, reported_at};
 use crate::shown::{print_error, show};
-use cvss_metric::v4::{Metric, MetricType, base, environmental, supplemental, threat};
+use cvss::v4::metric::{Metric, MetricType, base, environmental, supplemental, threat};
 use cvss_v4::each_metric;
 use std::io;
 

@@ -1,12 +1,13 @@
 //! The letters of effective values.
 
 ghost use Rattle.std.specs.Prelude.{◌≡◌, ◌≤◌, Some, length};
+ghost use Rattle.cvss_metric.specs.v4.Table.{spelling_at};
 ghost use Rattle.cvss_explain.specs.LettersV4.{safety_impact_letter, requirement_letter, letter_at, letter_member};
 
 use MetricType::*;
 use cvss_base::v4::MetricType;
 use cvss_json_write::{Members, Page, Scalar, put_member};
-use cvss_metric::v4::Metric;
+use cvss_metric::v4::MetricValue;
 use cvss_score::v4::scoring::effective::{
     Effective, ExploitMaturity, Requirement, SafetyImpact, SubsequentImpact, VulnerableImpact,
 };
@@ -56,11 +57,11 @@ fn letter(effective: &Effective, kind: MetricType) -> &'static str
     ensures short { length result.now ≤ 1 }
 {
     match kind {
-        MetricType::AV => effective.av.as_str(),
-        MetricType::AC => effective.ac.as_str(),
-        MetricType::AT => effective.at.as_str(),
-        MetricType::PR => effective.pr.as_str(),
-        MetricType::UI => effective.ui.as_str(),
+        MetricType::AV => spelling(effective.av),
+        MetricType::AC => spelling(effective.ac),
+        MetricType::AT => spelling(effective.at),
+        MetricType::PR => spelling(effective.pr),
+        MetricType::UI => spelling(effective.ui),
         MetricType::VC => impact!(effective.vc, VulnerableImpact),
         MetricType::VI => impact!(effective.vi, VulnerableImpact),
         MetricType::VA => impact!(effective.va, VulnerableImpact),
@@ -77,6 +78,14 @@ fn letter(effective: &Effective, kind: MetricType) -> &'static str
         MetricType::AR => requirement(effective.ar),
         _ => "",
     }
+}
+
+/// How a value of a metric is spelled in a vector.
+#[tactic(auto, using(cvss_base::proofs::WithSlashLemmas::after_colon))]
+fn spelling<M: MetricValue>(value: M) -> &'static str
+    ensures { result.now ≡ spelling_at M.KIND (M.rank value) }
+{
+    &value.with_slash()[M::KIND.name().len() + 2..]
 }
 
 /// The letter of SI or SA.

@@ -1,7 +1,7 @@
 -- Which texts are read alike.
-use Rattle.std.proofs.Common.{◌≡◌, ◌∷◌, [], ℕ, List, Option, None, Some, IfSome, find, inl, inr, refl, ap, sym, ◌∙◌, true, arith}
+use Rattle.std.proofs.Common.{◌≡◌, ◌∷◌, [], ℕ, List, Option, None, Some, IfSome, find, refl, ap, sym, ◌∙◌, true, arith}
 use Rattle.std.proofs.lemmas.Bool.Decides.{nat_tests}
-use Rattle.std.proofs.lemmas.Str.Ascii.{uppercase-uppercase, lowercase-uppercase}
+use Rattle.std.proofs.lemmas.Str.Ascii.{lowercase-uppercase}
 use Rattle.std.specs.Char.{to_ascii_uppercase, to_ascii_lowercase}
 use Rattle.std.proofs.lemmas.Slice.Eq.{bytes_eq-Decides}
 use Rattle.std.specs.Str.{str_eq_ignore_ascii_case, str_to_ascii_lowercase}
@@ -10,22 +10,12 @@ use Rattle.cvss_base.specs.Text.{uppercased}
 use Rattle.cvss_base.specs.declared.v4.MetricType.{MetricType}
 use Rattle.cvss_base.specs.declared.v4.MetricType.TheVariants.{AC}
 use Rattle.cvss_metric.proofs.SpellingLemmas.{differ}
-use Rattle.cvss_metric.specs.v4.Reading.{IsReading}
 use Rattle.cvss_metric.specs.v4.Table.{spellings_of}
 
 -- no two values of a metric are spelled alike
 pub spellings_differ : (kind : MetricType) → differ (spellings_of kind) ≡ true
 spellings_differ AC = refl
 spellings_differ _ = refl
-
-uppercased_twice : (text : List ℕ) → uppercased (uppercased text) ≡ uppercased text
-uppercased_twice [] = refl
-uppercased_twice (byte ∷ text) = rw (uppercase-uppercase byte) (rw (uppercased_twice text) refl)
-
--- a text that a value is read from is the value's spelling, in some case
-pub read_alike : (spelling text : List ℕ) → IsReading spelling text → uppercased spelling ≡ uppercased text
-read_alike spelling text (inl same) = ap uppercased same
-read_alike spelling text (inr same) = sym (uppercased_twice spelling) ∙ ap uppercased same
 
 lowered_uppercased : (text : List ℕ) → str_to_ascii_lowercase (uppercased text) ≡ str_to_ascii_lowercase text
 lowered_uppercased [] = refl

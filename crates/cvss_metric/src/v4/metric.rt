@@ -1,26 +1,19 @@
 //! What all metrics of CVSS v4.0 have in common.
 
-ghost use Rattle.std.specs.Prelude.{◌≡◌, ◌↔◌, [], ◌∷◌, ℕ, IsTrue, IfSome, IfOk, IfErr, Some, bytes_eq, map, slice_get, refl};
+ghost use Rattle.std.specs.Prelude.{◌≡◌, [], ◌∷◌, ℕ, IfSome, Some, bytes_eq, map, slice_get};
 ghost use Rattle.std.specs.Fmt.{WritesOnOk, WritesStyledOnOk};
 ghost use Rattle.std.specs.Str.{str_eq_ignore_ascii_case};
-ghost use Rattle.cvss_base.specs.Refusal.{BadValue};
 ghost use Rattle.cvss_base.specs.Text.{slash, uppercased};
-ghost use Rattle.cvss_base.specs.Reported.{Reports};
-ghost use Rattle.cvss_base.specs.V4Types.{v4_reason, name_of};
 ghost use Rattle.cvss_base.specs.declared.v4.MetricType.{MetricType};
-ghost use Rattle.cvss_metric.specs.v4.Metrics.{IsMetric};
-ghost use Rattle.cvss_metric.specs.v4.Reading.{IsReading};
 ghost use Rattle.cvss_metric.specs.v4.Table.{spelling_at, spellings_of, metric_component};
 
-use cvss_base::Error;
-use cvss_base::component::{is_uppercased_as, write_component};
+use cvss_base::component::write_component;
 pub use cvss_base::v4::MetricType;
-use std::alloc::Global;
 use std::fmt;
 
 /// What is in vectors as a component: how values are spelled, read from their spelling.
 pub trait MetricValue: Copy + 'static {
-    /// Which metric this is, the same as `Metric::TYPE`.
+    /// Which metric this is, the same as `cvss::v4::metric::Metric::TYPE`.
     const KIND: MetricType;
 
     ghost KIND: { MetricType };
@@ -74,97 +67,6 @@ pub trait MetricValue: Copy + 'static {
     }
 }
 
-/// An enum of the values that the specification gives for a metric, which are compared.
-// A trait of its own, so that the proof of code that reads or prints a vector loads no comparison.
-pub trait MetricEnum: MetricValue + Eq + Ord + Default + fmt::Debug + fmt::Display {
-    ghost law: { IsMetric Self.KIND Self.rank ⟦<Self as Default>⟧.is_default ⟦<Self as Ord>⟧.cmp
-        ⟦<Self as PartialEq>⟧.eq ⟦<Self as Clone>⟧.is_clone ⟦<Self as Clone>⟧.is_infallible };
-}
-
-/// A metric, as it is named and read.
-pub trait Metric: MetricEnum {
-    /// Which metric this is.
-    const TYPE: MetricType;
-
-    ghost TYPE: { MetricType };
-
-    /// The metric's abbreviation.
-    fn name() -> &'static str
-        ensures { result.now ≡ name_of TYPE }
-    {
-        Self::TYPE.name()
-    }
-
-    // The metric is that of the values.
-    ghost typed: { TYPE ≡ Self.KIND };
-
-    /// How the value is spelled in a vector.
-    final fn as_str(self) -> &'static str
-        ensures { result.now ≡ spelling_at Self.KIND (Self.rank self) }
-    {
-        &self.with_slash()[Self::KIND.name().len() + 2..]
-    }
-
-    /// The value that `read` gives for the text in upper case.
-    #[tactic(auto, using(crate::proofs::v4::ReadingLemmas::read_alike))]
-    final fn read_uppercased(text: &str) -> Option<Self>
-        ensures spelled { IfSome result
-            (λ metric. IsReading (spelling_at Self.KIND (Self.rank metric)) (uppercased text.now)) }
-        ensures read { (metric : Self)
-            → IsReading (spelling_at Self.KIND (Self.rank metric)) (uppercased text.now)
-            → result ≡ Some metric }
-    {
-        Self::read_bytes(text.as_bytes())
-    }
-
-    /// The value with this spelling, as it is printed or in upper case.
-    final fn read(text: &str) -> Option<Self>
-        ensures spelled { IfSome result
-            (λ metric. IsReading (spelling_at Self.KIND (Self.rank metric)) text.now) }
-        ensures read { (metric : Self) → IsReading (spelling_at Self.KIND (Self.rank metric)) text.now
-            → result ≡ Some metric }
-    {
-        let metric = Self::read_bytes(text.as_bytes())?;
-        if is_reading(metric.as_str(), text) {
-            Some(metric)
-        } else {
-            None
-        }
-    }
-
-    /// The value with this spelling, as it is printed or in upper case.
-    ///
-    /// # Errors
-    ///
-    /// `InvalidMetricV4` with the text where the metric has no such value.
-    final fn from_str(alloc: Global, text: &str) -> Result<Self, Error>
-        ensures spelled { IfOk result
-            (λ metric. IsReading (spelling_at Self.KIND (Self.rank metric)) text.now) }
-        ensures read { (metric : Self) → IsReading (spelling_at Self.KIND (Self.rank metric)) text.now
-            → result ≡ Ok metric }
-        ensures refused { IfErr result (Reports v4_reason (BadValue TYPE text.now)) }
-    {
-        match Self::read(text) {
-            Some(metric) => Ok(metric),
-            None => {
-                let value = String::from_str(alloc, text)?;
-                Err(Error::InvalidMetricV4 {
-                    metric_type: Self::TYPE,
-                    value,
-                })
-            }
-        }
-    }
-}
-
-impl<M: MetricEnum> Metric for M {
-    const TYPE: MetricType = M::KIND;
-
-    ghost TYPE = { M.KIND };
-
-    ghost typed = { refl };
-}
-
 /// How a value is spelled in a vector.
 #[inline(always)]
 fn spelling<M: MetricValue>(value: M) -> &'static [u8]
@@ -198,12 +100,4 @@ fn is_alike(text: &[u8], other: &[u8]) -> bool
         ([letter], [same]) => letter.to_ascii_lowercase() == same.to_ascii_lowercase(),
         _ => text.eq_ignore_ascii_case(other),
     }
-}
-
-/// Whether a text is a spelling as it is printed or in upper case, given that it is so in some case.
-fn is_reading(spelling: &str, text: &str) -> bool
-    requires { uppercased spelling.now ≡ uppercased text.now }
-    ensures { IsTrue result ↔ IsReading spelling.now text.now }
-{
-    spelling == text || is_uppercased_as(text.as_bytes(), text.as_bytes())
 }

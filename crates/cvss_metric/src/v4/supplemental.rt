@@ -2,14 +2,13 @@
 //! reach, and what comes of an attack, are in a file of their own.
 
 ghost use Rattle.std.specs.Prelude.{Some};
-ghost use Rattle.std.proofs.Common.{rules};
 ghost use Rattle.cvss_base.specs.declared.v4.MetricType.TheVariants as metric;
 ghost use Rattle.cvss_metric.specs.v4.Table as place;
 ghost use Rattle.cvss_metric.specs.v4.Table.{metric_component};
 
 mod consequence;
 
-use crate::v4::metric::{MetricEnum, MetricType, MetricValue};
+use crate::v4::metric::{MetricType, MetricValue};
 pub use consequence::{Automatable, Recovery, Safety, ValueDensity};
 use std::fmt;
 
@@ -42,10 +41,6 @@ impl MetricValue for VulnerabilityResponseEffort {
             Self::High => "/RE:H",
         }
     }
-}
-
-impl MetricEnum for VulnerabilityResponseEffort {
-    ghost law = { Prim.search rules };
 }
 
 impl fmt::Display for VulnerabilityResponseEffort {
@@ -91,10 +86,6 @@ impl MetricValue for ProviderUrgency {
             Self::Clear => "/U:Clear",
         }
     }
-}
-
-impl MetricEnum for ProviderUrgency {
-    ghost law = { Prim.search rules };
 }
 
 impl fmt::Display for ProviderUrgency {

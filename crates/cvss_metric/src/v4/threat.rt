@@ -1,12 +1,11 @@
 //! The threat metric (v4.0 specification, section 3).
 
 ghost use Rattle.std.specs.Prelude.{Some};
-ghost use Rattle.std.proofs.Common.{rules};
 ghost use Rattle.cvss_base.specs.declared.v4.MetricType.TheVariants as metric;
 ghost use Rattle.cvss_metric.specs.v4.Table as place;
 ghost use Rattle.cvss_metric.specs.v4.Table.{metric_component};
 
-use crate::v4::metric::{MetricEnum, MetricType, MetricValue};
+use crate::v4::metric::{MetricType, MetricValue};
 use std::fmt;
 
 /// How far attacks or code to exploit are known (v4.0 specification, section 3.1).
@@ -39,10 +38,6 @@ impl MetricValue for ExploitMaturity {
             Self::Attacked => "/E:A",
         }
     }
-}
-
-impl MetricEnum for ExploitMaturity {
-    ghost law = { Prim.search rules };
 }
 
 impl fmt::Display for ExploitMaturity {

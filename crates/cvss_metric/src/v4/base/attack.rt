@@ -2,12 +2,11 @@
 //! section 2.1).
 
 ghost use Rattle.std.specs.Prelude.{Some};
-ghost use Rattle.std.proofs.Common.{rules};
 ghost use Rattle.cvss_base.specs.declared.v4.MetricType.TheVariants as metric;
 ghost use Rattle.cvss_metric.specs.v4.Table as place;
 ghost use Rattle.cvss_metric.specs.v4.Table.{metric_component};
 
-use crate::v4::metric::{MetricEnum, MetricType, MetricValue};
+use crate::v4::metric::{MetricType, MetricValue};
 use std::fmt;
 
 /// How near to the vulnerable system the attacker has to be (v4.0 specification, section 2.1.1).
@@ -39,10 +38,6 @@ impl MetricValue for AttackVector {
             Self::Network => "/AV:N",
         }
     }
-}
-
-impl MetricEnum for AttackVector {
-    ghost law = { Prim.search rules };
 }
 
 impl fmt::Display for AttackVector {
@@ -83,10 +78,6 @@ impl MetricValue for AttackComplexity {
     }
 }
 
-impl MetricEnum for AttackComplexity {
-    ghost law = { Prim.search rules };
-}
-
 impl fmt::Display for AttackComplexity {
     ghost output = { λ value. Some (metric_component metric.AC (place.AC value)) };
 
@@ -123,10 +114,6 @@ impl MetricValue for AttackRequirements {
             Self::None => "/AT:N",
         }
     }
-}
-
-impl MetricEnum for AttackRequirements {
-    ghost law = { Prim.search rules };
 }
 
 impl fmt::Display for AttackRequirements {
@@ -168,10 +155,6 @@ impl MetricValue for PrivilegesRequired {
     }
 }
 
-impl MetricEnum for PrivilegesRequired {
-    ghost law = { Prim.search rules };
-}
-
 impl fmt::Display for PrivilegesRequired {
     ghost output = { λ value. Some (metric_component metric.PR (place.PR value)) };
 
@@ -209,10 +192,6 @@ impl MetricValue for UserInteraction {
             Self::None => "/UI:N",
         }
     }
-}
-
-impl MetricEnum for UserInteraction {
-    ghost law = { Prim.search rules };
 }
 
 impl fmt::Display for UserInteraction {

@@ -1,12 +1,11 @@
 //! What systems after the vulnerable one lose (v4.0 specification, section 2.2).
 
 ghost use Rattle.std.specs.Prelude.{Some};
-ghost use Rattle.std.proofs.Common.{rules};
 ghost use Rattle.cvss_base.specs.declared.v4.MetricType.TheVariants as metric;
 ghost use Rattle.cvss_metric.specs.v4.Table as place;
 ghost use Rattle.cvss_metric.specs.v4.Table.{metric_component};
 
-use crate::v4::metric::{MetricEnum, MetricType, MetricValue};
+use crate::v4::metric::{MetricType, MetricValue};
 use std::fmt;
 
 /// How much confidentiality systems after the vulnerable one lose (v4.0 specification, section
@@ -37,10 +36,6 @@ impl MetricValue for ConfidentialityImpactToTheSubsequentSystem {
             Self::High => "/SC:H",
         }
     }
-}
-
-impl MetricEnum for ConfidentialityImpactToTheSubsequentSystem {
-    ghost law = { Prim.search rules };
 }
 
 impl fmt::Display for ConfidentialityImpactToTheSubsequentSystem {
@@ -82,10 +77,6 @@ impl MetricValue for IntegrityImpactToTheSubsequentSystem {
     }
 }
 
-impl MetricEnum for IntegrityImpactToTheSubsequentSystem {
-    ghost law = { Prim.search rules };
-}
-
 impl fmt::Display for IntegrityImpactToTheSubsequentSystem {
     ghost output = { λ value. Some (metric_component metric.SI (place.SI value)) };
 
@@ -124,10 +115,6 @@ impl MetricValue for AvailabilityImpactToTheSubsequentSystem {
             Self::High => "/SA:H",
         }
     }
-}
-
-impl MetricEnum for AvailabilityImpactToTheSubsequentSystem {
-    ghost law = { Prim.search rules };
 }
 
 impl fmt::Display for AvailabilityImpactToTheSubsequentSystem {

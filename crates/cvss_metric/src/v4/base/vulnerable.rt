@@ -1,12 +1,11 @@
 //! What the vulnerable system loses (v4.0 specification, section 2.2).
 
 ghost use Rattle.std.specs.Prelude.{Some};
-ghost use Rattle.std.proofs.Common.{rules};
 ghost use Rattle.cvss_base.specs.declared.v4.MetricType.TheVariants as metric;
 ghost use Rattle.cvss_metric.specs.v4.Table as place;
 ghost use Rattle.cvss_metric.specs.v4.Table.{metric_component};
 
-use crate::v4::metric::{MetricEnum, MetricType, MetricValue};
+use crate::v4::metric::{MetricType, MetricValue};
 use std::fmt;
 
 /// How much confidentiality the vulnerable system loses (v4.0 specification, section 2.2.1).
@@ -36,10 +35,6 @@ impl MetricValue for ConfidentialityImpactToTheVulnerableSystem {
             Self::High => "/VC:H",
         }
     }
-}
-
-impl MetricEnum for ConfidentialityImpactToTheVulnerableSystem {
-    ghost law = { Prim.search rules };
 }
 
 impl fmt::Display for ConfidentialityImpactToTheVulnerableSystem {
@@ -81,10 +76,6 @@ impl MetricValue for IntegrityImpactToTheVulnerableSystem {
     }
 }
 
-impl MetricEnum for IntegrityImpactToTheVulnerableSystem {
-    ghost law = { Prim.search rules };
-}
-
 impl fmt::Display for IntegrityImpactToTheVulnerableSystem {
     ghost output = { λ value. Some (metric_component metric.VI (place.VI value)) };
 
@@ -122,10 +113,6 @@ impl MetricValue for AvailabilityImpactToTheVulnerableSystem {
             Self::High => "/VA:H",
         }
     }
-}
-
-impl MetricEnum for AvailabilityImpactToTheVulnerableSystem {
-    ghost law = { Prim.search rules };
 }
 
 impl fmt::Display for AvailabilityImpactToTheVulnerableSystem {

@@ -2,12 +2,11 @@
 //! environment (v4.0 specification, section 4.2).
 
 ghost use Rattle.std.specs.Prelude.{Some};
-ghost use Rattle.std.proofs.Common.{rules};
 ghost use Rattle.cvss_base.specs.declared.v4.MetricType.TheVariants as metric;
 ghost use Rattle.cvss_metric.specs.v4.Table as place;
 ghost use Rattle.cvss_metric.specs.v4.Table.{metric_component};
 
-use crate::v4::metric::{MetricEnum, MetricType, MetricValue};
+use crate::v4::metric::{MetricType, MetricValue};
 use std::fmt;
 
 /// What Attack Vector is in the user's own environment (v4.0 specification, section 4.2).
@@ -42,10 +41,6 @@ impl MetricValue for ModifiedAttackVector {
             Self::NotDefined => "/MAV:X",
         }
     }
-}
-
-impl MetricEnum for ModifiedAttackVector {
-    ghost law = { Prim.search rules };
 }
 
 impl fmt::Display for ModifiedAttackVector {
@@ -87,10 +82,6 @@ impl MetricValue for ModifiedAttackComplexity {
     }
 }
 
-impl MetricEnum for ModifiedAttackComplexity {
-    ghost law = { Prim.search rules };
-}
-
 impl fmt::Display for ModifiedAttackComplexity {
     ghost output = { λ value. Some (metric_component metric.MAC (place.MAC value)) };
 
@@ -128,10 +119,6 @@ impl MetricValue for ModifiedAttackRequirements {
             Self::None => "/MAT:N",
         }
     }
-}
-
-impl MetricEnum for ModifiedAttackRequirements {
-    ghost law = { Prim.search rules };
 }
 
 impl fmt::Display for ModifiedAttackRequirements {
@@ -175,10 +162,6 @@ impl MetricValue for ModifiedPrivilegesRequired {
     }
 }
 
-impl MetricEnum for ModifiedPrivilegesRequired {
-    ghost law = { Prim.search rules };
-}
-
 impl fmt::Display for ModifiedPrivilegesRequired {
     ghost output = { λ value. Some (metric_component metric.MPR (place.MPR value)) };
 
@@ -218,10 +201,6 @@ impl MetricValue for ModifiedUserInteraction {
             Self::None => "/MUI:N",
         }
     }
-}
-
-impl MetricEnum for ModifiedUserInteraction {
-    ghost law = { Prim.search rules };
 }
 
 impl fmt::Display for ModifiedUserInteraction {

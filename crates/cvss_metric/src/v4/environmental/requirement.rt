@@ -2,12 +2,11 @@
 //! 4.1).
 
 ghost use Rattle.std.specs.Prelude.{Some};
-ghost use Rattle.std.proofs.Common.{rules};
 ghost use Rattle.cvss_base.specs.declared.v4.MetricType.TheVariants as metric;
 ghost use Rattle.cvss_metric.specs.v4.Table as place;
 ghost use Rattle.cvss_metric.specs.v4.Table.{metric_component};
 
-use crate::v4::metric::{MetricEnum, MetricType, MetricValue};
+use crate::v4::metric::{MetricType, MetricValue};
 use std::fmt;
 
 /// How much confidentiality matters to the user's organisation (v4.0 specification, section 4.1).
@@ -39,10 +38,6 @@ impl MetricValue for ConfidentialityRequirements {
             Self::High => "/CR:H",
         }
     }
-}
-
-impl MetricEnum for ConfidentialityRequirements {
-    ghost law = { Prim.search rules };
 }
 
 impl fmt::Display for ConfidentialityRequirements {
@@ -86,10 +81,6 @@ impl MetricValue for IntegrityRequirements {
     }
 }
 
-impl MetricEnum for IntegrityRequirements {
-    ghost law = { Prim.search rules };
-}
-
 impl fmt::Display for IntegrityRequirements {
     ghost output = { λ value. Some (metric_component metric.IR (place.IR value)) };
 
@@ -129,10 +120,6 @@ impl MetricValue for AvailabilityRequirements {
             Self::High => "/AR:H",
         }
     }
-}
-
-impl MetricEnum for AvailabilityRequirements {
-    ghost law = { Prim.search rules };
 }
 
 impl fmt::Display for AvailabilityRequirements {

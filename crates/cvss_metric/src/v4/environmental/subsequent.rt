@@ -2,12 +2,11 @@
 //! section 4.2).
 
 ghost use Rattle.std.specs.Prelude.{Some};
-ghost use Rattle.std.proofs.Common.{rules};
 ghost use Rattle.cvss_base.specs.declared.v4.MetricType.TheVariants as metric;
 ghost use Rattle.cvss_metric.specs.v4.Table as place;
 ghost use Rattle.cvss_metric.specs.v4.Table.{metric_component};
 
-use crate::v4::metric::{MetricEnum, MetricType, MetricValue};
+use crate::v4::metric::{MetricType, MetricValue};
 use std::fmt;
 
 /// What Confidentiality Impact to the Subsequent System is in the user's own environment (v4.0
@@ -40,10 +39,6 @@ impl MetricValue for ModifiedConfidentialityImpactToTheSubsequentSystem {
             Self::High => "/MSC:H",
         }
     }
-}
-
-impl MetricEnum for ModifiedConfidentialityImpactToTheSubsequentSystem {
-    ghost law = { Prim.search rules };
 }
 
 impl fmt::Display for ModifiedConfidentialityImpactToTheSubsequentSystem {
@@ -91,10 +86,6 @@ impl MetricValue for ModifiedIntegrityImpactToTheSubsequentSystem {
     }
 }
 
-impl MetricEnum for ModifiedIntegrityImpactToTheSubsequentSystem {
-    ghost law = { Prim.search rules };
-}
-
 impl fmt::Display for ModifiedIntegrityImpactToTheSubsequentSystem {
     ghost output = { λ value. Some (metric_component metric.MSI (place.MSI value)) };
 
@@ -138,10 +129,6 @@ impl MetricValue for ModifiedAvailabilityImpactToTheSubsequentSystem {
             Self::Safety => "/MSA:S",
         }
     }
-}
-
-impl MetricEnum for ModifiedAvailabilityImpactToTheSubsequentSystem {
-    ghost law = { Prim.search rules };
 }
 
 impl fmt::Display for ModifiedAvailabilityImpactToTheSubsequentSystem {

@@ -2,12 +2,11 @@
 //! 4.2).
 
 ghost use Rattle.std.specs.Prelude.{Some};
-ghost use Rattle.std.proofs.Common.{rules};
 ghost use Rattle.cvss_base.specs.declared.v4.MetricType.TheVariants as metric;
 ghost use Rattle.cvss_metric.specs.v4.Table as place;
 ghost use Rattle.cvss_metric.specs.v4.Table.{metric_component};
 
-use crate::v4::metric::{MetricEnum, MetricType, MetricValue};
+use crate::v4::metric::{MetricType, MetricValue};
 use std::fmt;
 
 /// What Confidentiality Impact to the Vulnerable System is in the user's own environment (v4.0
@@ -40,10 +39,6 @@ impl MetricValue for ModifiedConfidentialityImpactToTheVulnerableSystem {
             Self::High => "/MVC:H",
         }
     }
-}
-
-impl MetricEnum for ModifiedConfidentialityImpactToTheVulnerableSystem {
-    ghost law = { Prim.search rules };
 }
 
 impl fmt::Display for ModifiedConfidentialityImpactToTheVulnerableSystem {
@@ -88,10 +83,6 @@ impl MetricValue for ModifiedIntegrityImpactToTheVulnerableSystem {
     }
 }
 
-impl MetricEnum for ModifiedIntegrityImpactToTheVulnerableSystem {
-    ghost law = { Prim.search rules };
-}
-
 impl fmt::Display for ModifiedIntegrityImpactToTheVulnerableSystem {
     ghost output = { λ value. Some (metric_component metric.MVI (place.MVI value)) };
 
@@ -132,10 +123,6 @@ impl MetricValue for ModifiedAvailabilityImpactToTheVulnerableSystem {
             Self::High => "/MVA:H",
         }
     }
-}
-
-impl MetricEnum for ModifiedAvailabilityImpactToTheVulnerableSystem {
-    ghost law = { Prim.search rules };
 }
 
 impl fmt::Display for ModifiedAvailabilityImpactToTheVulnerableSystem {

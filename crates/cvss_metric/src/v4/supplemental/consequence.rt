@@ -2,12 +2,11 @@
 //! 5.4 and 5.5).
 
 ghost use Rattle.std.specs.Prelude.{Some};
-ghost use Rattle.std.proofs.Common.{rules};
 ghost use Rattle.cvss_base.specs.declared.v4.MetricType.TheVariants as metric;
 ghost use Rattle.cvss_metric.specs.v4.Table as place;
 ghost use Rattle.cvss_metric.specs.v4.Table.{metric_component};
 
-use crate::v4::metric::{MetricEnum, MetricType, MetricValue};
+use crate::v4::metric::{MetricType, MetricValue};
 use std::fmt;
 
 /// Whether persons may come to harm (v4.0 specification, section 5.1).
@@ -37,10 +36,6 @@ impl MetricValue for Safety {
             Self::Negligible => "/S:N",
         }
     }
-}
-
-impl MetricEnum for Safety {
-    ghost law = { Prim.search rules };
 }
 
 impl fmt::Display for Safety {
@@ -85,10 +80,6 @@ impl MetricValue for Recovery {
     }
 }
 
-impl MetricEnum for Recovery {
-    ghost law = { Prim.search rules };
-}
-
 impl fmt::Display for Recovery {
     ghost output = { λ value. Some (metric_component metric.R (place.R value)) };
 
@@ -128,10 +119,6 @@ impl MetricValue for Automatable {
     }
 }
 
-impl MetricEnum for Automatable {
-    ghost law = { Prim.search rules };
-}
-
 impl fmt::Display for Automatable {
     ghost output = { λ value. Some (metric_component metric.AU (place.AU value)) };
 
@@ -169,10 +156,6 @@ impl MetricValue for ValueDensity {
             Self::Concentrated => "/V:C",
         }
     }
-}
-
-impl MetricEnum for ValueDensity {
-    ghost law = { Prim.search rules };
 }
 
 impl fmt::Display for ValueDensity {

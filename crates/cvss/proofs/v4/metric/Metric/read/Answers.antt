@@ -1,10 +1,10 @@
 use Rattle.std.proofs.Common.{refl, sym, subst, ◌∙◌}
 use Rattle.std.proofs.lemmas.Bool.{false≢true}
 use Rattle.std.proofs.lemmas.Option.{same_Some}
-use Rattle.cvss_metric.specs.v4.Reading.{IsReading}
+use Rattle.cvss.specs.ReadingV4.{IsReading}
 use Rattle.cvss_metric.specs.v4.Table.{spelling_at}
-use Rattle.cvss_metric.proofs.v4.ReadingLemmas.{read_alike}
-use Rattle.cvss_metric.proofs.v4.metric.Metric.read.Goals as goal
+use Rattle.cvss.proofs.ReadingLemmas.{read_alike}
+use Rattle.cvss.proofs.v4.metric.Metric.read.Goals as goal
 
 pub returns-in_err-metric-clause-read : goal.returns-in_err-metric-clause-read
 returns-in_err-metric-clause-read g c = λ metric reading.
