@@ -1,8 +1,10 @@
 pub mod Json
 pub mod MetricsV2
+pub mod MetricsV3
 pub mod MetricsV4
 pub mod ReadingV4
 pub mod laws
+pub mod private
 pub use Rattle.cvss_any.specs.Answers
 pub use Rattle.cvss_any.specs.Bytes
 pub use Rattle.cvss_any.specs.Dispatch
@@ -43,7 +45,6 @@ pub use Rattle.cvss_v2.specs.Vector as VectorV2
 pub use Rattle.cvss_v2.specs.Weights as WeightsV2
 pub use Rattle.cvss_v2.specs.declared.vector.Vector as VectorTypeV2
 pub use Rattle.cvss_score.specs.declared.v2.weights.Weights as WeightsTypeV2
-pub use Rattle.cvss_metric.specs.v3.Metrics as MetricsV3
 pub use Rattle.cvss_metric.specs.v3.Modified as ModifiedV3
 pub use Rattle.cvss_metric.specs.v3.Table as TableV3
 pub use Rattle.cvss_metric.specs.declared.v3.environmental.modified.Modified as ModifiedTypeV3

@@ -1,4 +1,4 @@
-pub mod Metrics
+pub mod BaseMetrics
 pub mod Modified
 pub mod Table
 pub mod private

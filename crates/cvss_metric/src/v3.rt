@@ -5,4 +5,4 @@ pub mod environmental;
 mod metric;
 pub mod temporal;
 
-pub use metric::{Metric, MetricEnum, MetricType, MetricValue, reported_kind};
+pub use metric::{MetricType, MetricValue, reported_kind, weight_in_counts};

@@ -5,7 +5,7 @@ use crate::shown::{print_error, print_value, show};
 use cvss_metric::v3::base::*;
 use cvss_metric::v3::environmental::*;
 use cvss_metric::v3::temporal::*;
-use cvss_metric::v3::{Metric, MetricType};
+use cvss::v3::{Metric, MetricType};
 use cvss_v3::each_metric;
 use std::io;
 

@@ -1,11 +1,10 @@
 //! The temporal metrics (v3.1 specification, section 3).
 
 ghost use Rattle.std.specs.Prelude.{Some};
-ghost use Rattle.std.proofs.Common.{rules};
 ghost use Rattle.cvss_base.specs.declared.v3.MetricType.TheVariants.{E, RL, RC};
 ghost use Rattle.cvss_metric.specs.v3.Table.{metric_component};
 
-use crate::v3::metric::{MetricEnum, MetricType, MetricValue};
+use crate::v3::metric::{MetricType, MetricValue};
 use std::fmt;
 
 /// How far techniques or code to exploit are developed (v3.1 specification, section 3.1).
@@ -46,10 +45,6 @@ impl MetricValue for ExploitCodeMaturity {
             _ => None,
         }
     }
-}
-
-impl MetricEnum for ExploitCodeMaturity {
-    ghost law = { Prim.search rules };
 }
 
 impl fmt::Display for ExploitCodeMaturity {
@@ -102,10 +97,6 @@ impl MetricValue for RemediationLevel {
     }
 }
 
-impl MetricEnum for RemediationLevel {
-    ghost law = { Prim.search rules };
-}
-
 impl fmt::Display for RemediationLevel {
     ghost output = { λ metric. Some (metric_component RL metric) };
 
@@ -151,10 +142,6 @@ impl MetricValue for ReportConfidence {
             _ => None,
         }
     }
-}
-
-impl MetricEnum for ReportConfidence {
-    ghost law = { Prim.search rules };
 }
 
 impl fmt::Display for ReportConfidence {

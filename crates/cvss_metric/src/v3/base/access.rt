@@ -8,7 +8,7 @@ ghost use Rattle.cvss_base.specs.declared.v3.MetricType.TheVariants.{PR, UI, MPR
 ghost use Rattle.cvss_metric.specs.v3.Table.{scoped_weight, metric_component};
 
 use crate::v3::environmental::BaseMetric;
-use crate::v3::metric::{HUNDREDTH, MetricEnum, MetricType, MetricValue};
+use crate::v3::metric::{HUNDREDTH, MetricType, MetricValue};
 use std::fmt;
 
 /// The privileges that the attacker has to have before the attack (v3.1 specification, section
@@ -44,10 +44,6 @@ impl MetricValue for PrivilegesRequired {
             _ => None,
         }
     }
-}
-
-impl MetricEnum for PrivilegesRequired {
-    ghost law = { Prim.search rules };
 }
 
 impl fmt::Display for PrivilegesRequired {
@@ -121,10 +117,6 @@ impl MetricValue for UserInteraction {
             _ => None,
         }
     }
-}
-
-impl MetricEnum for UserInteraction {
-    ghost law = { Prim.search rules };
 }
 
 impl fmt::Display for UserInteraction {

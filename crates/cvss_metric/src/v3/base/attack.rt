@@ -6,7 +6,7 @@ ghost use Rattle.cvss_base.specs.declared.v3.MetricType.TheVariants.{AV, AC, MAV
 ghost use Rattle.cvss_metric.specs.v3.Table.{metric_component, default_complexity};
 
 use crate::v3::environmental::BaseMetric;
-use crate::v3::metric::{MetricEnum, MetricType, MetricValue};
+use crate::v3::metric::{MetricType, MetricValue};
 use std::fmt;
 
 /// How near to the vulnerable component the attacker has to be (v3.1 specification, section 2.1.1).
@@ -44,10 +44,6 @@ impl MetricValue for AttackVector {
             _ => None,
         }
     }
-}
-
-impl MetricEnum for AttackVector {
-    ghost law = { Prim.search rules };
 }
 
 impl fmt::Display for AttackVector {
@@ -108,10 +104,6 @@ impl MetricValue for AttackComplexity {
             _ => None,
         }
     }
-}
-
-impl MetricEnum for AttackComplexity {
-    ghost law = { Prim.search rules };
 }
 
 impl fmt::Display for AttackComplexity {

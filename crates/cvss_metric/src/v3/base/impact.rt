@@ -6,7 +6,7 @@ ghost use Rattle.cvss_base.specs.declared.v3.MetricType.TheVariants.{C, I, A, MC
 ghost use Rattle.cvss_metric.specs.v3.Table.{metric_component};
 
 use crate::v3::environmental::BaseMetric;
-use crate::v3::metric::{MetricEnum, MetricType, MetricValue};
+use crate::v3::metric::{MetricType, MetricValue};
 use std::fmt;
 
 /// What becomes known to those who may not know it (v3.1 specification, section 2.3.1).
@@ -41,10 +41,6 @@ impl MetricValue for Confidentiality {
             _ => None,
         }
     }
-}
-
-impl MetricEnum for Confidentiality {
-    ghost law = { Prim.search rules };
 }
 
 impl fmt::Display for Confidentiality {
@@ -101,10 +97,6 @@ impl MetricValue for Integrity {
     }
 }
 
-impl MetricEnum for Integrity {
-    ghost law = { Prim.search rules };
-}
-
 impl fmt::Display for Integrity {
     ghost output = { λ metric. Some (metric_component I metric) };
 
@@ -157,10 +149,6 @@ impl MetricValue for Availability {
             _ => None,
         }
     }
-}
-
-impl MetricEnum for Availability {
-    ghost law = { Prim.search rules };
 }
 
 impl fmt::Display for Availability {

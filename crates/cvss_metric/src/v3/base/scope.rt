@@ -1,11 +1,10 @@
 //! How far the impact goes (v3.1 specification, section 2.2).
 
 ghost use Rattle.std.specs.Prelude.{◌≡◌, ◌↔◌, IsTrue, Some};
-ghost use Rattle.std.proofs.Common.{rules};
 ghost use Rattle.cvss_base.specs.declared.v3.MetricType.TheVariants.{S};
 ghost use Rattle.cvss_metric.specs.v3.Table.{metric_component};
 
-use crate::v3::metric::{MetricEnum, MetricType, MetricValue};
+use crate::v3::metric::{MetricType, MetricValue};
 use std::fmt;
 
 /// Whether the impact goes beyond the vulnerable component's security authority (v3.1 specification,
@@ -38,10 +37,6 @@ impl MetricValue for Scope {
             _ => None,
         }
     }
-}
-
-impl MetricEnum for Scope {
-    ghost law = { Prim.search rules };
 }
 
 impl fmt::Display for Scope {

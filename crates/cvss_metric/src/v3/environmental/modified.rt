@@ -1,17 +1,16 @@
 //! The modified base metrics (v3.1 specification, section 4.2).
 
-ghost use Rattle.std.specs.Prelude.{◌≡◌, ◌*◌, ◌^◌, pos, Some, refl};
-ghost use Rattle.std.proofs.Common.{rules, ◌∙◌};
+ghost use Rattle.std.specs.Prelude.{◌≡◌, ◌*◌, ◌^◌, pos, Some};
 ghost use Rattle.cvss_base.specs.Exact.{IsWithinLimit};
 ghost use Rattle.cvss_base.specs.declared.v3.MetricType.{MetricType};
 ghost use Rattle.cvss_base.specs.declared.v3.MetricType.TheVariants.{S, MS};
 ghost use Rattle.cvss_metric.specs.v3.Table.{scoped_weight, weight_of, metric_component, replacing, modified_value};
-ghost use Rattle.cvss_metric.specs.v3.Metrics.{IsBaseMetric};
+ghost use Rattle.cvss_metric.specs.v3.BaseMetrics.{IsBaseMetric};
 ghost use Rattle.cvss_metric.specs.v3.Modified.{replaced, weight_or};
 
 use super::texts::modified_with_slash;
 use crate::v3::base::{PrivilegesRequired, Scope};
-use crate::v3::metric::{Metric, MetricEnum, MetricType, MetricValue};
+use crate::v3::metric::{MetricType, MetricValue, weight_in_counts};
 use std::fmt;
 
 /// A value that replaces that of the base metric, if one is set. It has no weight of its own.
@@ -23,7 +22,7 @@ pub enum Modified<T> {
 
 /// A base metric that a modified metric can replace: each of its values has a weight, and none is
 /// spelled `X`.
-pub trait BaseMetric: Metric {
+pub trait BaseMetric: MetricValue {
     ghost use Rattle.std.specs.Prelude.{Option, None};
     ghost use Rattle.cvss_metric.specs.declared.v3.environmental.modified.Modified.{Modified};
     ghost use Rattle.cvss_metric.specs.v3.Table.{AnyValue};
@@ -61,19 +60,6 @@ impl<T: BaseMetric> MetricValue for Modified<T> {
     }
 }
 
-impl<T: BaseMetric> MetricEnum for Modified<T> {
-    ghost use Rattle.cvss_metric.specs.v3.private.ModifiedLaws.{covered, ranked, modified_order, modified_equality};
-
-    ghost law = { record {
-      covers = covered T.base_law T.law.covers;
-      ordered = modified_order _ _ _ T.law.ordered (ranked T.base_law)
-          refl (λ y. refl) (λ x. refl) (λ x y. refl);
-      equal = modified_equality _ T.law.equal refl (λ y. refl) (λ x. refl) (λ x y. refl);
-      cloned = Prim.search rules;
-      clonable = Prim.search rules;
-    } };
-}
-
 impl<T: BaseMetric> fmt::Display for Modified<T> {
     ghost output = { λ metric. Some (metric_component (replacing T.KIND)
         (modified_value T.KIND T.value T.own_value metric)) };
@@ -106,7 +92,7 @@ impl<T: BaseMetric> Modified<T> {
         ensures limit { IsWithinLimit result }
     {
         match self.or(base) {
-            Some(value) => value.score(),
+            Some(value) => weight_in_counts(value),
             None => 0,
         }
     }
@@ -155,10 +141,6 @@ impl MetricValue for ModifiedScope {
             _ => Some(Self::Modified(Scope::read_letter(letter)?)),
         }
     }
-}
-
-impl MetricEnum for ModifiedScope {
-    ghost law = { Prim.search rules };
 }
 
 impl fmt::Display for ModifiedScope {

@@ -1,11 +1,10 @@
 //! The security requirements (v3.1 specification, section 4.1).
 
 ghost use Rattle.std.specs.Prelude.{Some};
-ghost use Rattle.std.proofs.Common.{rules};
 ghost use Rattle.cvss_base.specs.declared.v3.MetricType.TheVariants.{CR, IR, AR};
 ghost use Rattle.cvss_metric.specs.v3.Table.{metric_component};
 
-use crate::v3::metric::{MetricEnum, MetricType, MetricValue};
+use crate::v3::metric::{MetricType, MetricValue};
 use std::fmt;
 
 /// How much confidentiality matters to the user of the component (v3.1 specification, section 4.1).
@@ -43,10 +42,6 @@ impl MetricValue for ConfidentialityRequirement {
             _ => None,
         }
     }
-}
-
-impl MetricEnum for ConfidentialityRequirement {
-    ghost law = { Prim.search rules };
 }
 
 impl fmt::Display for ConfidentialityRequirement {
@@ -96,10 +91,6 @@ impl MetricValue for IntegrityRequirement {
     }
 }
 
-impl MetricEnum for IntegrityRequirement {
-    ghost law = { Prim.search rules };
-}
-
 impl fmt::Display for IntegrityRequirement {
     ghost output = { λ metric. Some (metric_component IR metric) };
 
@@ -145,10 +136,6 @@ impl MetricValue for AvailabilityRequirement {
             _ => None,
         }
     }
-}
-
-impl MetricEnum for AvailabilityRequirement {
-    ghost law = { Prim.search rules };
 }
 
 impl fmt::Display for AvailabilityRequirement {
