@@ -3,7 +3,7 @@
 
 Each public type that derives PartialEq or Clone has a law for it: two values are equal exactly if they are the same or
 report the same, and a clone is that value; and if the type is Copy, that a clone needs no memory. A law is a clause of
-a module `laws` or of `cvss_laws` that names the type's impl, or the law of the trait `MetricValue`.
+a module `laws` or of `cvss_laws` that names the type's impl; of a metric, that of its impl of `MetricEnum` in `cvss`.
 
 docs/CONTRACTS.md lists exactly the public calls with preconditions, by the last part of their names.
 
@@ -19,6 +19,7 @@ SCORING = "cvss_score/src/v4/scoring"
 
 DERIVED = re.compile(r"^#\[derive\(([^)]*)\)\]\n(?:#\[[^\n]*\n)*pub (?:struct|enum) (\w+)", re.M)
 LAW = re.compile(r"⟦<(?:\w+::)?(\w+)(?:<'static>)? as (?:PartialEq|Clone)>⟧\.(eq|is_clone|is_infallible)")
+METRIC = re.compile(r"^impl(?:<[^>]*>)? MetricEnum for (\w+)", re.M)
 CALL = re.compile(r"^    (?:final )?fn (\w+)(.*?)(?=^    [{}]|;$|{$)", re.M | re.S)
 
 
@@ -36,13 +37,22 @@ def laws_for(path):
     return {law for laws in above if laws.exists() for law in LAW.findall(laws.read_text(encoding="utf-8"))}
 
 
+def metrics_with_law(path):
+    """The metrics that implement `MetricEnum` in `cvss`, of the version of a file of `cvss_metric`."""
+    crate, _, *inside = path.relative_to(ROOT / "crates").parts
+    if crate != "cvss_metric":
+        return set()
+    impls = (ROOT / "crates/cvss/src" / inside[0].removesuffix(".rt") / "metric").glob("*.rt")
+    return {name for impl in impls for name in METRIC.findall(impl.read_text(encoding="utf-8"))}
+
+
 def without_law():
     """Each public type without a law."""
     for crate in [*crates(), "cvss_ffi"]:
         files, exported = sources(crate)
         for path, is_public, text in files:
             found = laws_for(path) | laws_for(ROOT / "crates/cvss/src/lib.rt")
-            metrics = re.findall(r"^impl(?:<[^>]*>)? MetricValue for (\w+)", text, re.M)
+            metrics = metrics_with_law(path)
             for traits, name in DERIVED.findall(text):
                 if SCORING in str(path) and path.stem != "explanation" or name in metrics or not (is_public or name in exported):
                     continue

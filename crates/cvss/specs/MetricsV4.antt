@@ -1,4 +1,4 @@
--- What holds of each enum of metric values.
+-- What holds of each enum of metric values: CVSS v4.0 specification, sections 2 to 5.
 use Rattle.std.specs.Prelude.{◌≡◌, ℕ, Bool}
 use Rattle.std.specs.Ordering.{nat_cmp}
 use Rattle.std.specs.declared.cmp.Ordering.{Ordering}

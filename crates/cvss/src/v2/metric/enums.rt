@@ -1,4 +1,4 @@
-//! That the values of each metric of CVSS v2 compare as the guide lists them.
+//! That each metric of CVSS v2 has the values of its row in the table, in that order.
 
 ghost use Rattle.std.proofs.Common.{rules};
 

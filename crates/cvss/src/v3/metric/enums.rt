@@ -1,4 +1,4 @@
-//! That the values of each metric of CVSS v3 compare as its table lists them.
+//! That each metric of CVSS v3 has the values of its row in the table, in that order.
 
 ghost use Rattle.std.proofs.Common.{rules};
 

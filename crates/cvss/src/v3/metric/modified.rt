@@ -1,5 +1,5 @@
-//! That the values of each modified base metric of CVSS v3 compare as its table lists them (v3.1
-//! specification, section 4.2).
+//! That each modified base metric of CVSS v3 has the values of its row in the table, in that order
+//! (v3.1 specification, section 4.2).
 
 ghost use Rattle.std.specs.Prelude.{refl};
 ghost use Rattle.std.proofs.Common.{rules};

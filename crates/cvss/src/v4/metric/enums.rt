@@ -1,5 +1,5 @@
-//! That the values of each metric of CVSS v4.0 compare as its table lists them, and that the default
-//! is the one in it.
+//! That the values of each metric of CVSS v4.0 compare as its row in the table has them, and that its
+//! default is the one in the table.
 
 ghost use Rattle.std.proofs.Common.{rules};
 
