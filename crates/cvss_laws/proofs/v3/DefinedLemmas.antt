@@ -1,10 +1,11 @@
 -- A metric that is X and one that is absent give the same weights.
-use Rattle.std.proofs.Common.{◌≡◌, false, ◌⊎◌, inl, inr, codes, Option, Some, None, IfSome, refl, sym, ap, ◌∙◌}
+use Rattle.std.specs.List.{list_any}
+use Rattle.std.proofs.Common.{◌≡◌, ◌≢◌, Bool, false, ◌⊎◌, inl, inr, bytes_eq, codes, Option, Some, None, IfSome, refl, rules, sym, ap, ◌∙◌}
 use Rattle.cvss_base.specs.Text.{uppercased}
 use Rattle.cvss_base.specs.declared.v3.MetricType.{MetricType}
 use Rattle.cvss_base.specs.declared.v3.MetricType.TheVariants.{A, AC, AV, C, I, PR, S, UI, E, RL, RC, CR, IR, AR, MAV, MAC, MPR, MUI, MS, MC, MI, MA}
-use Rattle.cvss_metric.specs.v3.Table.{Value, spelling_of}
-use Rattle.cvss_metric.specs.v3.private.TableLaws.{has_undefined, none_undefined, one_value}
+use Rattle.cvss_metric.specs.v3.Table.{Value, rows_of, spelling_of}
+use Rattle.cvss_metric.specs.v3.private.TableLaws.{one_value}
 use Rattle.cvss_metric.specs.declared.v3.temporal.ExploitCodeMaturity.TheVariants as exploit_code_maturity
 use Rattle.cvss_metric.specs.declared.v3.temporal.RemediationLevel.TheVariants as remediation_level
 use Rattle.cvss_metric.specs.declared.v3.temporal.ReportConfidence.TheVariants as report_confidence
@@ -18,6 +19,15 @@ use Rattle.cvss_laws.specs.v3.ScoreLaws.{DefineTheSame}
 use Rattle.cvss_v3.specs.Vector.{value_at}
 use Rattle.cvss_v3.specs.VectorWeights.{weights_of}
 use Rattle.cvss_score.specs.v3.Weighing.{weight_at, privileges_weight, effective, effective_scope, is_changed}
+
+-- whether the metric has the value X
+abbrev has_undefined : MetricType → Bool
+has_undefined kind = list_any (λ row. bytes_eq row.0 (codes "X")) (rows_of kind)
+
+-- no value is X where the metric has no X
+none_undefined : (kind : MetricType) (value : Value kind) → has_undefined kind ≡ false → spelling_of kind value ≢ codes "X"
+none_undefined A = search rules
+none_undefined _ = search rules
 
 -- there is no value, or it is X
 abbrev IsUndefined : (kind : MetricType) → Option (Value kind) → Type 0

@@ -1,16 +1,11 @@
 -- What holds of each value in the table of CVSS v3, checked value by value.
-use Rattle.std.specs.Prelude.{◌≡◌, ◌≢◌, ℕ, ◌-◌, ◌<◌, Bool, false, List, [], ◌∷◌, length, get_or, codes, bytes_eq}
-use Rattle.std.specs.List.{list_any}
+use Rattle.std.specs.Prelude.{◌≡◌, ℕ, ◌-◌, ◌<◌, List, [], ◌∷◌, length, get_or}
 use Rattle.std.proofs.Common.{rules}
 use Rattle.cvss_base.specs.Text.{uppercased, slash}
 use Rattle.cvss_base.specs.private.Component.{delimiter_bytes}
 use Rattle.cvss_base.specs.declared.v3.MetricType.{MetricType}
 use Rattle.cvss_base.specs.declared.v3.MetricType.TheVariants.{A}
-use Rattle.cvss_metric.specs.v3.Table.{Value, rows_of, spelling_of, metric_component}
-
--- whether the metric has the value X
-abbrev pub has_undefined : MetricType → Bool
-has_undefined kind = list_any (λ row. bytes_eq row.0 (codes "X")) (rows_of kind)
+use Rattle.cvss_metric.specs.v3.Table.{Value, spelling_of, metric_component}
 
 -- a spelling is its own text in upper case
 pub uppercased_spelling : (kind : MetricType) (value : Value kind) → uppercased (spelling_of kind value) ≡ spelling_of kind value
@@ -26,11 +21,6 @@ plain_spelling _ = search rules
 pub one_value : (kind : MetricType) (x y : Value kind) → uppercased (spelling_of kind x) ≡ uppercased (spelling_of kind y) → x ≡ y
 one_value A = search rules
 one_value _ = search rules
-
--- no value is X where the metric has no X
-pub none_undefined : (kind : MetricType) (value : Value kind) → has_undefined kind ≡ false → spelling_of kind value ≢ codes "X"
-none_undefined A = search rules
-none_undefined _ = search rules
 
 -- a component ends in the one letter that spells its value
 pub ends_in_letter : (kind : MetricType) (value : Value kind) (text : List ℕ) → text ≡ slash ∷ metric_component kind value → (0 < length text) × (spelling_of kind value ≡ get_or text (length text - 1) 0 ∷ [])
