@@ -72,9 +72,10 @@ pub trait Components: Copy {
         ensures { IfSome result (λ cut. IsCut version piece.now cut.0 cut.1.now) };
 
     /// This vector without values with the base metrics with which a text begins in printing order, and
-    /// what follows them, if no base metric is missing there.
-    // `Caller` changes nothing. Each of the two callers gives a type of its own, and so has a copy of its own:
-    // a function of this size is inlined only where it has one caller.
+    /// what follows them, if no base metric is missing there. It may be `None` for any text, which is then
+    /// read the longer way.
+    // `Caller` changes nothing. `whole` gives `()` and `begun` `u8`, so that each has a copy of its own: a
+    // function of this size is inlined only where it has one caller.
     fn base_in_order<'a, Caller>(self, text: &'a [u8]) -> Option<(Self, &'a [u8])>
         requires { HasNoValue version self }
         ensures { IfSome result (λ read. IsBaseTo version base_count has_base (version.front self)
