@@ -2,7 +2,6 @@ mod DigitLemmas
 pub mod EqualityLemmas
 pub mod ExactLemmas
 pub mod FindLemmas
-pub mod PrintedLemmas
 pub mod RoundingLemmas
 pub mod WithSlashLemmas
 pub mod TenthsLemmas

@@ -2,5 +2,6 @@ mod ClassLawLemmas
 mod DepthLemmas
 mod MergingFacts
 mod MergingLemmas
+mod PrintedLemmas
 mod RangeLemmas
 mod StandardFacts

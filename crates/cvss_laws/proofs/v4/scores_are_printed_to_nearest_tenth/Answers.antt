@@ -1,4 +1,4 @@
-use Rattle.cvss_base.proofs.PrintedLemmas.{printed-nearest}
+use Rattle.cvss_laws.proofs.v4.PrintedLemmas.{printed-nearest}
 use Rattle.cvss_laws.proofs.v4.scores_are_printed_to_nearest_tenth.Goals as goal
 
 pub returns : goal.returns
