@@ -15,8 +15,7 @@ ROOT = Path(__file__).resolve().parent.parent
 # parts of versions and of the C functions, which have no path in `cvss`, and callers that are proved from laws too
 WITHOUT_PROMISES = {"cvss_text", "cvss_ffi", "cvss_examples"}
 # such parts in crates whose other modules have one
-PARTS = {ROOT / "crates/cvss_base/src/component.rt", ROOT / "crates/cvss_v3/src/weights.rt",
-         ROOT / "crates/cvss_v4/src/overrides.rt"}
+PARTS = {ROOT / "crates/cvss_base/src/component.rt", ROOT / "crates/cvss_v4/src/overrides.rt"}
 
 OTHER_SHELF = re.compile(r"\.specs\.(?:v\d\.)?(?:laws|private)\.")
 USE = re.compile(r"^ *(?:pub |ghost )?use Rattle\.([\w.]+?)(?:\.\{([^}]*)\})?(?: as (\w+))?;?$", re.M)

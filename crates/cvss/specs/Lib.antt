@@ -38,6 +38,7 @@ pub use Rattle.cvss_base.specs.declared.severity.Severity as SeverityType
 pub use Rattle.cvss_base.specs.declared.v2.MetricType as MetricTypeV2
 pub use Rattle.cvss_base.specs.declared.v3.MetricType as MetricTypeV3
 pub use Rattle.cvss_base.specs.declared.v4.MetricType as MetricTypeV4
+pub use Rattle.cvss_score.specs.v2.Bounds as BoundsV2
 pub use Rattle.cvss_score.specs.v2.Rating as RatingV2
 pub use Rattle.cvss_score.specs.v2.Scores as ScoresV2
 pub use Rattle.cvss_metric.specs.v2.Table as TableV2
@@ -48,6 +49,7 @@ pub use Rattle.cvss_score.specs.declared.v2.weights.Weights as WeightsTypeV2
 pub use Rattle.cvss_metric.specs.v3.Modified as ModifiedV3
 pub use Rattle.cvss_metric.specs.v3.Table as TableV3
 pub use Rattle.cvss_metric.specs.declared.v3.environmental.modified.Modified as ModifiedTypeV3
+pub use Rattle.cvss_score.specs.v3.Bounds as BoundsV3
 pub use Rattle.cvss_score.specs.v3.Certainty as CertaintyV3
 pub use Rattle.cvss_score.specs.v3.Scores as ScoresV3
 pub use Rattle.cvss_score.specs.v3.Weighing as WeighingV3

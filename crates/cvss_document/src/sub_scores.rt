@@ -1,10 +1,11 @@
 //! The sub-scores of a vector, as NVD gives them.
 
-ghost use Rattle.std.specs.Prelude.{false};
-ghost use Rattle.cvss_base.specs.Exact.{IsWithinLimit};
+ghost use Rattle.std.specs.Prelude.{◌≡◌, false};
+ghost use Rattle.cvss_base.specs.Exact.{of_count, ◌≈◌, IsWithinLimit};
 ghost use Rattle.cvss_document.specs.SubScores.{AreSubScores, AreSubScoresOf};
 ghost use Rattle.cvss_document.specs.private.Tenths.{AreNearest};
 ghost use Rattle.cvss_score.specs.v2.Scores as scores_v2;
+ghost use Rattle.cvss_score.specs.v3.Closeness.{IsCloseTo};
 ghost use Rattle.cvss_score.specs.v3.Scores as scores_v3;
 ghost use Rattle.cvss_v2.specs.Weights as weights_v2;
 ghost use Rattle.cvss_v3.specs.VectorWeights as weights_v3;
@@ -48,9 +49,20 @@ impl SubScores {
     {
         SubScores {
             exploitability: nearest_v3(vector.exploitability()),
-            impact: nearest_v3(vector.scoped_impact()),
+            impact: nearest_v3(scoped_impact(vector)),
         }
     }
+}
+
+/// Impact by the scope (v3.1 specification, section 7.1; v3.0 specification, section 8.1). It is exact
+/// with the scope unchanged, and else at most half a millionth from the exact number.
+fn scoped_impact(vector: &cvss_v3::Vector) -> cvss_v3::Score
+    ensures close { IsCloseTo (scores_v3.impact (weights_v3.weights_of vector.now)) (of_count result) }
+    ensures exact { (weights_v3.weights_of vector.now).changed ≡ false
+        → of_count result ≈ scores_v3.impact (weights_v3.weights_of vector.now) }
+    ensures limit { IsWithinLimit result }
+{
+    cvss_v3::Score::new(vector.weights().impact())
 }
 
 fn nearest_v2(number: cvss_v2::Score) -> u8

@@ -7,13 +7,13 @@ ghost use Rattle.cvss_json_write.specs.Json.{decimal_text};
 ghost use Rattle.cvss_json_write.specs.Scalars.{member_room, member_view, rooms};
 ghost use Rattle.cvss_v3.specs.VectorWeights.{weights_of};
 
+mod counts;
 pub mod numbers;
 
 use crate::parts::{Explained, Value, severity};
 use cvss_any::Cvss;
 use cvss_json_write::{Member, Page, Scalar, put_object};
 use cvss_v3::Vector;
-use cvss_v3::weights::weights_of as hundredths_of;
 use numbers::{BaseNumbers, EnvironmentalNumbers, Scored};
 
 /// Writes why a vector has its score.
@@ -107,7 +107,7 @@ pub(crate) fn weights(vector: &Vector) -> [Member<'static>; 20]
     ensures text { members_view result ≡ weights_members (weights_of vector.now) }
     ensures room { rooms member_room result ≤ 968 }
 {
-    let weights = hundredths_of(vector);
+    let weights = vector.weights();
     [
         weight("A", weights.a),
         weight("AC", weights.ac),

@@ -12,7 +12,6 @@ use crate::metrics::{Explained, write_metrics};
 use Amount::*;
 use Title::*;
 use cvss_base::v2::MetricType;
-use cvss_explain::decimal::ten_millionths;
 use cvss_explain::v2::numbers::{BaseNumbers, EnvironmentalNumbers, TemporalNumbers};
 use cvss_json_record::Group;
 use cvss_json_record::names::{self, v2};
@@ -59,7 +58,7 @@ impl Explained for Vector {
 
     /// Writes what a metric weighs.
     fn put_figure(&self, _class: &(), kind: MetricType, page: &mut Page) {
-        page.decimal(ten_millionths(self.weight(kind)));
+        page.decimal(self.thousandths(kind) as i64 * 10_000);
     }
 }
 

@@ -12,7 +12,6 @@ use crate::metrics::{Explained, write_metrics};
 use Amount::*;
 use Title::*;
 use cvss_base::v3::MetricType;
-use cvss_explain::decimal::ten_millionths;
 use cvss_explain::v3::numbers::{BaseNumbers, EnvironmentalNumbers, Scored};
 use cvss_json_record::Group;
 use cvss_json_record::names::{self, v3};
@@ -59,8 +58,8 @@ impl Explained for Vector {
 
     /// Writes what a metric weighs, which the scopes don't.
     fn put_figure(&self, _class: &(), kind: MetricType, page: &mut Page) {
-        match self.weight(kind) {
-            Some(weight) => page.decimal(ten_millionths(weight)),
+        match self.weights().of(kind) {
+            Some(hundredths) => page.decimal(hundredths as i64 * 100_000),
             None => page.push(b"-"),
         }
     }

@@ -129,7 +129,7 @@ fn numbers_of_v3(vector: &v3::Vector) -> CvssNumbers
         reserved: 0,
         impact: number_of(vector.impact().value()),
         exploitability: number_of(vector.exploitability().value()),
-        adjusted_impact: number_of(vector.miss().value()),
+        adjusted_impact: number_of(vector.weights().miss()),
     }
 }
 

@@ -1,3 +1,4 @@
+pub mod Bounds
 pub mod Certainty
 pub mod Closeness
 pub mod Scores

@@ -7,7 +7,7 @@ use Rattle.cvss_metric.specs.v3.Modified.{weight_or}
 use Rattle.cvss_metric.specs.v3.Table.{Value, weight_of}
 use Rattle.cvss_base.proofs.TestLemmas.{listed_if}
 use Rattle.cvss_score.specs.v3.Weighing.{weight_at, privileges_weight, effective, effective_scope, is_changed}
-use Rattle.cvss_score.specs.v3.private.Weights.{weights_in, privileges_required, AreOfTables}
+use Rattle.cvss_score.specs.v3.Bounds.{weights_in, privileges_required, AreOfTables}
 use Rattle.cvss_v3.specs.VectorWeights.{weights_of}
 use Rattle.cvss_v3.specs.declared.vector.Vector.{Vector}
 

@@ -3,7 +3,6 @@
 
 pub mod laws;
 mod vector;
-pub mod weights;
 
 pub use cvss_score::v3::Score;
 pub use vector::{Metrics, Vector};

@@ -8,6 +8,7 @@ ghost use Rattle.cvss_base.specs.Tenths.{IsFromZeroToTen, IsInTenths};
 ghost use Rattle.cvss_v2.specs.Weights.{weights_of};
 
 use crate::decimal::ten_millionths;
+use crate::v2::counts;
 use cvss_base::tenths::tenths_of;
 use cvss_v2::{Score, Vector};
 
@@ -46,8 +47,8 @@ impl BaseNumbers {
         BaseNumbers {
             impact: nearest(vector.impact()),
             exploitability: nearest(vector.exploitability()),
-            f: nearest(vector.impact_factor()),
-            number: nearest(vector.base_number()),
+            f: nearest(counts::impact_factor(vector)),
+            number: nearest(counts::base_number(vector)),
             score: tenths(vector.score()),
         }
     }
@@ -59,7 +60,7 @@ impl TemporalNumbers {
         ensures { AreTemporalNumbers (weights_of vector.now) result }
     {
         TemporalNumbers {
-            number: nearest(vector.temporal_number()),
+            number: nearest(counts::temporal_number(vector)),
             score: tenths(vector.temporal_score()),
         }
     }
@@ -72,9 +73,9 @@ impl EnvironmentalNumbers {
     {
         EnvironmentalNumbers {
             adjusted_impact: nearest(vector.adjusted_impact()),
-            adjusted_base: nearest(vector.adjusted_base()),
-            adjusted_temporal: nearest(vector.adjusted_temporal()),
-            number: nearest(vector.environmental_number()),
+            adjusted_base: nearest(counts::adjusted_base(vector)),
+            adjusted_temporal: nearest(counts::adjusted_temporal(vector)),
+            number: nearest(counts::environmental_number(vector)),
             score: tenths(vector.environmental_score()),
         }
     }

@@ -8,6 +8,7 @@ ghost use Rattle.cvss_base.specs.Tenths.{IsFromZeroToTen, IsInTenths};
 ghost use Rattle.cvss_v3.specs.VectorWeights.{weights_of};
 
 use crate::decimal::ten_millionths;
+use crate::v3::counts;
 use cvss_base::tenths::tenths_of;
 use cvss_v3::{Score, Vector};
 
@@ -44,9 +45,9 @@ impl BaseNumbers {
     {
         BaseNumbers {
             iss: nearest(vector.impact()),
-            impact: nearest(vector.scoped_impact()),
+            impact: nearest(counts::scoped_impact(vector)),
             exploitability: nearest(vector.exploitability()),
-            scored: Scored::of(vector.base_number(), vector.base_score()),
+            scored: Scored::of(counts::base_number(vector), vector.base_score()),
         }
     }
 }
@@ -57,14 +58,17 @@ impl EnvironmentalNumbers {
         ensures { AreEnvironmentalNumbers vector.now.minor_version (weights_of vector.now) result }
     {
         EnvironmentalNumbers {
-            miss: nearest(vector.miss()),
-            impact: nearest(vector.modified_impact()),
-            exploitability: nearest(vector.modified_exploitability()),
+            miss: nearest(counts::miss(vector)),
+            impact: nearest(counts::modified_impact(vector)),
+            exploitability: nearest(counts::modified_exploitability(vector)),
             first: Scored::of(
-                vector.environmental_first_number(),
-                vector.environmental_first_score(),
+                counts::environmental_first_number(vector),
+                counts::environmental_first_score(vector),
             ),
-            scored: Scored::of(vector.environmental_number(), vector.environmental_score()),
+            scored: Scored::of(
+                counts::environmental_number(vector),
+                vector.environmental_score(),
+            ),
         }
     }
 }
@@ -74,7 +78,7 @@ impl Scored {
     pub fn temporal(vector: &Vector) -> Scored
         ensures { AreTemporalNumbers vector.now.minor_version (weights_of vector.now) result }
     {
-        Scored::of(vector.temporal_number(), vector.temporal_score())
+        Scored::of(counts::temporal_number(vector), vector.temporal_score())
     }
 
     fn of(number: Score, score: Score) -> Scored

@@ -8,7 +8,7 @@ use Rattle.cvss_base.specs.Rounding.{IsRoundedV31}
 use Rattle.cvss_base.proofs.ExactLemmas.{above_itself, at_most_trans, at_most_below, equal_at_most, equal_trans, scaled_at_most}
 use Rattle.cvss_base.proofs.TestLemmas.{passes_three, all_below, below_passes}
 use Rattle.cvss_score.specs.v3.Scores.{base_number, environmental_number, temporal_number}
-use Rattle.cvss_score.specs.v3.private.Weights.{exploit_code_maturities, remediation_levels, report_confidences}
+use Rattle.cvss_score.specs.v3.Bounds.{exploit_code_maturities, remediation_levels, report_confidences}
 use Rattle.cvss_score.specs.declared.v3.rules.Exponent.{Exponent}
 use Rattle.cvss_score.specs.declared.v3.rules.Exponent.TheVariants.{Fifteen, Thirteen}
 use Rattle.cvss_score.proofs.v3_lemmas.CountLemmas.{AreParts, base_parts, modified_parts}

@@ -6,7 +6,7 @@ use Rattle.cvss_base.specs.Exact.{Exact, ◌over◌, whole, ◌⊑◌}
 use Rattle.cvss_base.proofs.ExactLemmas.{at_most_trans, equal_at_most}
 use Rattle.cvss_base.proofs.RoundingLemmas.{least_tenth-ordered, v31-ordered}
 use Rattle.cvss_score.specs.v3.Scores.{base_number, temporal_number, IsRounded, IsBaseScore, IsTemporalScore}
-use Rattle.cvss_score.specs.v3.private.Weights.{exploit_code_maturities, remediation_levels, report_confidences}
+use Rattle.cvss_score.specs.v3.Bounds.{exploit_code_maturities, remediation_levels, report_confidences}
 use Rattle.cvss_score.specs.declared.v3.rules.Exponent.TheVariants.{Fifteen}
 use Rattle.cvss_score.proofs.v3_lemmas.CountLemmas.{AreParts, base_parts}
 use Rattle.cvss_score.proofs.v3_lemmas.EqualLemmas.{base_bottom}

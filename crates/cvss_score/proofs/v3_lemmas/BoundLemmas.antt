@@ -2,7 +2,7 @@
 use Rattle.std.proofs.Common.{ℕ, ◌≤◌, Bool, true, false, refl}
 use Rattle.std.specs.List.{Contains}
 use Rattle.cvss_score.proofs.v3_lemmas.SubScoreLemmas.{weight_bound}
-use Rattle.cvss_score.specs.v3.private.Weights.{attack_complexities, attack_vectors, exploit_code_maturities, impacts, privileges_required, remediation_levels, report_confidences, requirements, user_interactions, AreBounded, AreOfTables}
+use Rattle.cvss_score.specs.v3.Bounds.{attack_complexities, attack_vectors, exploit_code_maturities, impacts, privileges_required, remediation_levels, report_confidences, requirements, user_interactions, AreBounded, AreOfTables}
 use Rattle.cvss_score.specs.declared.v3.weights.Weights.{Weights}
 
 privileges : (changed : Bool) {weight : ℕ} → Contains (privileges_required changed) weight → weight ≤ 100

@@ -11,7 +11,7 @@ use Rattle.cvss_score.specs.declared.v3.weights.Weights.{Weights}
 use Rattle.cvss_score.specs.v3.Scores.{hundredths, rest, sub_score_of, iss, miss, exploitability, modified_exploitability}
 use Rattle.cvss_score.specs.v3.private.SubScores.{weighted_impacts, exploitabilities, IsSubScore}
 use Rattle.cvss_score.specs.v3.private.Units.{millionths_of, base_parts as parts_of_base, modified_parts as parts_of_first, ArePossible}
-use Rattle.cvss_score.specs.v3.private.Weights.{impacts, requirements, AreOfTables}
+use Rattle.cvss_score.specs.v3.Bounds.{impacts, requirements, AreOfTables}
 use Rattle.cvss_score.proofs.v3_lemmas.SubScoreLemmas.{weight_bound, weighted_listed, weighted_whole, iss_listed, miss_listed, exploitability_listed}
 
 -- a sub-score of weights in hundredths, in millionths

@@ -17,7 +17,7 @@ use Rattle.cvss_score.specs.declared.v3.weights.Weights.{Weights}
 use Rattle.cvss_score.specs.v3.private.Near.{Approximates, StandsFor}
 use Rattle.cvss_score.specs.v3.private.SubScores.{IsSubScore}
 use Rattle.cvss_score.specs.v3.private.Units.{impact_units, total_units, IsImpact, IsNumber}
-use Rattle.cvss_score.specs.v3.private.Weights.{AreOfTables}
+use Rattle.cvss_score.specs.v3.Bounds.{AreOfTables}
 
 -- the first number by the exponent of its impact, of a sub-score and an exploitability, and that of the parts of the code
 abbrev pub number_of : Exponent → Bool → Exact → Exact → Exact

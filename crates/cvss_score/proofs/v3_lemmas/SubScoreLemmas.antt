@@ -4,7 +4,7 @@ use Rattle.std.proofs.Common.{◌≡◌, ℕ, ◌*◌, ◌/◌, ◌≤◌, min, 
 use Rattle.std.proofs.lemmas.Bool.{leb-true, eqb-true, or_cases}
 use Rattle.cvss_score.specs.v3.private.SubScores.{sub_scores, weighted_impacts, exploitabilities, IsSubScore}
 use Rattle.cvss_score.specs.v3.private.Units.{millionths_of}
-use Rattle.cvss_score.specs.v3.private.Weights.{attack_vectors, attack_complexities, privileges_required, user_interactions, impacts, requirements}
+use Rattle.cvss_score.specs.v3.Bounds.{attack_vectors, attack_complexities, privileges_required, user_interactions, impacts, requirements}
 use Rattle.cvss_base.proofs.TestLemmas.{passes, passes_two, passes_three, is_listed, listed_if}
 
 -- no listed weight is above m

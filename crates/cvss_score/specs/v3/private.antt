@@ -1,4 +1,3 @@
 pub mod Near
 pub mod SubScores
 pub mod Units
-pub mod Weights

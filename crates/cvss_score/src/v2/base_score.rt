@@ -4,7 +4,7 @@ ghost use Rattle.std.specs.Prelude.{◌*◌, ◌^◌, ◌≤◌, ◌≤ℤ◌, p
 ghost use Rattle.cvss_base.specs.Exact.{ratio, thousandths, ◌≈◌};
 ghost use Rattle.cvss_base.specs.Rounding.{IsRoundedV2};
 ghost use Rattle.cvss_score.specs.v2.Scores.{impact, exploitability, f, base_number, IsBase};
-ghost use Rattle.cvss_score.specs.v2.private.Bounds.{AreBounded, IsOnScale, IsOnScaleOf};
+ghost use Rattle.cvss_score.specs.v2.Bounds.{AreBounded, IsOnScale, IsOnScaleOf};
 
 use crate::v2::Weights;
 

@@ -4,7 +4,7 @@ ghost use Rattle.std.specs.Prelude.{◌≡◌, ◌*◌, ◌^◌, ◌≤◌, ◌�
 ghost use Rattle.cvss_base.specs.Exact.{Exact, ratio, ◌over◌, whole, thousandths, tenths, of_count, ◌≈◌, smaller, IsWithinLimit};
 ghost use Rattle.cvss_base.specs.Rounding.{IsRoundedV2};
 ghost use Rattle.cvss_score.specs.v2.Scores.{impact, adjusted_impact, impact_of, temporal_number, environmental_number, IsBase, IsTemporal, IsEnvironmental};
-ghost use Rattle.cvss_score.specs.v2.private.Bounds.{AreBounded, IsImpactCount, IsOnScale, IsOnScaleOf};
+ghost use Rattle.cvss_score.specs.v2.Bounds.{AreBounded, IsImpactCount, IsOnScale, IsOnScaleOf};
 
 use crate::v2::Weights;
 use cvss_base::ONE;

@@ -4,7 +4,7 @@ ghost use Rattle.std.specs.Prelude.{◌≤◌, ℤ, pos};
 ghost use Rattle.cvss_base.specs.Exact.{of_count, ◌≈◌, IsWithinLimit};
 ghost use Rattle.cvss_score.specs.v3.Scores.{iss, impact, exploitability, miss, modified_impact, modified_exploitability, base_number, environmental_number, temporal_number, IsRounded, IsBase};
 ghost use Rattle.cvss_score.specs.v3.private.Near.{Approximates};
-ghost use Rattle.cvss_score.specs.v3.private.Weights.{AreBounded, AreOfTables};
+ghost use Rattle.cvss_score.specs.v3.Bounds.{AreBounded, AreOfTables};
 
 use crate::v3::equations::signed_impact;
 use crate::v3::{Exponent, Weights};

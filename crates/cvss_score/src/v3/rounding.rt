@@ -6,7 +6,7 @@ ghost use Rattle.cvss_base.specs.Exact.{◌over◌, of_count, whole, ◌⊏◌, 
 ghost use Rattle.cvss_score.specs.v3.Certainty.{IsCertain};
 ghost use Rattle.cvss_score.specs.v3.Scores.{IsRoundedBy, impact, modified_impact, base_number, environmental_number};
 ghost use Rattle.cvss_score.specs.declared.v3.weights.Weights.{Weights};
-ghost use Rattle.cvss_score.specs.v3.private.Weights.{AreOfTables};
+ghost use Rattle.cvss_score.specs.v3.Bounds.{AreOfTables};
 
 use crate::v3::rules::Rules;
 use cvss_base::TENTH;

@@ -6,7 +6,7 @@ ghost use Rattle.cvss_score.specs.v3.Scores.{base_number, environmental_number, 
 ghost use Rattle.cvss_score.specs.v3.Weighing.{weight_in};
 ghost use Rattle.cvss_score.specs.v3.private.Near.{StandsFor};
 ghost use Rattle.cvss_score.specs.v3.private.Units.{ArePossible, base_parts, modified_parts};
-ghost use Rattle.cvss_score.specs.v3.private.Weights.{AreBounded, AreOfTables};
+ghost use Rattle.cvss_score.specs.v3.Bounds.{AreBounded, AreOfTables};
 
 use crate::v3::equations::{Parts, exploitability, first_number, sub_score, temporal, weighted};
 use crate::v3::rounding::round_tenths;

@@ -4,7 +4,7 @@ ghost use Rattle.std.specs.Prelude.{◌≡◌, ◌*◌, ◌≤◌, ◌≤ℤ◌,
 ghost use Rattle.std.specs.Int.{int_max};
 ghost use Rattle.cvss_base.specs.Exact.{of_count, ◌≈◌, IsWithinLimit};
 ghost use Rattle.cvss_score.specs.v2.Scores.{impact, adjusted_impact, exploitability, IsTemporal, IsBaseScore, IsTemporalScore, IsEnvironmentalScore};
-ghost use Rattle.cvss_score.specs.v2.private.Bounds.{IsOnScale};
+ghost use Rattle.cvss_score.specs.v2.Bounds.{IsOnScale};
 ghost use Rattle.cvss_base.specs.Tenths.{IsInTenths, IsFromZeroToTen};
 ghost use Rattle.cvss_v2.specs.Weights.{weights_of};
 
@@ -21,7 +21,7 @@ impl Vector {
         ensures low { pos 0 ≤ℤ result }
         ensures high { result ≤ℤ pos (10_001 * 10 ^ 21) }
     {
-        Score::new(i128::from(self.shared_weights().impact()) * 10_000_000_000_000)
+        Score::new(i128::from(self.weights().impact()) * 10_000_000_000_000)
     }
 
     /// The exploitability sub-score (guide, section 3.2.1), which is exact, from 0 to 10.
@@ -32,7 +32,7 @@ impl Vector {
         ensures low { pos 0 ≤ℤ result }
         ensures high { result ≤ℤ pos (10 ^ 25) }
     {
-        Score::new(i128::from(self.shared_weights().exploitability()) * 1_000_000_000_000_000)
+        Score::new(i128::from(self.weights().exploitability()) * 1_000_000_000_000_000)
     }
 
     /// The impact sub-score with the requirements (guide, section 3.2.3), which is exact and at
@@ -44,7 +44,7 @@ impl Vector {
         ensures low { pos 0 ≤ℤ result }
         ensures high { result ≤ℤ pos (10_001 * 10 ^ 21) }
     {
-        Score::new(self.shared_weights().adjusted_impact())
+        Score::new(self.weights().adjusted_impact())
     }
 
     /// The base score (guide, section 3.2.1), not below 0.
@@ -61,7 +61,7 @@ impl Vector {
         ensures value { IsBaseScore (weights_of self.now) (pos result *ℤ pos (10 ^ 23)) }
         ensures to_ten { result ≤ 100 }
     {
-        raised_to_zero(self.weights().base())
+        raised_to_zero(self.inlined_weights().base())
     }
 
     /// The temporal score (guide, section 3.2.2), not below 0.
@@ -77,7 +77,7 @@ impl Vector {
         ensures value { IsTemporalScore (weights_of self.now) (pos result *ℤ pos (10 ^ 23)) }
         ensures to_ten { result ≤ 100 }
     {
-        raised_to_zero(self.shared_weights().temporal())
+        raised_to_zero(self.weights().temporal())
     }
 
     /// The environmental score (guide, section 3.2.3), not below 0.
@@ -93,7 +93,7 @@ impl Vector {
         ensures value { IsEnvironmentalScore (weights_of self.now) (pos result *ℤ pos (10 ^ 23)) }
         ensures to_ten { result ≤ 100 }
     {
-        raised_to_zero(self.shared_weights().environmental())
+        raised_to_zero(self.weights().environmental())
     }
 
     /// The temporal score with another impact in the place of the vector's own, which may be
@@ -103,7 +103,7 @@ impl Vector {
         ensures value { IsInTenths (IsTemporal (weights_of self.now) (of_count impact)) result }
         ensures limit { IsWithinLimit result }
     {
-        let weights = self.shared_weights();
+        let weights = self.weights();
         of_tenths(weights.temporal_of(weights.base_of(impact.value())))
     }
 }

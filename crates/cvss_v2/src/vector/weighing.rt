@@ -1,7 +1,7 @@
 //! What the metrics of a vector weigh, in thousandths.
 
 ghost use Rattle.std.specs.Prelude.{◌≡◌, ◌≤◌, option_map};
-ghost use Rattle.cvss_score.specs.v2.private.Bounds.{AreBounded};
+ghost use Rattle.cvss_score.specs.v2.Bounds.{AreBounded};
 ghost use Rattle.cvss_metric.specs.v2.Table.{weight_of, absent_weight};
 ghost use Rattle.cvss_v2.specs.Vector.{value_at};
 ghost use Rattle.cvss_v2.specs.Weights.{weight_in, weights_of};
@@ -12,9 +12,20 @@ use cvss_metric::v2::{MetricType, MetricValue};
 use cvss_score::v2::Weights;
 
 impl Vector {
-    /// What the metrics weigh, of which the equations make the scores.
+    /// What the metrics weigh, of which the equations make the scores (guide, section 3.2): an absent
+    /// base metric 0, any other absent one as `ND`.
+    // Inlined into each score and number it would be a twentieth of the module of WebAssembly.
+    #[inline(never)]
+    pub fn weights(&self) -> Weights
+        ensures value { result ≡ weights_of self.now }
+        ensures bounded { AreBounded result }
+    {
+        self.inlined_weights()
+    }
+
+    /// The same, inlined into the base score in tenths, which is computed for each line.
     #[inline(always)]
-    pub(super) fn weights(&self) -> Weights
+    pub(super) fn inlined_weights(&self) -> Weights
         ensures value { result ≡ weights_of self.now }
         ensures bounded { AreBounded result }
     {
@@ -34,16 +45,6 @@ impl Vector {
             ir: self.weight_at(MetricType::IR, self.ir, 1000),
             ar: self.weight_at(MetricType::AR, self.ar, 1000),
         }
-    }
-
-    /// The same, as a call that all share but the base score in tenths, which is computed for each line.
-    // Inlined into each score and number it would be a twentieth of the module of WebAssembly.
-    #[inline(never)]
-    pub(super) fn shared_weights(&self) -> Weights
-        ensures value { result ≡ weights_of self.now }
-        ensures bounded { AreBounded result }
-    {
-        self.weights()
     }
 
     /// What a metric weighs in this vector, in thousandths (guide, section 3.2): an absent one as `ND`, and

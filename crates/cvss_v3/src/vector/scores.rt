@@ -39,7 +39,7 @@ impl Vector {
             (pos result *ℤ pos (10 ^ 23)) }
         ensures to_ten { result ≤ 100 }
     {
-        self.weights().base(self.minor_version) as u8
+        self.inlined_weights().base(self.minor_version) as u8
     }
 
     /// The temporal score (v3.1 specification, section 7.2; v3.0 specification, section 8.2).
@@ -94,7 +94,7 @@ impl Vector {
         ensures temporal_to_ten { result.1 ≤ 100 }
         ensures environmental_to_ten { result.2 ≤ 100 }
     {
-        let weights = self.shared_weights();
+        let weights = self.weights();
         let base = weights.base(self.minor_version);
         let temporal = weights.times_temporal(base, self.minor_version);
         let first = weights.environmental_first(self.minor_version);
@@ -107,7 +107,7 @@ impl Vector {
         ensures value { of_count result ≈ exploitability (weights_of self.now) }
         ensures limit { IsWithinLimit result }
     {
-        Score::new(self.shared_weights().exploitability())
+        Score::new(self.weights().exploitability())
     }
 
     /// ISS, the impact sub-score of the base metrics, which is exact (v3.1 specification, section
@@ -116,7 +116,7 @@ impl Vector {
         ensures value { of_count result ≈ iss (weights_of self.now) }
         ensures limit { IsWithinLimit result }
     {
-        Score::new(self.shared_weights().iss())
+        Score::new(self.weights().iss())
     }
 
     /// The rating of the base score (v3.1 specification, section 5).

@@ -1,7 +1,7 @@
 //! What the metrics of a vector weigh, in hundredths.
 
 ghost use Rattle.std.specs.Prelude.{◌≡◌};
-ghost use Rattle.cvss_score.specs.v3.private.Weights.{AreBounded, AreOfTables};
+ghost use Rattle.cvss_score.specs.v3.Bounds.{AreBounded, AreOfTables};
 ghost use Rattle.cvss_score.specs.v3.Weighing.{effective};
 ghost use Rattle.cvss_v3.specs.VectorWeights.{weights_of};
 ghost use Rattle.cvss_metric.specs.v3.Modified.{weight_or};
@@ -16,9 +16,22 @@ use cvss_score::v3::weighing::{
 };
 
 impl Vector {
-    /// What the metrics weigh, of which the equations make the scores.
+    /// What the metrics weigh, of which the equations make the scores (v3.1 specification, section 7.4;
+    /// v3.0 specification, section 8.4): an absent base metric 0, a modified metric that is absent or `X`
+    /// as its base metric, PR by the scope and MPR by the modified scope.
+    // Inlined into each score and number it would be a twentieth of the module of WebAssembly.
+    #[inline(never)]
+    pub fn weights(&self) -> Weights
+        ensures value { result ≡ weights_of self.now }
+        ensures tables { AreOfTables result }
+        ensures bounded { AreBounded result }
+    {
+        self.inlined_weights()
+    }
+
+    /// The same, inlined into the base score in tenths, which is computed for each line.
     #[inline(always)]
-    pub(super) fn weights(&self) -> Weights
+    pub(super) fn inlined_weights(&self) -> Weights
         ensures value { result ≡ weights_of self.now }
         ensures tables { AreOfTables result }
         ensures bounded { AreBounded result }
@@ -55,17 +68,6 @@ impl Vector {
             mi: effective_weight(self.mi, self.i),
             ma: effective_weight(self.ma, self.a),
         }
-    }
-
-    /// The same, as a call that all share but the base score in tenths, which is computed for each line.
-    // Inlined into each score and number it would be a twentieth of the module of WebAssembly.
-    #[inline(never)]
-    pub(crate) fn shared_weights(&self) -> Weights
-        ensures value { result ≡ weights_of self.now }
-        ensures tables { AreOfTables result }
-        ensures bounded { AreBounded result }
-    {
-        self.weights()
     }
 
     /// Whether the scope is changed, by which the base score is computed.

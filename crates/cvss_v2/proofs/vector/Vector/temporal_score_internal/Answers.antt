@@ -12,6 +12,6 @@ returns-clause-value c =
     let temporal = simp (to_z-of_z w64 base.result (record { sfits = base.type_inv })) at c.temporal_of.ensures.value in
     record {
       number = c.temporal_of.result;
-      is_number = rw c.shared_weights-weights.ensures.value at (temporal impact is_base);
+      is_number = rw c.weights-weights.ensures.value at (temporal impact is_base);
       is_count = simp (to_z-of_z w64 c.temporal_of.result (record { sfits = c.temporal_of.type_inv })) at c.of_tenths.ensures.value;
     }

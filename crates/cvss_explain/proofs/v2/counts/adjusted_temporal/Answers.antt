@@ -1,6 +1,6 @@
 use Rattle.std.proofs.Common.{arith}
 use Rattle.std.proofs.lemmas.Int.{ints}
-use Rattle.cvss_v2.proofs.vector.Vector.adjusted_temporal.Goals as goal
+use Rattle.cvss_explain.proofs.v2.counts.adjusted_temporal.Goals as goal
 
 pub of_tenths-requires-clause-low : goal.of_tenths-requires-clause-low
 of_tenths-requires-clause-low c = omega (arith, ints, c.adjusted_temporal.ensures.on_scale.low)

@@ -1,5 +1,5 @@
--- The weights that the metrics of a vector can have, in hundredths: v3.0 specification, 8.4; v3.1 specification, 7.4. The
--- contracts of calls that `cvss` has no path to cite these.
+-- The weights that the metrics of a vector can have, in hundredths: v3.0 specification, 8.4; v3.1 specification, 7.4. Of
+-- these the equations make the scores.
 use Rattle.std.specs.Prelude.{◌≤◌, ℕ, Bool, true, false, List, ◌∷◌, map, unwrap_or}
 use Rattle.std.specs.List.{Contains}
 use Rattle.cvss_base.specs.declared.v3.MetricType.{MetricType}

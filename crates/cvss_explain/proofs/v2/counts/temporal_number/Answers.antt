@@ -5,14 +5,14 @@ use Rattle.cvss_base.proofs.ExactLemmas.{equal_trans}
 use Rattle.cvss_score.specs.v2.Scores.{impact}
 use Rattle.cvss_score.proofs.v2_lemmas.UniqueLemmas.{base_alone}
 use Rattle.cvss_v2.specs.Weights.{weights_of}
-use Rattle.cvss_v2.proofs.vector.Vector.temporal_number.Goals as goal
+use Rattle.cvss_explain.proofs.v2.counts.temporal_number.Goals as goal
 
 pub returns-clause-value : goal.returns-clause-value
 returns-clause-value c = λ base is_base.
-    let w = weights_of c.args.self.now in
-    let same = base_alone w (impact w) (lit< tt) c.base.result base (rw c.shared_weights-weights.ensures.value at c.base.ensures.value) is_base in
+    let w = weights_of c.args.vector.now in
+    let same = base_alone w (impact w) (lit< tt) c.base.result base (rw c.weights-weights.ensures.value at c.base.ensures.value) is_base in
     equal_trans (lit< tt) (record { equal = omega (arith, ints) })
-    (rw (c.shared_weights-weights.ensures.value, same) at (simp (to_z-of_z w64 c.base.result (search rules)) at c.temporal_number-number.ensures.value))
+    (rw (c.weights-weights.ensures.value, same) at (simp (to_z-of_z w64 c.base.result (search rules)) at c.temporal_number-number.ensures.value))
 
 pub returns-clause-limit : goal.returns-clause-limit
 returns-clause-limit c =

@@ -5,15 +5,15 @@ use Rattle.cvss_base.proofs.ExactLemmas.{equal_trans}
 use Rattle.cvss_score.specs.v2.Scores.{adjusted_impact}
 use Rattle.cvss_score.proofs.v2_lemmas.UniqueLemmas.{temporal_alone}
 use Rattle.cvss_v2.specs.Weights.{weights_of}
-use Rattle.cvss_v2.proofs.vector.Vector.environmental_number.Goals as goal
+use Rattle.cvss_explain.proofs.v2.counts.environmental_number.Goals as goal
 
 pub returns-clause-value : goal.returns-clause-value
 returns-clause-value c = λ temporal is_temporal.
-    let w = weights_of c.args.self.now in
+    let w = weights_of c.args.vector.now in
     let own = c.adjusted_temporal in
-    let same = temporal_alone w (adjusted_impact w) (lit< tt) own.result temporal (rw c.shared_weights-weights.ensures.value at own.ensures.value) is_temporal in
+    let same = temporal_alone w (adjusted_impact w) (lit< tt) own.result temporal (rw c.weights-weights.ensures.value at own.ensures.value) is_temporal in
     equal_trans (lit< tt) (record { equal = omega (arith, ints) })
-    (rw (c.shared_weights-weights.ensures.value, same) at (simp (to_z-of_z w64 own.result (search rules)) at c.environmental_number-number.ensures.value))
+    (rw (c.weights-weights.ensures.value, same) at (simp (to_z-of_z w64 own.result (search rules)) at c.environmental_number-number.ensures.value))
 
 pub returns-clause-limit : goal.returns-clause-limit
 returns-clause-limit c =
