@@ -5,7 +5,7 @@ ghost use Rattle.cvss_explain.specs.V2.{IsExplanationText, base_members, environ
 ghost use Rattle.cvss_explain.specs.private.Values.{members_view};
 ghost use Rattle.cvss_json_write.specs.Scalars.{member_room, rooms};
 
-mod counts;
+pub mod counts;
 pub mod numbers;
 
 use crate::parts::{Explained, Value};

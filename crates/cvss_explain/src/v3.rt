@@ -7,7 +7,7 @@ ghost use Rattle.cvss_json_write.specs.Json.{decimal_text};
 ghost use Rattle.cvss_json_write.specs.Scalars.{member_room, member_view, rooms};
 ghost use Rattle.cvss_v3.specs.VectorWeights.{weights_of};
 
-mod counts;
+pub mod counts;
 pub mod numbers;
 
 use crate::parts::{Explained, Value, severity};

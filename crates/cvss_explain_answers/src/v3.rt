@@ -1,11 +1,13 @@
 //! The explanations of the scores of CVSS v3 (v3.1 specification, section 7; v3.0 specification, section 8).
 
-ghost use Rattle.std.specs.Prelude.{◌≡◌, OnOk, map};
+ghost use Rattle.std.specs.Prelude.{◌≡◌, ◌≤◌, IfSome, OnOk, map};
 ghost use Rattle.cvss_base.specs.V3Types.{description_of};
 ghost use Rattle.cvss_explain_answers.specs.V3.{AreLines, base_rows, environmental_rows, temporal_rows, weight_text};
 ghost use Rattle.cvss_explain_answers.specs.private.Amounts.{row_view};
 ghost use Rattle.cvss_explain_answers.specs.private.Writing.{Writes};
 ghost use Rattle.cvss_json_record.specs.WordsV3.{words_of};
+ghost use Rattle.cvss_score.specs.v3.Bounds.{AreBounded};
+ghost use Rattle.cvss_score.specs.v3.Weighing.{weight_in};
 
 use crate::lines::{Amount, Row, Title, rated, write_ways};
 use crate::metrics::{Explained, write_metrics};
@@ -17,6 +19,7 @@ use cvss_json_record::Group;
 use cvss_json_record::names::{self, v3};
 use cvss_json_write::Page;
 use cvss_lines::OutputBuffer;
+use cvss_score::v3::Weights;
 use cvss_v3::Vector;
 use std::alloc::AllocError;
 
@@ -58,10 +61,41 @@ impl Explained for Vector {
 
     /// Writes what a metric weighs, which the scopes don't.
     fn put_figure(&self, _class: &(), kind: MetricType, page: &mut Page) {
-        match self.weights().of(kind) {
+        match hundredths_of(&self.weights(), kind) {
             Some(hundredths) => page.decimal(hundredths as i64 * 100_000),
             None => page.push(b"-"),
         }
+    }
+}
+
+/// The weight of a metric in hundredths, which the scopes have not.
+fn hundredths_of(weights: &Weights, metric: MetricType) -> Option<u64>
+    requires { AreBounded weights.now }
+    ensures value { result ≡ weight_in weights.now metric }
+    ensures bound { IfSome result (λ weight. weight ≤ 150) }
+{
+    match metric {
+        MetricType::AV => Some(weights.av),
+        MetricType::AC => Some(weights.ac),
+        MetricType::PR => Some(weights.pr),
+        MetricType::UI => Some(weights.ui),
+        MetricType::C => Some(weights.c),
+        MetricType::I => Some(weights.i),
+        MetricType::A => Some(weights.a),
+        MetricType::E => Some(weights.e),
+        MetricType::RL => Some(weights.rl),
+        MetricType::RC => Some(weights.rc),
+        MetricType::CR => Some(weights.cr),
+        MetricType::IR => Some(weights.ir),
+        MetricType::AR => Some(weights.ar),
+        MetricType::MAV => Some(weights.mav),
+        MetricType::MAC => Some(weights.mac),
+        MetricType::MPR => Some(weights.mpr),
+        MetricType::MUI => Some(weights.mui),
+        MetricType::MC => Some(weights.mc),
+        MetricType::MI => Some(weights.mi),
+        MetricType::MA => Some(weights.ma),
+        MetricType::S | MetricType::MS => None,
     }
 }
 

@@ -13,16 +13,20 @@ use cvss_v2::{Score, Vector};
 const THOUSANDTH: i128 = 1_000_000_000_000_000_000_000;
 
 /// f(Impact), which is 0 without impact and else 1.176 (guide, section 3.2.1).
-pub(super) fn impact_factor(vector: &Vector) -> Score
+pub fn impact_factor(vector: &Vector) -> Score
     ensures value { of_count result ≈ f (impact (weights_of vector.now)) }
     ensures limit { IsWithinLimit result }
 {
-    Score::new(i128::from(vector.weights().impact_factor()) * THOUSANDTH)
+    if vector.weights().impact() == 0 {
+        Score::new(0)
+    } else {
+        Score::new(1_176 * THOUSANDTH)
+    }
 }
 
 /// What the base score is the rounding of (guide, section 3.2.1), which is exact and may be
 /// below 0.
-pub(super) fn base_number(vector: &Vector) -> Score
+pub fn base_number(vector: &Vector) -> Score
     ensures value { of_count result
         ≈ base_number (impact (weights_of vector.now)) (exploitability (weights_of vector.now)) }
     ensures limit { IsWithinLimit result }
@@ -32,7 +36,7 @@ pub(super) fn base_number(vector: &Vector) -> Score
 
 /// What the temporal score is the rounding of (guide, section 3.2.2), which is exact and may be
 /// below 0: the base score before it is raised to 0, times E, RL and RC.
-pub(super) fn temporal_number(vector: &Vector) -> Score
+pub fn temporal_number(vector: &Vector) -> Score
     ensures value { (base : ℤ)
         → IsBase (weights_of vector.now) (impact (weights_of vector.now)) base
         → of_count result ≈ temporal_number (tenths base) (thousandths (weights_of vector.now).e)
@@ -46,7 +50,7 @@ pub(super) fn temporal_number(vector: &Vector) -> Score
 
 /// The base score with the adjusted impact in the place of the impact (guide, section 3.2.3),
 /// which may be below 0.
-pub(super) fn adjusted_base(vector: &Vector) -> Score
+pub fn adjusted_base(vector: &Vector) -> Score
     ensures value { IsInTenths
         (IsBase (weights_of vector.now) (adjusted_impact (weights_of vector.now))) result }
     ensures limit { IsWithinLimit result }
@@ -56,7 +60,7 @@ pub(super) fn adjusted_base(vector: &Vector) -> Score
 
 /// AdjustedTemporal, the temporal score of the adjusted base score (guide, section 3.2.3), which
 /// may be below 0.
-pub(super) fn adjusted_temporal(vector: &Vector) -> Score
+pub fn adjusted_temporal(vector: &Vector) -> Score
     ensures value { IsInTenths
         (IsTemporal (weights_of vector.now) (adjusted_impact (weights_of vector.now))) result }
     ensures limit { IsWithinLimit result }
@@ -66,7 +70,7 @@ pub(super) fn adjusted_temporal(vector: &Vector) -> Score
 
 /// What the environmental score is the rounding of (guide, section 3.2.3), which is exact and
 /// may be below 0.
-pub(super) fn environmental_number(vector: &Vector) -> Score
+pub fn environmental_number(vector: &Vector) -> Score
     ensures value { (temporal : ℤ)
         → IsTemporal (weights_of vector.now) (adjusted_impact (weights_of vector.now)) temporal
         → of_count result ≈ environmental_number (tenths temporal)

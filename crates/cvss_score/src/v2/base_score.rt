@@ -1,9 +1,9 @@
 //! The base score in numbers of 64 bits (guide, section 3.2.1). `equations` has it of any impact.
 
 ghost use Rattle.std.specs.Prelude.{◌*◌, ◌^◌, ◌≤◌, ◌≤ℤ◌, pos, neg_ℤ};
-ghost use Rattle.cvss_base.specs.Exact.{ratio, thousandths, ◌≈◌};
+ghost use Rattle.cvss_base.specs.Exact.{ratio, ◌≈◌};
 ghost use Rattle.cvss_base.specs.Rounding.{IsRoundedV2};
-ghost use Rattle.cvss_score.specs.v2.Scores.{impact, exploitability, f, base_number, IsBase};
+ghost use Rattle.cvss_score.specs.v2.Scores.{impact, exploitability, base_number, IsBase};
 ghost use Rattle.cvss_score.specs.v2.Bounds.{AreBounded, IsOnScale, IsOnScaleOf};
 
 use crate::v2::Weights;
@@ -27,15 +27,6 @@ impl Weights {
         ensures bound { result ≤ 10 ^ 10 }
     {
         self.av * self.ac * self.au * 20
-    }
-
-    /// f(Impact) in thousandths.
-    pub fn impact_factor(&self) -> u64
-        requires { AreBounded self.now }
-        ensures value { thousandths result ≈ f (impact self.now) }
-        ensures bound { result ≤ 1176 }
-    {
-        if self.impact() == 0 { 0 } else { FACTOR }
     }
 
     /// What the base score is the rounding of, in 10^-15.

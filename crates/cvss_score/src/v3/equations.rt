@@ -83,17 +83,19 @@ fn impact(sub_score: u64, changed: bool, exponent: Exponent) -> u64
     }
 }
 
-/// Impact or Modified Impact in 10^-11. Without a sub-score it is below 0 where the scope is changed.
-pub fn signed_impact(parts: Parts, exponent: Exponent) -> i64
-    requires { ArePossible parts }
-    ensures value { IsImpact exponent parts result }
-    ensures low { neg_ℤ (pos (10 ^ 12)) ≤ℤ result }
-    ensures high { result ≤ℤ pos (10 ^ 12) }
-{
-    match parts.sub_score {
-        0 if parts.changed => WITHOUT_IMPACT,
-        0 => 0,
-        sub_score => impact(sub_score, parts.changed, exponent) as i64,
+impl Parts {
+    /// Impact or Modified Impact in 10^-11. Without a sub-score it is below 0 where the scope is changed.
+    pub fn signed_impact(self, exponent: Exponent) -> i64
+        requires { ArePossible self }
+        ensures value { IsImpact exponent self result }
+        ensures low { neg_ℤ (pos (10 ^ 12)) ≤ℤ result }
+        ensures high { result ≤ℤ pos (10 ^ 12) }
+    {
+        match self.sub_score {
+            0 if self.changed => WITHOUT_IMPACT,
+            0 => 0,
+            sub_score => impact(sub_score, self.changed, exponent) as i64,
+        }
     }
 }
 

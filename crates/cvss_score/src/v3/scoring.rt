@@ -1,9 +1,8 @@
 //! The scores of weights, in tenths.
 
-ghost use Rattle.std.specs.Prelude.{◌≡◌, ◌≤◌, ◌*◌, ◌^◌, ℕ, pos, IfSome};
+ghost use Rattle.std.specs.Prelude.{◌≡◌, ◌≤◌, ◌*◌, ◌^◌, ℕ, pos};
 ghost use Rattle.cvss_base.specs.Exact.{◌over◌, ◌≈◌};
 ghost use Rattle.cvss_score.specs.v3.Scores.{base_number, environmental_number, temporal_number, IsRounded, IsBase};
-ghost use Rattle.cvss_score.specs.v3.Weighing.{weight_in};
 ghost use Rattle.cvss_score.specs.v3.private.Near.{StandsFor};
 ghost use Rattle.cvss_score.specs.v3.private.Units.{ArePossible, base_parts, modified_parts};
 ghost use Rattle.cvss_score.specs.v3.Bounds.{AreBounded, AreOfTables};
@@ -11,40 +10,8 @@ ghost use Rattle.cvss_score.specs.v3.Bounds.{AreBounded, AreOfTables};
 use crate::v3::equations::{Parts, exploitability, first_number, sub_score, temporal, weighted};
 use crate::v3::rounding::round_tenths;
 use crate::v3::{Exponent, Rules, Weights};
-use cvss_metric::v3::MetricType;
 
 impl Weights {
-    /// The weight of a metric, which the scopes have not.
-    pub fn of(&self, metric: MetricType) -> Option<u64>
-        requires { AreBounded self.now }
-        ensures value { result ≡ weight_in self.now metric }
-        ensures bound { IfSome result (λ weight. weight ≤ 150) }
-    {
-        match metric {
-            MetricType::AV => Some(self.av),
-            MetricType::AC => Some(self.ac),
-            MetricType::PR => Some(self.pr),
-            MetricType::UI => Some(self.ui),
-            MetricType::C => Some(self.c),
-            MetricType::I => Some(self.i),
-            MetricType::A => Some(self.a),
-            MetricType::E => Some(self.e),
-            MetricType::RL => Some(self.rl),
-            MetricType::RC => Some(self.rc),
-            MetricType::CR => Some(self.cr),
-            MetricType::IR => Some(self.ir),
-            MetricType::AR => Some(self.ar),
-            MetricType::MAV => Some(self.mav),
-            MetricType::MAC => Some(self.mac),
-            MetricType::MPR => Some(self.mpr),
-            MetricType::MUI => Some(self.mui),
-            MetricType::MC => Some(self.mc),
-            MetricType::MI => Some(self.mi),
-            MetricType::MA => Some(self.ma),
-            MetricType::S | MetricType::MS => None,
-        }
-    }
-
     /// The parts of what the base score is the rounding of.
     #[inline(always)]
     pub(super) fn base_parts(&self) -> Parts
@@ -64,7 +31,7 @@ impl Weights {
 
     /// The parts of what the environmental score is first the rounding of.
     #[inline(never)]
-    pub(super) fn modified_parts(&self) -> Parts
+    pub fn modified_parts(&self) -> Parts
         requires tables { AreOfTables self.now }
         requires bounded { AreBounded self.now }
         ensures value { result ≡ modified_parts self.now }
@@ -84,7 +51,7 @@ impl Weights {
 
     /// A number of 10^-13 that stands for the first number of the base score.
     #[inline(always)]
-    pub(super) fn base_units(&self) -> u64
+    pub fn base_units(&self) -> u64
         requires tables { AreOfTables self.now }
         requires bounded { AreBounded self.now }
         ensures value { (minor : ℕ) → StandsFor minor self.now.changed (result over (10 ^ 13))
@@ -96,7 +63,7 @@ impl Weights {
 
     /// A number of 10^-13 that stands for the first number of the environmental score.
     #[inline(never)]
-    pub(super) fn environmental_units(&self, minor_version: usize) -> u64
+    pub fn environmental_units(&self, minor_version: usize) -> u64
         requires tables { AreOfTables self.now }
         requires bounded { AreBounded self.now }
         ensures value { (minor : ℕ) → StandsFor minor self.now.modified_changed
@@ -134,7 +101,7 @@ impl Weights {
 
     /// So many tenths times E, RL and RC, in 10^-7.
     #[inline(never)]
-    pub(super) fn temporal_units(&self, tenths: u64) -> u64
+    pub fn temporal_units(&self, tenths: u64) -> u64
         requires bounded { AreBounded self.now }
         requires tenths { tenths ≤ 100 }
         ensures value { result over (10 ^ 7) ≈ temporal_number (pos tenths) self.now }

@@ -1,0 +1,22 @@
+use Rattle.std.proofs.Common.{◌^◌, arith, lit<}
+use Rattle.std.proofs.lemmas.Int.{ints}
+use Rattle.cvss_base.specs.Exact.{of_count, ◌over◌}
+use Rattle.cvss_base.proofs.ExactLemmas.{equal_refl}
+use Rattle.cvss_score.specs.v3.Scores.{base_number}
+use Rattle.cvss_score.specs.v3.private.Near.{Approximates}
+use Rattle.cvss_score.proofs.v3_lemmas.EqualLemmas.{base_bottom}
+use Rattle.cvss_score.proofs.v3_lemmas.NearLemmas.{still_approximates}
+use Rattle.cvss_v3.specs.VectorWeights.{weights_of}
+use Rattle.cvss_explain.proofs.v3.counts.base_number.Goals as goal
+
+near : (c : goal.After-new) → Approximates (weights_of c.args.vector.now).changed (of_count c.new.result) (base_number (weights_of c.args.vector.now))
+near c =
+    let w = weights_of c.args.vector.now in
+    let units : Approximates c.weights.result.changed (c.base_units.result over (10 ^ 13)) (base_number c.weights.result) = (c.base_units.ensures.value 0).near in
+    still_approximates w.changed {x = c.base_units.result over (10 ^ 13)} (lit< tt) (base_bottom w) (record { equal = omega (arith, ints, c.new.ensures) }) (equal_refl _) (rw c.weights.ensures.value at units)
+
+pub returns-clause-close : goal.returns-clause-close
+returns-clause-close c = (near c).close
+
+pub returns-clause-exact : goal.returns-clause-exact
+returns-clause-exact c = (near c).exact

@@ -1,0 +1,15 @@
+use Rattle.std.proofs.Common.{pos, arith, lit<, sym}
+use Rattle.std.proofs.lemmas.Int.{ints}
+use Rattle.cvss_base.proofs.ExactLemmas.{equal_trans}
+use Rattle.cvss_score.proofs.v3_lemmas.LawLemmas.{first_once}
+use Rattle.cvss_score.specs.v3.Scores.{environmental_number, IsRounded}
+use Rattle.cvss_v3.specs.VectorWeights.{weights_of}
+use Rattle.cvss_explain.proofs.v3.counts.environmental_number.Goals as goal
+
+pub returns-clause-value : goal.returns-clause-value
+returns-clause-value c = λ first is_first.
+    let v = c.args.vector.now in
+    let of_weights : IsRounded v.minor_version (environmental_number v.minor_version c.weights-weights.result) (pos c.environmental_first.result) =
+    c.environmental_first.ensures.value in
+    let own = first_once v.minor_version (weights_of v) (pos c.environmental_first.result) first (rw c.weights-weights.ensures.value at of_weights) is_first in
+    rw (sym own) (equal_trans (lit< tt) (record { equal = omega (arith, ints) }) (rw c.weights-weights.ensures.value at c.temporal_units-units.ensures.value))
