@@ -31,7 +31,9 @@ def crates():
 def laws_for(path):
     """Which words of which types the laws cite that are in the crate of a file, or in its part of `cvss_laws`."""
     crate, _, *inside = path.relative_to(ROOT / "crates").parts
-    part = inside[0].removesuffix(".rt") if crate == "cvss_score" else crate.removeprefix("cvss_")
+    part = inside[0].removesuffix(".rt") if crate in ("cvss_score", "cvss_vector") else crate.removeprefix("cvss_")
+    if crate == "cvss_vector" and not re.fullmatch(r"v\d", part):
+        part = "any"
     above = [folder / "laws.rt" for folder in path.parents if "src" in folder.parts]
     above.append(ROOT / "crates/cvss_laws/src" / f"{part}.rt")
     return {law for laws in above if laws.exists() for law in LAW.findall(laws.read_text(encoding="utf-8"))}

@@ -15,7 +15,7 @@ ROOT = Path(__file__).resolve().parent.parent
 # parts of versions and of the C functions, which have no path in `cvss`, and callers that are proved from laws too
 WITHOUT_PROMISES = {"cvss_text", "cvss_ffi", "cvss_examples"}
 # such parts in crates whose other modules have one
-PARTS = {ROOT / "crates/cvss_base/src/component.rt", ROOT / "crates/cvss_v4/src/overrides.rt"}
+PARTS = {ROOT / "crates/cvss_base/src/component.rt", ROOT / "crates/cvss_vector/src/v4/overrides.rt"}
 
 OTHER_SHELF = re.compile(r"\.specs\.(?:v\d\.)?(?:laws|private)\.")
 USE = re.compile(r"^ *(?:pub |ghost )?use Rattle\.([\w.]+?)(?:\.\{([^}]*)\})?(?: as (\w+))?;?$", re.M)
@@ -67,14 +67,14 @@ def names_given(uses):
 
 def sources(crate):
     """The files of a crate, each with whether it is public and its text, and the names that a `pub use` gives. Of the
-    crate of equations that is public which a version's crate or `cvss` passes on."""
+    crate of equations that is public which `cvss_vector` or `cvss` passes on."""
     folder = ROOT / "crates" / crate / "src"
     root = next(path for path in (folder / "lib.rt", folder / "main.rt") if path.exists())
     files = [(path, is_public, path.read_text(encoding="utf-8")) for path, is_public in modules(root, True)]
     uses = [use for _, _, text in files for use in EXPORT.findall(text)]
     if crate != "cvss_score":
         return files, names_given(uses)
-    above = [path.read_text(encoding="utf-8") for name in ("cvss_v2", "cvss_v3", "cvss_v4", "cvss")
+    above = [path.read_text(encoding="utf-8") for name in ("cvss_vector", "cvss")
              for path in (folder.parents[1] / name / "src").rglob("*.rt")]
     passed_on = names_given(use for text in above for use in EXPORT.findall(text) if f"{crate}::" in use)
     return [(path, is_public and path.relative_to(folder).parts[1:2] and

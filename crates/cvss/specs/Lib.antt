@@ -5,17 +5,17 @@ pub mod MetricsV4
 pub mod ReadingV4
 pub mod laws
 pub mod private
-pub use Rattle.cvss_any.specs.Answers
-pub use Rattle.cvss_any.specs.Bytes
-pub use Rattle.cvss_any.specs.Dispatch
-pub use Rattle.cvss_any.specs.MetricTypes
-pub use Rattle.cvss_any.specs.MetricsLeft
-pub use Rattle.cvss_any.specs.Published
-pub use Rattle.cvss_any.specs.declared.vector.Cvss as CvssType
-pub use Rattle.cvss_any.specs.declared.bytes_error.BytesError as BytesErrorType
-pub use Rattle.cvss_any.specs.declared.published.Bounds as BoundsType
-pub use Rattle.cvss_any.specs.declared.published.Published as PublishedType
-pub use Rattle.cvss_any.specs.declared.metric_type.MetricType as MetricTypeAny
+pub use Rattle.cvss_vector.specs.Answers
+pub use Rattle.cvss_vector.specs.Bytes
+pub use Rattle.cvss_vector.specs.Dispatch
+pub use Rattle.cvss_vector.specs.MetricTypes
+pub use Rattle.cvss_vector.specs.MetricsLeft
+pub use Rattle.cvss_vector.specs.Published
+pub use Rattle.cvss_vector.specs.declared.vector.Cvss as CvssType
+pub use Rattle.cvss_vector.specs.declared.bytes_error.BytesError as BytesErrorType
+pub use Rattle.cvss_vector.specs.declared.published.Bounds as BoundsType
+pub use Rattle.cvss_vector.specs.declared.published.Published as PublishedType
+pub use Rattle.cvss_vector.specs.declared.metric_type.MetricType as MetricTypeAny
 pub use Rattle.cvss_base.specs.Equality
 pub use Rattle.cvss_base.specs.ErrorText
 pub use Rattle.cvss_base.specs.Exact
@@ -42,9 +42,9 @@ pub use Rattle.cvss_score.specs.v2.Bounds as BoundsV2
 pub use Rattle.cvss_score.specs.v2.Rating as RatingV2
 pub use Rattle.cvss_score.specs.v2.Scores as ScoresV2
 pub use Rattle.cvss_metric.specs.v2.Table as TableV2
-pub use Rattle.cvss_v2.specs.Vector as VectorV2
-pub use Rattle.cvss_v2.specs.Weights as WeightsV2
-pub use Rattle.cvss_v2.specs.declared.vector.Vector as VectorTypeV2
+pub use Rattle.cvss_vector.specs.v2.Vector as VectorV2
+pub use Rattle.cvss_vector.specs.v2.Weights as WeightsV2
+pub use Rattle.cvss_vector.specs.declared.v2.vector.Vector as VectorTypeV2
 pub use Rattle.cvss_score.specs.declared.v2.weights.Weights as WeightsTypeV2
 pub use Rattle.cvss_metric.specs.v3.Modified as ModifiedV3
 pub use Rattle.cvss_metric.specs.v3.Table as TableV3
@@ -54,9 +54,9 @@ pub use Rattle.cvss_score.specs.v3.Certainty as CertaintyV3
 pub use Rattle.cvss_score.specs.v3.Scores as ScoresV3
 pub use Rattle.cvss_score.specs.v3.Weighing as WeighingV3
 pub use Rattle.cvss_score.specs.declared.v3.weights.Weights as WeightsTypeV3
-pub use Rattle.cvss_v3.specs.Vector as VectorV3
-pub use Rattle.cvss_v3.specs.VectorWeights as WeightsV3
-pub use Rattle.cvss_v3.specs.declared.vector.Vector as VectorTypeV3
+pub use Rattle.cvss_vector.specs.v3.Vector as VectorV3
+pub use Rattle.cvss_vector.specs.v3.VectorWeights as WeightsV3
+pub use Rattle.cvss_vector.specs.declared.v3.vector.Vector as VectorTypeV3
 pub use Rattle.cvss_metric.specs.v4.Table as TableV4
 pub use Rattle.cvss_score.specs.v4.AsSevere as AsSevereV4
 pub use Rattle.cvss_score.specs.v4.Classes as ClassesV4
@@ -66,9 +66,9 @@ pub use Rattle.cvss_score.specs.v4.Scores as ScoresV4
 pub use Rattle.cvss_score.specs.v4.Values as ValuesV4
 pub use Rattle.cvss_score.specs.declared.v4.nomenclature.Nomenclature as NomenclatureTypeV4
 pub use Rattle.cvss_score.specs.declared.v4.scoring.effective.Effective as EffectiveTypeV4
-pub use Rattle.cvss_v4.specs.Merging as MergingV4
-pub use Rattle.cvss_v4.specs.Nomenclature as NomenclatureV4
-pub use Rattle.cvss_v4.specs.Overriding as OverridingV4
-pub use Rattle.cvss_v4.specs.Vector as VectorV4
-pub use Rattle.cvss_v4.specs.declared.vector.Vector as VectorTypeV4
-pub use Rattle.cvss_v4.specs.declared.vector.overriding.OverrideError as OverrideErrorTypeV4
+pub use Rattle.cvss_vector.specs.v4.Merging as MergingV4
+pub use Rattle.cvss_vector.specs.v4.Nomenclature as NomenclatureV4
+pub use Rattle.cvss_vector.specs.v4.Overriding as OverridingV4
+pub use Rattle.cvss_vector.specs.v4.Vector as VectorV4
+pub use Rattle.cvss_vector.specs.declared.v4.vector.Vector as VectorTypeV4
+pub use Rattle.cvss_vector.specs.declared.v4.vector.overriding.OverrideError as OverrideErrorTypeV4

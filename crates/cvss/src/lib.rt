@@ -11,8 +11,8 @@ pub mod v2;
 pub mod v3;
 pub mod v4;
 
-pub use cvss_any::{
+pub use cvss_base::{Error, LIMIT, MetricGroup, ONE, OneDecimal, PREFIX, Severity, tenths};
+pub use cvss_vector::{
     Bounds, BytesError, Cvss, Message, MetricType, Metrics, Published, ReadError, Refusal, Segment,
     SetError, Version,
 };
-pub use cvss_base::{Error, LIMIT, MetricGroup, ONE, OneDecimal, PREFIX, Severity, tenths};

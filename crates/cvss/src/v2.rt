@@ -3,5 +3,5 @@
 pub mod metric;
 
 pub use cvss_laws::v2 as laws;
-pub use cvss_v2::{Metrics, Score, Vector};
+pub use cvss_vector::v2::{Metrics, Score, Vector};
 pub use metric::{Metric, MetricType};

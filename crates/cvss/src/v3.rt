@@ -3,5 +3,5 @@
 pub mod metric;
 
 pub use cvss_laws::v3 as laws;
-pub use cvss_v3::{Metrics, Score, Vector};
+pub use cvss_vector::v3::{Metrics, Score, Vector};
 pub use metric::{Metric, MetricType};

@@ -10,15 +10,15 @@ use Rattle.cvss_base.specs.declared.severity.Severity.{Severity}
 use Rattle.cvss_score.specs.v2.Rating.{rating_of}
 use Rattle.cvss_lines.specs.Answers.{WritesAnswer, written_text}
 use Rattle.cvss_lines.proofs.TextsLemmas.{accepted_by, refused_by}
-use Rattle.cvss_any.specs.Answers.{IsScoreOf, rating_text, score_of_tenths, text_of, vector_answer}
-use Rattle.cvss_any.specs.Complete.{IsPublishedOfComplete, IsPublishedTo, IsReadErrorBy}
-use Rattle.cvss_any.specs.Published.{IsPublished}
-use Rattle.cvss_any.specs.Reasons.{error_message}
-use Rattle.cvss_any.specs.declared.published.Bounds.{Bounds}
-use Rattle.cvss_any.specs.declared.published.Bounds.TheVariants.{OfV2, SinceV3}
-use Rattle.cvss_any.specs.declared.published.Published.{Published}
-use Rattle.cvss_any.specs.declared.refusal.ReadError.{ReadError}
-use Rattle.cvss_any.specs.declared.vector.Cvss.{Cvss}
+use Rattle.cvss_vector.specs.Answers.{IsScoreOf, rating_text, score_of_tenths, text_of, vector_answer}
+use Rattle.cvss_vector.specs.Complete.{IsPublishedOfComplete, IsPublishedTo, IsReadErrorBy}
+use Rattle.cvss_vector.specs.Published.{IsPublished}
+use Rattle.cvss_vector.specs.Reasons.{error_message}
+use Rattle.cvss_vector.specs.declared.published.Bounds.{Bounds}
+use Rattle.cvss_vector.specs.declared.published.Bounds.TheVariants.{OfV2, SinceV3}
+use Rattle.cvss_vector.specs.declared.published.Published.{Published}
+use Rattle.cvss_vector.specs.declared.refusal.ReadError.{ReadError}
+use Rattle.cvss_vector.specs.declared.vector.Cvss.{Cvss}
 use Rattle.cvss_answer.specs.Answers.{IsVectorOf, error_line, rated_line, score_line, score_rule, vector_line, vector_rule}
 
 -- the text after an element of a list

@@ -1,15 +1,15 @@
 -- The answers that the program writes to the lines of its input.
 use Rattle.std.specs.Prelude.{◌≡◌, ℕ, Bool, true, List, [], ◌∷◌, ◌++◌, codes, None}
 use Rattle.std.specs.Str.{IsUtf8}
-use Rattle.cvss_any.specs.declared.vector.Cvss.{Cvss}
-use Rattle.cvss_any.specs.Answers.{IsScoreOf, rating_text, score_of_tenths, vector_answer}
-use Rattle.cvss_any.specs.Complete.{IsReadErrorBy, missing_by}
-use Rattle.cvss_any.specs.Dispatch.{DenotesCvss}
-use Rattle.cvss_any.specs.Published.{rating_within}
-use Rattle.cvss_any.specs.Reasons.{error_message}
-use Rattle.cvss_any.specs.declared.refusal.ReadError.{ReadError}
-use Rattle.cvss_any.specs.declared.published.Bounds.{Bounds}
-use Rattle.cvss_any.specs.declared.published.Published.{Published}
+use Rattle.cvss_vector.specs.declared.vector.Cvss.{Cvss}
+use Rattle.cvss_vector.specs.Answers.{IsScoreOf, rating_text, score_of_tenths, vector_answer}
+use Rattle.cvss_vector.specs.Complete.{IsReadErrorBy, missing_by}
+use Rattle.cvss_vector.specs.Dispatch.{DenotesCvss}
+use Rattle.cvss_vector.specs.Published.{rating_within}
+use Rattle.cvss_vector.specs.Reasons.{error_message}
+use Rattle.cvss_vector.specs.declared.refusal.ReadError.{ReadError}
+use Rattle.cvss_vector.specs.declared.published.Bounds.{Bounds}
+use Rattle.cvss_vector.specs.declared.published.Published.{Published}
 use Rattle.cvss_lines.specs.Answers.{Rule, by_one_text}
 
 -- the answer is that of such a vector: its text, its score of so many tenths, and the score's rating

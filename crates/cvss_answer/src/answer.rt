@@ -1,15 +1,15 @@
 //! The answer to one line.
 
 ghost use Rattle.std.specs.Prelude.{◌≡◌, ℕ, ◌++◌, ◌≤◌, IfOk, OnOk};
-ghost use Rattle.cvss_any.specs.Answers.{text_of, vector_answer};
-ghost use Rattle.cvss_any.specs.Published.{IsPublished};
+ghost use Rattle.cvss_vector.specs.Answers.{text_of, vector_answer};
+ghost use Rattle.cvss_vector.specs.Published.{IsPublished};
 ghost use Rattle.cvss_lines.specs.Answers.{WritesAnswer, written_text};
 ghost use Rattle.cvss_answer.specs.Answers.{IsAnswer, error_line, score_line, score_rule, vector_line};
 
 use crate::score_line::score_line;
 use crate::segments::push_segments;
-use cvss_any::{Cvss, Message, Published, Publishing, ReadError};
 use cvss_lines::{Answering, OutputBuffer};
+use cvss_vector::{Cvss, Message, Published, Publishing, ReadError};
 use std::alloc::{AllocError, Global};
 use std::fmt::{self, Write};
 

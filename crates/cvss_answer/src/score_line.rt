@@ -1,10 +1,10 @@
 //! What follows a vector's text in its answer, one text for each score.
 
 ghost use Rattle.std.specs.Prelude.{◌≡◌, ◌≤◌};
-ghost use Rattle.cvss_any.specs.declared.published.Bounds.TheVariants.{OfV2, SinceV3};
+ghost use Rattle.cvss_vector.specs.declared.published.Bounds.TheVariants.{OfV2, SinceV3};
 ghost use Rattle.cvss_answer.specs.Answers.{rated_line, score_line};
 
-use cvss_any::{Bounds, Published};
+use cvss_vector::{Bounds, Published};
 
 /// A published score and its rating, each after a blank, and a byte 10.
 pub(crate) fn score_line(published: Published) -> &'static str

@@ -1,9 +1,9 @@
 //! Messages among the answers.
 
 ghost use Rattle.std.specs.Prelude.{◌≡◌, ◌++◌, OnOk};
-ghost use Rattle.cvss_any.specs.Segments.{segment_text, text_of};
+ghost use Rattle.cvss_vector.specs.Segments.{segment_text, text_of};
 
-use cvss_any::Segment;
+use cvss_vector::Segment;
 use std::alloc::AllocError;
 
 /// Writes segments one after another.

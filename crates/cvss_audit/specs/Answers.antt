@@ -2,13 +2,13 @@
 use Rattle.std.specs.Prelude.{◌≡◌, ◌≢◌, ℕ, ◌==◌, ◌||◌, ◌&&◌, not, ◌⊎◌, Bool, true, false, List, [], ◌∷◌, ◌++◌, codes, flat_map, map, if◌then◌else◌, is_some, Option, Some, None, ⊤}
 use Rattle.std.specs.List.{list_all}
 use Rattle.std.specs.Str.{IsUtf8}
-use Rattle.cvss_any.specs.Complete.{first_missing}
-use Rattle.cvss_any.specs.Dispatch.{DenotesCvss, IsFirstRefusalCvss, cvss_reason}
+use Rattle.cvss_vector.specs.Complete.{first_missing}
+use Rattle.cvss_vector.specs.Dispatch.{DenotesCvss, IsFirstRefusalCvss, cvss_reason}
 use Rattle.cvss_base.specs.ErrorText.{error_text}
 use Rattle.cvss_base.specs.declared.error.Error.{Error}
 use Rattle.cvss_base.specs.declared.error.Error.TheVariants.{OutOfMemory}
 use Rattle.cvss_base.specs.Reported.{ReportsFirst}
-use Rattle.cvss_any.specs.declared.vector.Cvss.{Cvss}
+use Rattle.cvss_vector.specs.declared.vector.Cvss.{Cvss}
 use Rattle.cvss_lines.specs.Answers.{Answer, Accepted, Refused, Rule, written_text}
 use Rattle.cvss_lines.specs.Streaming.{Beginning}
 use Rattle.cvss_json_tree.specs.Texts.{IsTextOf}

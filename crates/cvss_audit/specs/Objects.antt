@@ -1,19 +1,19 @@
 -- The objects of an answer: one for each location of a vector, and one for a text that is no JSON.
 use Rattle.std.specs.Prelude.{ℕ, List, [], ◌∷◌, ◌++◌, codes, map, not, ◌&&◌, if◌then◌else◌, is_some, Option, Some, None, option_map}
 use Rattle.std.specs.List.{filter_map}
-use Rattle.cvss_any.specs.Answers.{rating_by, score_of_tenths, text_of}
+use Rattle.cvss_vector.specs.Answers.{rating_by, score_of_tenths, text_of}
 use Rattle.cvss_base.specs.Groups.{same_group}
 use Rattle.cvss_base.specs.declared.group.MetricGroup.TheVariants.{Base}
 use Rattle.cvss_base.specs.declared.v3.MetricType.{MetricType}
-use Rattle.cvss_v4.specs.Nomenclature.{nomenclature_of, text_of as nomenclature_text}
+use Rattle.cvss_vector.specs.v4.Nomenclature.{nomenclature_of, text_of as nomenclature_text}
 use Rattle.cvss_base.specs.SeverityText.{text_of as severity_text}
 use Rattle.cvss_metric.specs.v3.Table.{printed}
 use Rattle.cvss_base.specs.V3Types.{name_of, group_of}
-use Rattle.cvss_v3.specs.declared.vector.Vector as type_v3
-use Rattle.cvss_v4.specs.declared.vector.Vector as type_v4
-use Rattle.cvss_v3.specs.Vector.{value_at}
-use Rattle.cvss_any.specs.declared.vector.Cvss.{Cvss}
-use Rattle.cvss_any.specs.declared.vector.Cvss.TheVariants.{CvssV20, CvssV30, CvssV31, CvssV40}
+use Rattle.cvss_vector.specs.declared.v3.vector.Vector as type_v3
+use Rattle.cvss_vector.specs.declared.v4.vector.Vector as type_v4
+use Rattle.cvss_vector.specs.v3.Vector.{value_at}
+use Rattle.cvss_vector.specs.declared.vector.Cvss.{Cvss}
+use Rattle.cvss_vector.specs.declared.vector.Cvss.TheVariants.{CvssV20, CvssV30, CvssV31, CvssV40}
 use Rattle.cvss_document.specs.Differences.{Difference}
 use Rattle.cvss_json_tree.specs.Objects.{Member, object_of}
 use Rattle.cvss_document.specs.Places.{Place}

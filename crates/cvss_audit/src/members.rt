@@ -15,12 +15,12 @@ ghost use Rattle.serde_json.specs.View.{members_view, view};
 use crate::differs::put_differences;
 use crate::input::Input;
 use crate::missing::put_missing;
-use cvss_any::Cvss;
 use cvss_base::TENTH;
 use cvss_document::{Difference, Place, score_value};
 use cvss_json_record::Scores;
 use cvss_json_tree::{Tree, put_tree};
-use cvss_v4::Vector;
+use cvss_vector::Cvss;
+use cvss_vector::v4::Vector;
 use serde_json::{Map, Value, json, put};
 use std::alloc::{AllocError, Global};
 

@@ -7,13 +7,13 @@ ghost use Rattle.cvss_json_tree.specs.Trees.{members_view, tree_view};
 ghost use Rattle.cvss_json_tree.specs.Objects.{with_members};
 
 use crate::members::put_list;
-use cvss_any::Cvss;
 use cvss_base::MetricGroup;
 use cvss_base::v3::MetricType;
 use cvss_json_tree::Tree;
 use cvss_text::print::Printed;
 use cvss_text::walk::Components;
-use cvss_v3::Vector;
+use cvss_vector::Cvss;
+use cvss_vector::v3::Vector;
 use serde_json::Map;
 use std::alloc::{AllocError, Global};
 

@@ -11,12 +11,12 @@ ghost use Rattle.serde_json.specs.Data.{object};
 
 use crate::input::Input;
 use crate::members::{put_accepted, put_place, put_refusal};
-use cvss_any::Cvss;
 use cvss_base::Error;
 use cvss_document::{Difference, Place, differences_at};
 use cvss_json_record::Scores;
 use cvss_json_tree::{Tree, write_tree_object};
 use cvss_lines::OutputBuffer;
+use cvss_vector::Cvss;
 use serde_json::Map;
 use std::alloc::{AllocError, Global};
 

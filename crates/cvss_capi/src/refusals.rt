@@ -1,7 +1,7 @@
 //! What C is reported of a text that is refused.
 
 ghost use Rattle.std.specs.Prelude.{◌≡◌, pos};
-ghost use Rattle.cvss_any.specs.Reasons.{IsReason};
+ghost use Rattle.cvss_vector.specs.Reasons.{IsReason};
 ghost use Rattle.cvss_ffi.specs.Answers.{Answers, WritesRefusal};
 ghost use Rattle.cvss_ffi.specs.Refusals.{IsReportedKind, IsKind, IsQuoted};
 

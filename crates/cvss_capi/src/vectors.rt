@@ -2,9 +2,9 @@
 
 ghost use Rattle.std.specs.Prelude.{◌≡◌, None, length, true, false};
 ghost use Rattle.cvss_explain.specs.Explanation.{IsExplanationText};
-ghost use Rattle.cvss_any.specs.Answers.{IsScoreOf, text_of};
-ghost use Rattle.cvss_any.specs.Dispatch.{DenotesCvss};
-ghost use Rattle.cvss_any.specs.declared.vector.Cvss.{Cvss};
+ghost use Rattle.cvss_vector.specs.Answers.{IsScoreOf, text_of};
+ghost use Rattle.cvss_vector.specs.Dispatch.{DenotesCvss};
+ghost use Rattle.cvss_vector.specs.declared.vector.Cvss.{Cvss};
 ghost use Rattle.cvss_ffi.specs.Answers.{Answers, WritesOf};
 ghost use Rattle.cvss_ffi.specs.Buffer.{IsWritten, Puts, Writes};
 ghost use Rattle.cvss_ffi.specs.Defined.{IsWithoutUndefined};
@@ -14,7 +14,6 @@ ghost use Rattle.cvss_ffi.specs.Setting.{WritesVector};
 ghost use Rattle.cvss_ffi.specs.Values.{AreValuesOf};
 ghost use Rattle.cvss_json_record.specs.Record.{IsRecordText};
 
-use cvss_any::Cvss;
 use cvss_ffi::canonical::put_canonical_of;
 use cvss_ffi::defined::put_without_undefined;
 use cvss_ffi::metrics::put_metrics;
@@ -22,6 +21,7 @@ use cvss_ffi::numbers::{NOTHING, rating_number, version_number};
 use cvss_ffi::objects::{put_explanation, put_record};
 use cvss_ffi::scores::scores_by;
 use cvss_ffi::{CvssMetric, CvssScores, CvssScoresBy, CvssValues, put};
+use cvss_vector::Cvss;
 
 /// The version of the vector that a text denotes, as 20, 30, 31 or 40; -1 where it denotes none.
 #[unsafe(no_mangle)]

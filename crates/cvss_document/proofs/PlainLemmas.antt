@@ -6,18 +6,18 @@ use Rattle.std.specs.Int.Digits.{AllBelowBase, digits_of}
 use Rattle.std.proofs.lemmas.Bool.{agree_below_at, and_parts}
 use Rattle.std.proofs.lemmas.Int.Digits.{all_below_base_digits_of}
 use Rattle.std.proofs.lemmas.List.Folds.{list_all-append}
-use Rattle.cvss_any.specs.Answers.{text_of}
-use Rattle.cvss_any.specs.declared.vector.Cvss.{Cvss}
-use Rattle.cvss_any.specs.declared.vector.Cvss.TheVariants.{CvssV20, CvssV30, CvssV31, CvssV40}
+use Rattle.cvss_vector.specs.Answers.{text_of}
+use Rattle.cvss_vector.specs.declared.vector.Cvss.{Cvss}
+use Rattle.cvss_vector.specs.declared.vector.Cvss.TheVariants.{CvssV20, CvssV30, CvssV31, CvssV40}
 use Rattle.cvss_base.specs.Text.{component, joined, slash}
 use Rattle.cvss_base.specs.Version.{Version, canonical_text, component_of, components_of, numeral}
 use Rattle.cvss_base.specs.declared.v2.MetricType.TheVariants as metric_v2
 use Rattle.cvss_base.specs.declared.v3.MetricType.TheVariants as metric_v3
 use Rattle.cvss_base.specs.declared.v4.MetricType.TheVariants as metric_v4
 use Rattle.cvss_json_write.specs.Json.{decimal_text, place_units, places, places_text, tenths_text}
-use Rattle.cvss_v2.specs.Vector.{v2}
-use Rattle.cvss_v3.specs.Vector.{v3}
-use Rattle.cvss_v4.specs.Vector.{v4}
+use Rattle.cvss_vector.specs.v2.Vector.{v2}
+use Rattle.cvss_vector.specs.v3.Vector.{v3}
+use Rattle.cvss_vector.specs.v4.Vector.{v4}
 use Rattle.cvss_json_record.proofs.WordLemmas.{either, is_clear, is_plain}
 
 both : (one other : List ℕ) → is_plain one ≡ true → is_plain other ≡ true → is_plain (one ++ other) ≡ true

@@ -11,8 +11,8 @@ use Rattle.json.proofs.Printed.Strings.{escape_byte_plain}
 use Rattle.json.specs.Print.{IsNumber, escape, escape_byte}
 use Rattle.serde_json.specs.Data.{Data, float, number, string}
 use Rattle.serde_json.specs.Read.{number_of}
-use Rattle.cvss_any.specs.Answers.{text_of}
-use Rattle.cvss_any.specs.declared.vector.Cvss.{Cvss}
+use Rattle.cvss_vector.specs.Answers.{text_of}
+use Rattle.cvss_vector.specs.declared.vector.Cvss.{Cvss}
 use Rattle.cvss_json_write.specs.Json as object
 use Rattle.cvss_json_write.specs.Json.{string_text, tenths_text}
 use Rattle.cvss_document.proofs.PlainLemmas.{plain_text}

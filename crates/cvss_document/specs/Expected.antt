@@ -1,7 +1,7 @@
 -- What each member of a record should say of a vector, by FIRST's JSON schemas.
 use Rattle.std.specs.Prelude.{ℕ, ◌||◌, Bool, false, List, codes, find, bytes_eq, Float, is_some, Option, option_map, option_and_then, unwrap_or}
 use Rattle.std.specs.Float.Ieee.{eq}
-use Rattle.cvss_any.specs.declared.vector.Cvss.{Cvss}
+use Rattle.cvss_vector.specs.declared.vector.Cvss.{Cvss}
 use Rattle.serde_json.specs.Data.{Data, null, string}
 use Rattle.serde_json.specs.Find.{as_null, as_number, as_str, to_float}
 use Rattle.cvss_json_record.specs.Fields.{fields_of, name_of}

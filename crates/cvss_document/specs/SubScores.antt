@@ -1,15 +1,15 @@
 -- The sub-scores that NVD gives beside a vector, in tenths: v2 guide, section 3.2.1; v3.0 specification, section 8.1;
 -- v3.1 specification, section 7.1.
 use Rattle.std.specs.Prelude.{◌≡◌, ℕ, ◌⊎◌, pos, Bool, true, false, Option, Some, None}
-use Rattle.cvss_any.specs.declared.vector.Cvss.{Cvss}
-use Rattle.cvss_any.specs.declared.vector.Cvss.TheVariants.{CvssV20, CvssV30, CvssV31, CvssV40}
+use Rattle.cvss_vector.specs.declared.vector.Cvss.{Cvss}
+use Rattle.cvss_vector.specs.declared.vector.Cvss.TheVariants.{CvssV20, CvssV30, CvssV31, CvssV40}
 use Rattle.cvss_base.specs.Exact.{Exact, ◌over◌, whole, ◌⊕◌, ◌⊑◌, ◌⊏◌}
 use Rattle.cvss_base.specs.Rounding.{half_above, half_below}
 use Rattle.cvss_score.specs.v2.Scores as scores_v2
 use Rattle.cvss_score.specs.v3.Scores as scores_v3
 use Rattle.cvss_score.specs.declared.v3.weights.Weights.{Weights}
-use Rattle.cvss_v2.specs.Weights as weights_v2
-use Rattle.cvss_v3.specs.VectorWeights as weights_v3
+use Rattle.cvss_vector.specs.v2.Weights as weights_v2
+use Rattle.cvss_vector.specs.v3.VectorWeights as weights_v3
 use Rattle.cvss_document.specs.declared.sub_scores.SubScores.{SubScores}
 
 -- how far the number may be from the one that is rounded: with the scope changed half a millionth, since Impact has a

@@ -2,7 +2,7 @@
 
 ghost use Rattle.std.specs.Prelude.{◌≡◌, ◌∷◌, [], IfOk, OnOk, map, option_and_then, option_map};
 ghost use Rattle.std.specs.Option.{option_to_list};
-ghost use Rattle.cvss_any.specs.Answers.{HasScore};
+ghost use Rattle.cvss_vector.specs.Answers.{HasScore};
 ghost use Rattle.cvss_document.specs.Differences.{AreDifferences, AreDifferencesAt, claim_view, difference_at, difference_from, difference_view, differences_at, expected_by, member_differences, osv_type, record_differences, said_view, wrong_name};
 ghost use Rattle.cvss_document.specs.Expected.{expected_value};
 ghost use Rattle.cvss_document.specs.Places.{place_view};
@@ -15,8 +15,8 @@ use crate::place::{Form, Place, member};
 use crate::ratings::{push_rating_members, push_spdx, push_trivy};
 use crate::sub_scores::SubScores;
 use crate::surroundings::push_around;
-use cvss_any::Cvss;
 use cvss_json_record::{Expected, Scores, version};
+use cvss_vector::Cvss;
 use serde_json::{Map, Value};
 use std::alloc::{AllocError, Global};
 

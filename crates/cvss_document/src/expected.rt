@@ -6,9 +6,9 @@ ghost use Rattle.cvss_json_record.specs.Record.{expected_view};
 ghost use Rattle.serde_json.specs.View.{view};
 
 use crate::scores::{score_number, score_value};
-use cvss_any::Cvss;
 use cvss_json_record::names::NOT_DEFINED;
 use cvss_json_record::{Expected, Scores, expected_of, fields_of};
+use cvss_vector::Cvss;
 use serde_json::Value;
 use std::alloc::{AllocError, Global};
 

@@ -2,7 +2,7 @@
 //! it.
 
 ghost use Rattle.std.specs.Prelude.{◌≡◌, All, ℕ, List};
-ghost use Rattle.cvss_any.specs.declared.vector.Cvss.{Cvss};
+ghost use Rattle.cvss_vector.specs.declared.vector.Cvss.{Cvss};
 ghost use Rattle.cvss_base.specs.Equality.{ClonesAlways, ClonesByValue, EqualsByValue};
 ghost use Rattle.cvss_document.specs.Places.{places_in};
 ghost use Rattle.cvss_document.specs.laws.Pointers.{HasNamesOnce, LeadsTo};

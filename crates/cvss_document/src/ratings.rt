@@ -7,9 +7,9 @@ ghost use Rattle.serde_json.specs.View.{members_view};
 
 use crate::difference::{Claim, Difference, Scored, push_at, push_name};
 use crate::place::object_at;
-use cvss_any::Cvss;
 use cvss_base::TENTH;
 use cvss_json_record::version;
+use cvss_vector::Cvss;
 use serde_json::{Map, Value};
 use std::alloc::AllocError;
 

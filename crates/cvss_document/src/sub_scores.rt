@@ -7,11 +7,11 @@ ghost use Rattle.cvss_document.specs.private.Tenths.{AreNearest};
 ghost use Rattle.cvss_score.specs.v2.Scores as scores_v2;
 ghost use Rattle.cvss_score.specs.v3.Closeness.{IsCloseTo};
 ghost use Rattle.cvss_score.specs.v3.Scores as scores_v3;
-ghost use Rattle.cvss_v2.specs.Weights as weights_v2;
-ghost use Rattle.cvss_v3.specs.VectorWeights as weights_v3;
+ghost use Rattle.cvss_vector.specs.v2.Weights as weights_v2;
+ghost use Rattle.cvss_vector.specs.v3.VectorWeights as weights_v3;
 
-use cvss_any::Cvss;
 use cvss_base::TENTH;
+use cvss_vector::Cvss;
 
 /// The sub-scores of a vector in tenths, each rounded to the nearest.
 #[derive(Clone, Copy)]
@@ -32,7 +32,7 @@ impl SubScores {
         }
     }
 
-    fn of_v2(vector: &cvss_v2::Vector) -> SubScores
+    fn of_v2(vector: &cvss_vector::v2::Vector) -> SubScores
         ensures { AreSubScores false (scores_v2.exploitability (weights_v2.weights_of vector.now))
             (scores_v2.impact (weights_v2.weights_of vector.now)) result }
     {
@@ -42,7 +42,7 @@ impl SubScores {
         }
     }
 
-    fn of_v3(vector: &cvss_v3::Vector) -> SubScores
+    fn of_v3(vector: &cvss_vector::v3::Vector) -> SubScores
         ensures { AreSubScores (weights_v3.weights_of vector.now).changed
             (scores_v3.exploitability (weights_v3.weights_of vector.now))
             (scores_v3.impact (weights_v3.weights_of vector.now)) result }
@@ -56,23 +56,23 @@ impl SubScores {
 
 /// Impact by the scope (v3.1 specification, section 7.1; v3.0 specification, section 8.1). It is exact
 /// with the scope unchanged, and else at most half a millionth from the exact number.
-fn scoped_impact(vector: &cvss_v3::Vector) -> cvss_v3::Score
+fn scoped_impact(vector: &cvss_vector::v3::Vector) -> cvss_vector::v3::Score
     ensures close { IsCloseTo (scores_v3.impact (weights_v3.weights_of vector.now)) (of_count result) }
     ensures exact { (weights_v3.weights_of vector.now).changed ≡ false
         → of_count result ≈ scores_v3.impact (weights_v3.weights_of vector.now) }
     ensures limit { IsWithinLimit result }
 {
-    cvss_v3::Score::new(vector.weights().impact())
+    cvss_vector::v3::Score::new(vector.weights().impact())
 }
 
-fn nearest_v2(number: cvss_v2::Score) -> u8
+fn nearest_v2(number: cvss_vector::v2::Score) -> u8
     requires { IsWithinLimit number }
     ensures { AreNearest number result }
 {
     nearest(number.value())
 }
 
-fn nearest_v3(number: cvss_v3::Score) -> u8
+fn nearest_v3(number: cvss_vector::v3::Score) -> u8
     requires { IsWithinLimit number }
     ensures { AreNearest number result }
 {

@@ -9,8 +9,8 @@ ghost use Rattle.cvss_document.specs.private.Views.{Adds};
 use crate::difference::{Claim, Difference, Scored, push_at, push_name};
 use crate::place::Around;
 use crate::sub_scores::SubScores;
-use cvss_any::Cvss;
 use cvss_json_record::rating;
+use cvss_vector::Cvss;
 use std::alloc::AllocError;
 
 /// Adds the differences of what is around an object.

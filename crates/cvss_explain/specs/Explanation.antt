@@ -1,8 +1,8 @@
 -- The explanation of a vector's score, as JSON text.
 use Rattle.std.specs.Prelude.{ℕ, List, Option}
-use Rattle.cvss_any.specs.Answers.{IsScoreOf, score_of_tenths}
-use Rattle.cvss_any.specs.declared.vector.Cvss.{Cvss}
-use Rattle.cvss_any.specs.declared.vector.Cvss.TheVariants.{CvssV20, CvssV30, CvssV31, CvssV40}
+use Rattle.cvss_vector.specs.Answers.{IsScoreOf, score_of_tenths}
+use Rattle.cvss_vector.specs.declared.vector.Cvss.{Cvss}
+use Rattle.cvss_vector.specs.declared.vector.Cvss.TheVariants.{CvssV20, CvssV30, CvssV31, CvssV40}
 use Rattle.cvss_explain.specs.V2 as v2
 use Rattle.cvss_explain.specs.V3 as v3
 use Rattle.cvss_explain.specs.V4 as v4

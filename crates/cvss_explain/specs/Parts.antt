@@ -2,8 +2,8 @@
 use Rattle.std.specs.Prelude.{ℕ, List, [], ◌∷◌, ◌++◌, codes, Option, option_map}
 use Rattle.std.specs.List.{cons_option}
 use Rattle.std.specs.Fmt.{decimal}
-use Rattle.cvss_any.specs.Answers.{rating_by, score_of_tenths, text_of}
-use Rattle.cvss_any.specs.declared.vector.Cvss.{Cvss}
+use Rattle.cvss_vector.specs.Answers.{rating_by, score_of_tenths, text_of}
+use Rattle.cvss_vector.specs.declared.vector.Cvss.{Cvss}
 use Rattle.cvss_base.specs.SeverityText.{text_of as severity_text}
 use Rattle.cvss_json_write.specs.Json.{Member, object_text, string_text, tenths_text}
 use Rattle.cvss_json_record.specs.Versions.{version_of}

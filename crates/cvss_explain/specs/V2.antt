@@ -1,11 +1,11 @@
 -- The explanations of the scores of CVSS v2: guide, section 3.2. Members are in the order of their names.
 use Rattle.std.specs.Prelude.{◌≡◌, ℕ, ◌*◌, pos, List, [], ◌∷◌, codes, map, Option}
-use Rattle.cvss_any.specs.declared.vector.Cvss.{Cvss}
+use Rattle.cvss_vector.specs.declared.vector.Cvss.{Cvss}
 use Rattle.cvss_base.specs.declared.v2.MetricType.{MetricType}
 use Rattle.cvss_base.specs.declared.v2.MetricType.TheVariants.{A, AC, AR, AV, Au, C, CDP, CR, E, I, IR, RC, RL, TD}
 use Rattle.cvss_base.specs.V2Types.{name_of}
-use Rattle.cvss_v2.specs.declared.vector.Vector.{Vector}
-use Rattle.cvss_v2.specs.Weights.{weight_in, weights_of}
+use Rattle.cvss_vector.specs.declared.v2.vector.Vector.{Vector}
+use Rattle.cvss_vector.specs.v2.Weights.{weight_in, weights_of}
 use Rattle.cvss_json_write.specs.Json.{Member, decimal_text, tenths_text}
 use Rattle.cvss_explain.specs.Parts.{ways_text}
 use Rattle.cvss_explain.specs.NumbersV2.{AreBaseNumbers, AreEnvironmentalNumbers, AreTemporalNumbers}

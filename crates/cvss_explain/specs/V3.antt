@@ -2,14 +2,14 @@
 -- in the order of their names.
 use Rattle.std.specs.Prelude.{◌≡◌, ℕ, ◌*◌, pos, Bool, true, false, List, [], ◌∷◌, codes, Option, option_map}
 use Rattle.std.specs.List.{filter_map}
-use Rattle.cvss_any.specs.declared.vector.Cvss.{Cvss}
+use Rattle.cvss_vector.specs.declared.vector.Cvss.{Cvss}
 use Rattle.cvss_base.specs.declared.v3.MetricType.{MetricType}
 use Rattle.cvss_base.specs.declared.v3.MetricType.TheVariants.{A, AC, AR, AV, C, CR, E, I, IR, MA, MAC, MAV, MC, MI, MPR, MS, MUI, PR, RC, RL, S, UI}
 use Rattle.cvss_base.specs.V3Types.{name_of}
-use Rattle.cvss_v3.specs.declared.vector.Vector.{Vector}
+use Rattle.cvss_vector.specs.declared.v3.vector.Vector.{Vector}
 use Rattle.cvss_score.specs.declared.v3.weights.Weights.{Weights}
 use Rattle.cvss_score.specs.v3.Weighing.{weight_in}
-use Rattle.cvss_v3.specs.VectorWeights.{weights_of}
+use Rattle.cvss_vector.specs.v3.VectorWeights.{weights_of}
 use Rattle.cvss_json_write.specs.Json.{Member, decimal_text, string_text, tenths_text}
 use Rattle.cvss_explain.specs.Parts.{score_member, severity_member, ways_text}
 use Rattle.cvss_explain.specs.NumbersV3.{AreBaseNumbers, AreEnvironmentalNumbers, AreTemporalNumbers}

@@ -1,18 +1,18 @@
 -- The explanation of a score of CVSS v4.0: specification, section 8.2. Members are in the order of their names.
 use Rattle.std.specs.Prelude.{◌≡◌, ℕ, ◌-◌, List, [], ◌∷◌, codes, flat_map, map, pos, Option, Some, None}
 use Rattle.std.specs.Fmt.{decimal}
-use Rattle.cvss_any.specs.declared.vector.Cvss.{Cvss}
-use Rattle.cvss_v4.specs.Nomenclature.{nomenclature_of, text_of as nomenclature_text}
+use Rattle.cvss_vector.specs.declared.vector.Cvss.{Cvss}
+use Rattle.cvss_vector.specs.v4.Nomenclature.{nomenclature_of, text_of as nomenclature_text}
 use Rattle.cvss_json_write.specs.Json.{array_text, decimal_text, object_text, string_text, tenths_text}
 use Rattle.cvss_score.specs.v4.Explanation.{IsExplanation}
-use Rattle.cvss_v4.specs.Merging.{effective_of}
+use Rattle.cvss_vector.specs.v4.Merging.{effective_of}
 use Rattle.cvss_score.specs.declared.v4.nomenclature.Nomenclature.{Nomenclature}
 use Rattle.cvss_score.specs.declared.v4.scoring.explanation.Explanation.{Explanation}
 use Rattle.cvss_score.specs.declared.v4.scoring.explanation.GroupExplanation.{GroupExplanation}
 use Rattle.cvss_score.specs.declared.v4.scoring.explanation.GroupExplanations.{GroupExplanations}
 use Rattle.cvss_score.specs.declared.v4.scoring.classes.MacroVector.{MacroVector}
 use Rattle.cvss_score.specs.declared.v4.scoring.next.NextClass.{NextClass}
-use Rattle.cvss_v4.specs.declared.vector.Vector.{Vector}
+use Rattle.cvss_vector.specs.declared.v4.vector.Vector.{Vector}
 use Rattle.cvss_explain.specs.Decimal.{nearest_to}
 use Rattle.cvss_explain.specs.LettersV4.{effective_members}
 use Rattle.cvss_explain.specs.Parts.{score_member, severity_member, vector_member, version_member, with_line}

@@ -1,12 +1,12 @@
 //! The explanation of a vector's score.
 
 ghost use Rattle.std.specs.Prelude.{◌≡◌, []};
-ghost use Rattle.cvss_any.specs.Answers.{HasScore};
+ghost use Rattle.cvss_vector.specs.Answers.{HasScore};
 ghost use Rattle.cvss_explain.specs.Explanation.{IsExplanationText};
 
 use crate::{v2, v3, v4};
-use cvss_any::Cvss;
 use cvss_json_write::Page;
+use cvss_vector::Cvss;
 
 /// Writes why a vector has its score: an object with its canonical text and version, the score and its
 /// rating, and the numbers on the way to it; and the number of a line, if there is one.

@@ -11,7 +11,7 @@ use crate::decimal::of_parts;
 use cvss_json_write::{Page, Scalar, Scalars, put_object};
 use cvss_score::v4::scoring::classes::MacroVector;
 use cvss_score::v4::scoring::explanation::GroupExplanation;
-use cvss_v4::Explanation;
+use cvss_vector::v4::Explanation;
 
 /// The levels of a class.
 pub fn levels(class: &MacroVector) -> [u8; 6]

@@ -1,7 +1,7 @@
 //! The members of explanations.
 
 ghost use Rattle.std.specs.Prelude.{◌≡◌, ◌+◌, ◌≤◌, ◌++◌, [], length, unwrap_or};
-ghost use Rattle.cvss_any.specs.Answers.{rating_by, score_of_tenths};
+ghost use Rattle.cvss_vector.specs.Answers.{rating_by, score_of_tenths};
 ghost use Rattle.cvss_base.specs.SeverityText.{text_of as severity_text};
 ghost use Rattle.cvss_explain.specs.private.Values.{members_view, part_member, part_room, value_room, value_text};
 ghost use Rattle.cvss_json_write.specs.Json.{object_text};
@@ -12,13 +12,13 @@ use crate::v2::numbers as numbers_v2;
 use crate::v3::numbers as numbers_v3;
 use crate::v4::{EFFECTIVE, Letters};
 use crate::{v2, v3};
-use cvss_any::Cvss;
 use cvss_base::TENTH;
 use cvss_json_record::{put_vector, version};
 use cvss_json_write::{Member, Members, Page, Scalar, Scalars, put_name, put_object};
 use cvss_score::v4::scoring::classes::MacroVector;
 use cvss_score::v4::scoring::effective::Effective;
-use cvss_v4::Explanation;
+use cvss_vector::Cvss;
+use cvss_vector::v4::Explanation;
 
 /// What a member says: of the vector, or of numbers that are made of it.
 #[derive(Clone, Copy)]
@@ -38,12 +38,12 @@ pub(crate) enum Value<'v> {
     BaseV2(numbers_v2::BaseNumbers),
     TemporalV2(numbers_v2::TemporalNumbers),
     EnvironmentalV2(numbers_v2::EnvironmentalNumbers),
-    WeightsV2(&'v cvss_v2::Vector),
+    WeightsV2(&'v cvss_vector::v2::Vector),
     /// The numbers of the scores of CVSS v3, and what each metric weighs.
     BaseV3(numbers_v3::BaseNumbers),
     TemporalV3(numbers_v3::Scored),
     EnvironmentalV3(numbers_v3::EnvironmentalNumbers),
-    WeightsV3(&'v cvss_v3::Vector),
+    WeightsV3(&'v cvss_vector::v3::Vector),
     /// The letters of effective values.
     Letters(Effective),
     /// What each group of metrics of CVSS v4.0 contributes.

@@ -10,10 +10,10 @@ pub mod numbers;
 
 use crate::parts::{Explained, Value};
 use MetricType::*;
-use cvss_any::Cvss;
 use cvss_base::v2::MetricType;
 use cvss_json_write::{Member, Members, Page, Scalar, put_member, put_object};
-use cvss_v2::Vector;
+use cvss_vector::Cvss;
+use cvss_vector::v2::Vector;
 use numbers::{BaseNumbers, EnvironmentalNumbers, TemporalNumbers};
 
 /// Writes why a vector has its score.

@@ -5,15 +5,15 @@ ghost use Rattle.cvss_explain.specs.V3.{IsExplanationText, base_members, environ
 ghost use Rattle.cvss_explain.specs.private.Values.{members_view};
 ghost use Rattle.cvss_json_write.specs.Json.{decimal_text};
 ghost use Rattle.cvss_json_write.specs.Scalars.{member_room, member_view, rooms};
-ghost use Rattle.cvss_v3.specs.VectorWeights.{weights_of};
+ghost use Rattle.cvss_vector.specs.v3.VectorWeights.{weights_of};
 
 pub mod counts;
 pub mod numbers;
 
 use crate::parts::{Explained, Value, severity};
-use cvss_any::Cvss;
 use cvss_json_write::{Member, Page, Scalar, put_object};
-use cvss_v3::Vector;
+use cvss_vector::Cvss;
+use cvss_vector::v3::Vector;
 use numbers::{BaseNumbers, EnvironmentalNumbers, Scored};
 
 /// Writes why a vector has its score.

@@ -3,15 +3,15 @@
 ghost use Rattle.std.specs.Prelude.{◌≡◌, []};
 ghost use Rattle.cvss_base.specs.Version.{IsComplete};
 ghost use Rattle.cvss_explain.specs.V4.{IsExplanationText};
-ghost use Rattle.cvss_v4.specs.Vector.{v4};
+ghost use Rattle.cvss_vector.specs.v4.Vector.{v4};
 
 mod effective;
 
 use crate::groups::fraction;
 use crate::parts::{Explained, Value};
-use cvss_any::Cvss;
 use cvss_json_write::{Page, Scalar, put_object};
-use cvss_v4::Vector;
+use cvss_vector::Cvss;
+use cvss_vector::v4::Vector;
 pub(crate) use effective::{EFFECTIVE, Letters};
 
 /// Writes why a complete vector has its score.

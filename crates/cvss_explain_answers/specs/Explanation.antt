@@ -1,7 +1,7 @@
 -- The explanation of a vector's score for people.
 use Rattle.std.specs.Prelude.{ℕ, List}
-use Rattle.cvss_any.specs.declared.vector.Cvss.{Cvss}
-use Rattle.cvss_any.specs.declared.vector.Cvss.TheVariants.{CvssV20, CvssV30, CvssV31, CvssV40}
+use Rattle.cvss_vector.specs.declared.vector.Cvss.{Cvss}
+use Rattle.cvss_vector.specs.declared.vector.Cvss.TheVariants.{CvssV20, CvssV30, CvssV31, CvssV40}
 use Rattle.cvss_explain_answers.specs.V2 as v2
 use Rattle.cvss_explain_answers.specs.V3 as v3
 use Rattle.cvss_explain_answers.specs.V4 as v4

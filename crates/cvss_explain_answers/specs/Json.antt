@@ -1,13 +1,13 @@
 -- The answers to lines, each of which is the text of a vector: explanations of scores as JSON objects.
 use Rattle.std.specs.Prelude.{◌≡◌, ◌⊎◌, ℕ, Bool, List, [], ◌∷◌, ◌++◌, codes, drop, None, Some, if◌then◌else◌}
 use Rattle.std.specs.Str.{IsUtf8, is_utf8}
-use Rattle.cvss_any.specs.Complete.{missing_by}
-use Rattle.cvss_any.specs.Bytes.{ReportsWhyNot, bytes_error_text}
-use Rattle.cvss_any.specs.Dispatch.{DenotesCvss}
-use Rattle.cvss_any.specs.Reasons.{reason_text}
-use Rattle.cvss_any.specs.declared.bytes_error.BytesError.{BytesError}
-use Rattle.cvss_any.specs.declared.metric_type.MetricType.{MetricType}
-use Rattle.cvss_any.specs.declared.vector.Cvss.{Cvss}
+use Rattle.cvss_vector.specs.Complete.{missing_by}
+use Rattle.cvss_vector.specs.Bytes.{ReportsWhyNot, bytes_error_text}
+use Rattle.cvss_vector.specs.Dispatch.{DenotesCvss}
+use Rattle.cvss_vector.specs.Reasons.{reason_text}
+use Rattle.cvss_vector.specs.declared.bytes_error.BytesError.{BytesError}
+use Rattle.cvss_vector.specs.declared.metric_type.MetricType.{MetricType}
+use Rattle.cvss_vector.specs.declared.vector.Cvss.{Cvss}
 use Rattle.cvss_base.specs.Refusal.{Missing}
 use Rattle.cvss_explain.specs.Explanation.{IsExplanationText}
 use Rattle.cvss_lines.specs.Answers.{Rule, by_one_text}

@@ -1,11 +1,11 @@
 -- The answers to lines, each of which is the text of a vector: explanations for people, each with an empty line after it.
 use Rattle.std.specs.Prelude.{◌≡◌, ℕ, Bool, true, false, List, ◌++◌, None}
 use Rattle.std.specs.Str.{IsUtf8}
-use Rattle.cvss_any.specs.Answers.{IsScoreOf, score_of_tenths, vector_answer}
-use Rattle.cvss_any.specs.Complete.{missing_by}
+use Rattle.cvss_vector.specs.Answers.{IsScoreOf, score_of_tenths, vector_answer}
+use Rattle.cvss_vector.specs.Complete.{missing_by}
 use Rattle.cvss_answer.specs.Answers.{IsRejection}
-use Rattle.cvss_any.specs.Dispatch.{DenotesCvss}
-use Rattle.cvss_any.specs.declared.vector.Cvss.{Cvss}
+use Rattle.cvss_vector.specs.Dispatch.{DenotesCvss}
+use Rattle.cvss_vector.specs.declared.vector.Cvss.{Cvss}
 use Rattle.cvss_explain_answers.specs.Explanation.{AreLines}
 use Rattle.cvss_explain_answers.specs.WhatIf.{IsTable}
 use Rattle.cvss_lines.specs.Answers.{Rule, by_one_text, written_text}

@@ -1,7 +1,7 @@
 -- The explanation of a score of CVSS v3 for people: v3.1 specification, section 7; v3.0 specification, section 8.
 use Rattle.std.specs.Prelude.{◌≡◌, ◌*◌, ℕ, List, [], ◌∷◌, ◌++◌, codes, flat_map, pos}
 use Rattle.std.specs.Option.{option_map_or}
-use Rattle.cvss_any.specs.Answers.{score_of_tenths}
+use Rattle.cvss_vector.specs.Answers.{score_of_tenths}
 use Rattle.cvss_base.specs.Rating.{rating_of_score}
 use Rattle.cvss_base.specs.V3Types.{description_of}
 use Rattle.cvss_base.specs.declared.v3.MetricType.{MetricType}
@@ -10,15 +10,15 @@ use Rattle.cvss_explain.specs.declared.v3.numbers.BaseNumbers.{BaseNumbers}
 use Rattle.cvss_explain.specs.declared.v3.numbers.EnvironmentalNumbers.{EnvironmentalNumbers}
 use Rattle.cvss_explain.specs.declared.v3.numbers.Scored.{Scored}
 use Rattle.cvss_explain_answers.specs.Lines.{Row, metric_text, rated_text, ways_text}
-use Rattle.cvss_any.specs.declared.vector.Cvss.TheVariants.{CvssV30}
+use Rattle.cvss_vector.specs.declared.vector.Cvss.TheVariants.{CvssV30}
 use Rattle.cvss_json_record.specs.Groups.{has_group}
 use Rattle.cvss_json_record.specs.declared.group.Group.TheVariants.{Temporal, Environmental}
 use Rattle.cvss_json_record.specs.WordsV3.{words_of}
 use Rattle.cvss_json_write.specs.Json.{decimal_text, tenths_text}
-use Rattle.cvss_v3.specs.Vector.{v3}
+use Rattle.cvss_vector.specs.v3.Vector.{v3}
 use Rattle.cvss_score.specs.v3.Weighing.{weight_in}
-use Rattle.cvss_v3.specs.VectorWeights.{weights_of}
-use Rattle.cvss_v3.specs.declared.vector.Vector.{Vector}
+use Rattle.cvss_vector.specs.v3.VectorWeights.{weights_of}
+use Rattle.cvss_vector.specs.declared.v3.vector.Vector.{Vector}
 use Rattle.cvss_metric.specs.v3.Table.{printed}
 
 -- what a metric weighs, which is hundredths; the scopes weigh nothing

@@ -2,7 +2,7 @@
 use Rattle.std.specs.Prelude.{◌≡◌, ◌-◌, ◌==◌, ◌&&◌, ◌||◌, ℕ, Bool, true, false, not, if◌then◌else◌, List, [], ◌∷◌, ◌++◌, codes, find, flat_map, is_some, map, pos, Option, Some, None, bytes_eq, unwrap_or}
 use Rattle.std.specs.Fmt.{decimal}
 use Rattle.std.specs.Option.{option_map_or}
-use Rattle.cvss_any.specs.Answers.{score_of_tenths}
+use Rattle.cvss_vector.specs.Answers.{score_of_tenths}
 use Rattle.cvss_base.specs.Rating.{rating_of_score}
 use Rattle.cvss_base.specs.V4Types.{description_of, name_of}
 use Rattle.cvss_base.specs.Version.{held}
@@ -21,11 +21,11 @@ use Rattle.cvss_score.specs.declared.v4.scoring.explanation.GroupExplanation.{Gr
 use Rattle.cvss_score.specs.declared.v4.scoring.explanation.GroupExplanations.{GroupExplanations}
 use Rattle.cvss_score.specs.declared.v4.scoring.classes.MacroVector.{MacroVector}
 use Rattle.cvss_score.specs.declared.v4.scoring.next.NextClass.{NextClass}
-use Rattle.cvss_v4.specs.Merging.{effective_of}
-use Rattle.cvss_v4.specs.Nomenclature.{nomenclature_of, text_of as nomenclature_text}
-use Rattle.cvss_v4.specs.Parts.{IsScoreBy}
-use Rattle.cvss_v4.specs.Vector.{v4}
-use Rattle.cvss_v4.specs.declared.vector.Vector.{Vector}
+use Rattle.cvss_vector.specs.v4.Merging.{effective_of}
+use Rattle.cvss_vector.specs.v4.Nomenclature.{nomenclature_of, text_of as nomenclature_text}
+use Rattle.cvss_vector.specs.v4.Parts.{IsScoreBy}
+use Rattle.cvss_vector.specs.v4.Vector.{v4}
+use Rattle.cvss_vector.specs.declared.v4.vector.Vector.{Vector}
 use Rattle.cvss_metric.specs.v4.Table.{printed}
 
 -- the levels that a metric counts in that replaces none, as digits of the MacroVector; no supplemental metric counts

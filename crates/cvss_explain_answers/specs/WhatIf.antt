@@ -1,10 +1,10 @@
 -- What the score of a vector would be with other values of its metrics.
 use Rattle.std.specs.Prelude.{◌≡◌, ◌⊎◌, ℕ, Bool, if◌then◌else◌, List, [], ◌++◌, codes, Option, bytes_eq}
 use Rattle.std.specs.Option.{option_map_or}
-use Rattle.cvss_any.specs.Answers.{score_of_tenths}
-use Rattle.cvss_any.specs.Setting.{IsWith}
-use Rattle.cvss_any.specs.declared.vector.Cvss.{Cvss}
-use Rattle.cvss_any.specs.declared.vector.Cvss.TheVariants.{CvssV20, CvssV30, CvssV31, CvssV40}
+use Rattle.cvss_vector.specs.Answers.{score_of_tenths}
+use Rattle.cvss_vector.specs.Setting.{IsWith}
+use Rattle.cvss_vector.specs.declared.vector.Cvss.{Cvss}
+use Rattle.cvss_vector.specs.declared.vector.Cvss.TheVariants.{CvssV20, CvssV30, CvssV31, CvssV40}
 use Rattle.cvss_base.specs.Tenths.{tenths_text}
 use Rattle.cvss_base.specs.Text.{component}
 use Rattle.cvss_base.specs.Version.{Version, held}
@@ -14,9 +14,9 @@ use Rattle.cvss_json_record.specs.WordsV2 as words_v2
 use Rattle.cvss_json_record.specs.WordsV3 as words_v3
 use Rattle.cvss_json_record.specs.WordsV4 as words_v4
 use Rattle.cvss_rank.specs.Overall.{IsOverallScore, is_undefined}
-use Rattle.cvss_v2.specs.Vector.{v2}
-use Rattle.cvss_v3.specs.Vector.{v3}
-use Rattle.cvss_v4.specs.Vector.{v4}
+use Rattle.cvss_vector.specs.v2.Vector.{v2}
+use Rattle.cvss_vector.specs.v3.Vector.{v3}
+use Rattle.cvss_vector.specs.v4.Vector.{v4}
 
 -- the value is the vector's; a metric that the vector lacks is not defined
 abbrev pub is_present : Option (List ℕ) → List ℕ → Bool

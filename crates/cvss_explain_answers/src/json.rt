@@ -2,8 +2,8 @@
 
 ghost use Rattle.std.specs.Prelude.{◌≡◌, ◌++◌, IfOk, OnOk, Some, drop};
 ghost use Rattle.std.specs.String.{string_bytes};
-ghost use Rattle.cvss_any.specs.Answers.{HasScore};
-ghost use Rattle.cvss_any.specs.Reasons.{reason_text};
+ghost use Rattle.cvss_vector.specs.Answers.{HasScore};
+ghost use Rattle.cvss_vector.specs.Reasons.{reason_text};
 ghost use Rattle.cvss_base.specs.Refusal.{Missing};
 ghost use Rattle.cvss_explain.specs.Explanation.{IsExplanationText};
 ghost use Rattle.cvss_explain_answers.specs.Json.{IsAnswer, IsInFile, given_members, in_file, refusal_value};
@@ -13,12 +13,12 @@ ghost use Rattle.cvss_json_tree.specs.Texts.{IsTextOf};
 ghost use Rattle.cvss_lines.specs.Answers.{written_text};
 ghost use Rattle.serde_json.specs.View.{members_view};
 
-use cvss_any::{Cvss, MetricType};
 use cvss_explain::put_explanation;
 use cvss_json_tree::text_of;
 use cvss_json_write::Page;
 use cvss_lines::{Answering, OutputBuffer};
 use cvss_rows::write_object_start;
+use cvss_vector::{Cvss, MetricType};
 use serde_json::{Map, Value, put};
 use std::alloc::{AllocError, Global};
 

@@ -1,7 +1,7 @@
 //! The lines of explanations.
 
 ghost use Rattle.std.specs.Prelude.{◌≡◌, ◌-◌, ◌≤◌, ◌++◌, OnOk, if◌then◌else◌, [], codes, length, map, take};
-ghost use Rattle.cvss_any.specs.Answers.{score_of_tenths};
+ghost use Rattle.cvss_vector.specs.Answers.{score_of_tenths};
 ghost use Rattle.cvss_base.specs.Rating.{rating_of_score};
 ghost use Rattle.cvss_base.specs.Text.{component};
 ghost use Rattle.cvss_explain.specs.V4.{digits};

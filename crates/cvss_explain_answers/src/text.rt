@@ -1,7 +1,7 @@
 //! The answer to one line as text for people.
 
 ghost use Rattle.std.specs.Prelude.{ℕ, IfOk, OnOk};
-ghost use Rattle.cvss_any.specs.Answers.{HasScore};
+ghost use Rattle.cvss_vector.specs.Answers.{HasScore};
 ghost use Rattle.cvss_explain_answers.specs.Text.{IsAnswer, Shows};
 ghost use Rattle.cvss_explain_answers.specs.Explanation.{AreLines};
 ghost use Rattle.cvss_explain_answers.specs.private.Writing.{Writes};
@@ -10,8 +10,8 @@ ghost use Rattle.cvss_lines.specs.Answers.{WritesAnswer};
 use crate::what_if::write_table;
 use crate::{v2, v3, v4};
 use cvss_answer::{write_error, write_vector};
-use cvss_any::Cvss;
 use cvss_lines::OutputBuffer;
+use cvss_vector::Cvss;
 use std::alloc::{AllocError, Global};
 
 /// Answers a line by the explanation of its vector's score, or with `what_if` by the scores that other

@@ -17,7 +17,7 @@ use cvss_json_record::Group;
 use cvss_json_record::names::{self, v2};
 use cvss_json_write::Page;
 use cvss_lines::OutputBuffer;
-use cvss_v2::Vector;
+use cvss_vector::v2::Vector;
 use std::alloc::AllocError;
 
 /// Writes the lines that explain a vector's scores.

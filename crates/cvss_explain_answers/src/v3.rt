@@ -20,7 +20,7 @@ use cvss_json_record::names::{self, v3};
 use cvss_json_write::Page;
 use cvss_lines::OutputBuffer;
 use cvss_score::v3::Weights;
-use cvss_v3::Vector;
+use cvss_vector::v3::Vector;
 use std::alloc::AllocError;
 
 /// Writes the lines that explain a vector's scores.

@@ -11,7 +11,7 @@ ghost use Rattle.cvss_explain_answers.specs.private.Writing.{Writes};
 ghost use Rattle.cvss_json_record.specs.WordsV4.{words_of};
 ghost use Rattle.cvss_json_write.specs.Json.{decimal_text};
 ghost use Rattle.cvss_score.specs.v4.Nomenclature.{text_of as nomenclature_text};
-ghost use Rattle.cvss_v4.specs.Vector.{v4};
+ghost use Rattle.cvss_vector.specs.v4.Vector.{v4};
 
 mod effect;
 
@@ -27,7 +27,7 @@ use cvss_json_write::Page;
 use cvss_lines::OutputBuffer;
 use cvss_score::v4::scoring::classes::MacroVector;
 use cvss_score::v4::scoring::explanation::GroupExplanation;
-use cvss_v4::{Explanation, Nomenclature, Vector};
+use cvss_vector::v4::{Explanation, Nomenclature, Vector};
 use effect::{put_levels, value_counts};
 use std::alloc::AllocError;
 

@@ -1,8 +1,8 @@
 //! What the score of a vector would be with other values of its metrics.
 
 ghost use Rattle.std.specs.Prelude.{◌≡◌, ◌++◌, ◌≤◌, IfOk, IfSome, MatchOption, OnOk, if◌then◌else◌, codes, option_copied};
-ghost use Rattle.cvss_any.specs.Answers.{HasScore};
-ghost use Rattle.cvss_any.specs.Setting.{IsWith};
+ghost use Rattle.cvss_vector.specs.Answers.{HasScore};
+ghost use Rattle.cvss_vector.specs.Setting.{IsWith};
 ghost use Rattle.cvss_base.specs.Text.{component};
 ghost use Rattle.cvss_explain_answers.specs.Lines.{Joins, padded};
 ghost use Rattle.cvss_explain_answers.specs.WhatIf.{AreLines, IsCell, IsLine, IsScored, IsTable, cell_text, is_present};
@@ -10,12 +10,12 @@ ghost use Rattle.cvss_explain_answers.specs.private.Writing.{Writes};
 
 use crate::lines::write_padded;
 use crate::metrics::Explained;
-use cvss_any::Cvss;
 use cvss_base::tenths::text_of;
 use cvss_json_record::names::Row;
 use cvss_json_record::spelled;
 use cvss_lines::OutputBuffer;
 use cvss_rank::{is_undefined, overall_tenths};
+use cvss_vector::Cvss;
 use std::alloc::{AllocError, Global};
 
 /// Writes a line for each metric, with the overall score that each of its values would give.

@@ -6,13 +6,13 @@ use Rattle.std.proofs.lemmas.List.Sorted.{sum_by-IsPermutation}
 use Rattle.std.proofs.lemmas.List.Sums.{sum_by-cons, sum_by-append}
 use Rattle.cvss_base.specs.Text.{slash, joined, read_as}
 use Rattle.cvss_base.specs.Version.{Version, read, components_of, canonical_text, Denotes}
-use Rattle.cvss_any.specs.Answers.{text_of}
-use Rattle.cvss_any.specs.Dispatch.{DenotesCvss}
-use Rattle.cvss_v2.specs.Vector.{v2}
-use Rattle.cvss_v3.specs.Vector.{v3}
-use Rattle.cvss_v4.specs.Vector.{v4}
-use Rattle.cvss_any.specs.declared.vector.Cvss.{Cvss}
-use Rattle.cvss_any.specs.declared.vector.Cvss.TheVariants.{CvssV20, CvssV30, CvssV31, CvssV40}
+use Rattle.cvss_vector.specs.Answers.{text_of}
+use Rattle.cvss_vector.specs.Dispatch.{DenotesCvss}
+use Rattle.cvss_vector.specs.v2.Vector.{v2}
+use Rattle.cvss_vector.specs.v3.Vector.{v3}
+use Rattle.cvss_vector.specs.v4.Vector.{v4}
+use Rattle.cvss_vector.specs.declared.vector.Cvss.{Cvss}
+use Rattle.cvss_vector.specs.declared.vector.Cvss.TheVariants.{CvssV20, CvssV30, CvssV31, CvssV40}
 
 -- a piece and the slash before it
 abbrev piece_length : List ℕ → ℕ

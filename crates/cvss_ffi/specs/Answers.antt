@@ -1,9 +1,9 @@
 -- What is answered to a text: something of the vector that it denotes, or why it denotes none.
 use Rattle.std.specs.Prelude.{◌≡◌, ℕ, ◌⊎◌, List}
-use Rattle.cvss_any.specs.Answers.{IsScoreOf, score_of_tenths, vector_answer}
-use Rattle.cvss_any.specs.declared.vector.Cvss.{Cvss}
-use Rattle.cvss_any.specs.Dispatch.{DenotesCvss}
-use Rattle.cvss_any.specs.Reasons.{IsErrorAnswer}
+use Rattle.cvss_vector.specs.Answers.{IsScoreOf, score_of_tenths, vector_answer}
+use Rattle.cvss_vector.specs.declared.vector.Cvss.{Cvss}
+use Rattle.cvss_vector.specs.Dispatch.{DenotesCvss}
+use Rattle.cvss_vector.specs.Reasons.{IsErrorAnswer}
 use Rattle.cvss_ffi.specs.Buffer.{IsLeft, Writes}
 
 -- the text denotes a vector, of which this holds

@@ -8,14 +8,14 @@ use Rattle.cvss_base.specs.Version.{Version, AreComponentsOf, numeral, version_p
 use Rattle.cvss_score.specs.v2.Scores as scores_v2
 use Rattle.cvss_score.specs.v3.Scores as scores_v3
 use Rattle.cvss_text.specs.Setting.{components_in}
-use Rattle.cvss_v2.specs.declared.vector.Vector as vector_v2
-use Rattle.cvss_v3.specs.declared.vector.Vector as vector_v3
-use Rattle.cvss_v2.specs.Vector.{v2}
-use Rattle.cvss_v3.specs.Vector.{v3}
-use Rattle.cvss_v2.specs.Weights as weights_v2
-use Rattle.cvss_v3.specs.VectorWeights as weights_v3
-use Rattle.cvss_any.specs.declared.vector.Cvss.{Cvss}
-use Rattle.cvss_any.specs.declared.vector.Cvss.TheVariants.{CvssV20, CvssV31}
+use Rattle.cvss_vector.specs.declared.v2.vector.Vector as vector_v2
+use Rattle.cvss_vector.specs.declared.v3.vector.Vector as vector_v3
+use Rattle.cvss_vector.specs.v2.Vector.{v2}
+use Rattle.cvss_vector.specs.v3.Vector.{v3}
+use Rattle.cvss_vector.specs.v2.Weights as weights_v2
+use Rattle.cvss_vector.specs.v3.VectorWeights as weights_v3
+use Rattle.cvss_vector.specs.declared.vector.Cvss.{Cvss}
+use Rattle.cvss_vector.specs.declared.vector.Cvss.TheVariants.{CvssV20, CvssV31}
 use Rattle.cvss_json_record.specs.declared.group.Group.TheVariants.{Base, Temporal, Environmental}
 use Rattle.cvss_ffi.specs.Answers.{NoneIs}
 use Rattle.cvss_ffi.specs.Scores.{IsReportedScore}

@@ -3,14 +3,14 @@
 use Rattle.std.specs.Prelude.{◌≡◌, ◌⊎◌, ℕ, List, ◌++◌, codes, Result}
 use Rattle.std.specs.Fmt.{decimal}
 use Rattle.std.specs.Str.{IsUtf8}
-use Rattle.cvss_v4.specs.Overriding.{AreOverrides, IsFirstObjection, IsOverridden, Objection, OfOtherGroup, OfText}
+use Rattle.cvss_vector.specs.v4.Overriding.{AreOverrides, IsFirstObjection, IsOverridden, Objection, OfOtherGroup, OfText}
 use Rattle.cvss_text.specs.Setting.{components_in}
-use Rattle.cvss_v4.specs.declared.vector.Vector.{Vector}
-use Rattle.cvss_any.specs.declared.vector.Cvss.{Cvss}
-use Rattle.cvss_any.specs.declared.vector.Cvss.TheVariants.{CvssV40}
-use Rattle.cvss_any.specs.Dispatch.{wrapped}
-use Rattle.cvss_any.specs.Reasons.{not_utf8_text, reason_text}
-use Rattle.cvss_any.specs.declared.metric_type.MetricType.TheVariants.{V4}
+use Rattle.cvss_vector.specs.declared.v4.vector.Vector.{Vector}
+use Rattle.cvss_vector.specs.declared.vector.Cvss.{Cvss}
+use Rattle.cvss_vector.specs.declared.vector.Cvss.TheVariants.{CvssV40}
+use Rattle.cvss_vector.specs.Dispatch.{wrapped}
+use Rattle.cvss_vector.specs.Reasons.{not_utf8_text, reason_text}
+use Rattle.cvss_vector.specs.declared.metric_type.MetricType.TheVariants.{V4}
 use Rattle.cvss_ffi.specs.Setting.{IsNewOf}
 
 -- the vector of CVSS v4.0 with the text's overrides in place
@@ -35,7 +35,7 @@ other_group_text = codes "no environmental CVSSv4 metric"
 abbrev pub no_v4_text : List ℕ
 no_v4_text = codes "no CVSSv4 vector"
 
--- what is wrong with an override, in the words of the errors (cvss_v4, Overriding)
+-- what is wrong with an override, in the words of the errors (cvss_vector, v4/Overriding)
 abbrev pub objection_text : Objection → List ℕ
 objection_text OfOtherGroup = other_group_text
 objection_text (OfText reason) = reason_text (wrapped V4 reason)

@@ -1,9 +1,9 @@
 -- What kind of refusal a text gets, which metric it names and which part of the text it quotes: as numbers and texts for C.
 use Rattle.std.specs.Prelude.{ℕ, ℤ, pos, List, []}
-use Rattle.cvss_any.specs.MetricTypes.{name_of}
-use Rattle.cvss_any.specs.Reasons.{IsSaidOf}
+use Rattle.cvss_vector.specs.MetricTypes.{name_of}
+use Rattle.cvss_vector.specs.Reasons.{IsSaidOf}
 use Rattle.cvss_base.specs.Refusal.{Refusal, BadComponent, WrongPrefix, WrongVersion, UnknownName, BadValue, Repeated, Missing}
-use Rattle.cvss_any.specs.declared.metric_type.MetricType.{MetricType}
+use Rattle.cvss_vector.specs.declared.metric_type.MetricType.{MetricType}
 
 -- the number of a reason's kind
 abbrev pub kind_number : Refusal MetricType → ℤ

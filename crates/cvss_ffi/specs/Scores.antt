@@ -1,8 +1,8 @@
 -- The scores of a vector as C sees them: whole tenths, and numbers for versions, ratings and nomenclatures.
 use Rattle.std.specs.Prelude.{◌≡◌, ◌≢◌, ◌⊎◌, ◌*ℤ◌, ◌^◌, ℤ, pos, negsuc, [], ◌∷◌, Option, Some, None}
-use Rattle.cvss_any.specs.Complete.{first_missing}
-use Rattle.cvss_any.specs.declared.vector.Cvss.{Cvss}
-use Rattle.cvss_any.specs.declared.vector.Cvss.TheVariants.{CvssV20, CvssV30, CvssV31, CvssV40}
+use Rattle.cvss_vector.specs.Complete.{first_missing}
+use Rattle.cvss_vector.specs.declared.vector.Cvss.{Cvss}
+use Rattle.cvss_vector.specs.declared.vector.Cvss.TheVariants.{CvssV20, CvssV30, CvssV31, CvssV40}
 use Rattle.cvss_base.specs.Rating.{rating_of_score}
 use Rattle.cvss_base.specs.Tenths.{IsInTenths, IsFromZeroToTen}
 use Rattle.cvss_base.specs.declared.severity.Severity.{Severity}
@@ -14,10 +14,10 @@ use Rattle.cvss_score.specs.declared.v4.nomenclature.Nomenclature.{Nomenclature}
 use Rattle.cvss_score.specs.declared.v4.nomenclature.Nomenclature.TheVariants.{CvssB, CvssBE, CvssBT, CvssBTE}
 use Rattle.cvss_score.specs.v2.Rating.{rating_of}
 use Rattle.cvss_score.specs.v4.Scores.{IsScore}
-use Rattle.cvss_v4.specs.Merging.{effective_of}
-use Rattle.cvss_v4.specs.Nomenclature.{nomenclature_of}
-use Rattle.cvss_v4.specs.Parts.{IsScoreBy}
-use Rattle.cvss_v4.specs.declared.vector.Vector as vector_v4
+use Rattle.cvss_vector.specs.v4.Merging.{effective_of}
+use Rattle.cvss_vector.specs.v4.Nomenclature.{nomenclature_of}
+use Rattle.cvss_vector.specs.v4.Parts.{IsScoreBy}
+use Rattle.cvss_vector.specs.declared.v4.vector.Vector as vector_v4
 use Rattle.cvss_ffi.specs.declared.scores.CvssScores.{CvssScores}
 use Rattle.cvss_ffi.specs.declared.scores.CvssScoresBy.{CvssScoresBy}
 

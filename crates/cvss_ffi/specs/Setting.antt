@@ -4,15 +4,15 @@ use Rattle.std.specs.Prelude.{◌≡◌, ◌≢◌, ◌⊎◌, ℕ, ℤ, pos, Li
 use Rattle.std.specs.Fmt.{decimal}
 use Rattle.std.specs.Str.{IsUtf8}
 use Rattle.cvss_base.specs.Refusal.{Refusal}
-use Rattle.cvss_any.specs.Answers.{text_of}
-use Rattle.cvss_any.specs.Reasons.{IsReason, not_utf8_text, reason_text}
+use Rattle.cvss_vector.specs.Answers.{text_of}
+use Rattle.cvss_vector.specs.Reasons.{IsReason, not_utf8_text, reason_text}
 use Rattle.cvss_ffi.specs.Answers.{Answers, IsAccepted, NoneIs}
 use Rattle.cvss_ffi.specs.Buffer.{IsLeft, IsWritten}
-use Rattle.cvss_any.specs.Setting.{IsBuiltAs, IsBuiltReason, IsWith, IsWithReason}
-use Rattle.cvss_any.specs.declared.metric_type.MetricType.{MetricType}
-use Rattle.cvss_any.specs.declared.setting.Version.{Version}
-use Rattle.cvss_any.specs.declared.setting.Version.TheVariants.{V20, V30, V31, V40}
-use Rattle.cvss_any.specs.declared.vector.Cvss.{Cvss}
+use Rattle.cvss_vector.specs.Setting.{IsBuiltAs, IsBuiltReason, IsWith, IsWithReason}
+use Rattle.cvss_vector.specs.declared.metric_type.MetricType.{MetricType}
+use Rattle.cvss_vector.specs.declared.setting.Version.{Version}
+use Rattle.cvss_vector.specs.declared.setting.Version.TheVariants.{V20, V30, V31, V40}
+use Rattle.cvss_vector.specs.declared.vector.Cvss.{Cvss}
 
 -- the text is UTF-8, and this is the vector
 pub record IsFromUtf8 (metrics : List ℕ) (IsIt : Cvss → Type 0) (new : Cvss) : Type 0 where

@@ -2,13 +2,13 @@
 use Rattle.std.specs.Prelude.{◌≡◌, ℕ, pos, List, [], ◌∷◌, map, Option, unwrap_or}
 use Rattle.std.specs.List.{repeat}
 use Rattle.cvss_base.specs.V4Types.{most_metrics}
-use Rattle.cvss_any.specs.Answers.{IsScoreOf}
-use Rattle.cvss_any.specs.declared.vector.Cvss.{Cvss}
-use Rattle.cvss_any.specs.declared.vector.Cvss.TheVariants.{CvssV20, CvssV30, CvssV31, CvssV40}
+use Rattle.cvss_vector.specs.Answers.{IsScoreOf}
+use Rattle.cvss_vector.specs.declared.vector.Cvss.{Cvss}
+use Rattle.cvss_vector.specs.declared.vector.Cvss.TheVariants.{CvssV20, CvssV30, CvssV31, CvssV40}
 use Rattle.cvss_base.specs.Version.{Version, held}
-use Rattle.cvss_v2.specs.Vector.{v2}
-use Rattle.cvss_v3.specs.Vector.{v3}
-use Rattle.cvss_v4.specs.Vector.{v4}
+use Rattle.cvss_vector.specs.v2.Vector.{v2}
+use Rattle.cvss_vector.specs.v3.Vector.{v3}
+use Rattle.cvss_vector.specs.v4.Vector.{v4}
 use Rattle.cvss_ffi.specs.Buffer.{begun}
 use Rattle.cvss_ffi.specs.Metrics.{padded}
 use Rattle.cvss_ffi.specs.Scores.{IsScoreInTenths, nomenclature_of_any, version_number}

@@ -1,7 +1,7 @@
 //! The line that the program answers to a text.
 
 ghost use Rattle.std.specs.Prelude.{◌≡◌, ◌≤◌, ◌<◌, ◌^◌, ◌++◌, ℕ, List, length};
-ghost use Rattle.cvss_any.specs.Answers.{HasScore, rating_by, score_of_tenths, text_of as canonical_text};
+ghost use Rattle.cvss_vector.specs.Answers.{HasScore, rating_by, score_of_tenths, text_of as canonical_text};
 ghost use Rattle.cvss_base.specs.SeverityText.{text_of as severity_text};
 ghost use Rattle.cvss_ffi.specs.Answers.{IsAnswer, IsAnswerOf};
 ghost use Rattle.cvss_ffi.specs.Buffer.{IsWritten, Writes};
@@ -9,9 +9,9 @@ ghost use Rattle.cvss_ffi.specs.Buffer.{IsWritten, Writes};
 use crate::buffer::{write_message, write_segments};
 use crate::canonical::write_canonical;
 use crate::refusal::read;
-use cvss_any::{Cvss, Message, Segment};
 use cvss_base::TENTH;
 use cvss_base::tenths::text_of;
+use cvss_vector::{Cvss, Message, Segment};
 
 /// Writes the answer to a text.
 pub fn put_answer_to(text: &[u8], buffer: &mut [u8]) -> usize

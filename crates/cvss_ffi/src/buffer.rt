@@ -1,13 +1,13 @@
 //! Texts in a buffer of the caller, items in an array, and values, without memory.
 
 ghost use Rattle.std.specs.Prelude.{◌≡◌, ◌<◌, ◌≤◌, ◌+◌, ◌^◌, ◌++◌, length};
-ghost use Rattle.cvss_any.specs.Reasons.{error_message, reason_text};
-ghost use Rattle.cvss_any.specs.Refusals.{refusal_of};
-ghost use Rattle.cvss_any.specs.Segments.{text_of};
+ghost use Rattle.cvss_vector.specs.Reasons.{error_message, reason_text};
+ghost use Rattle.cvss_vector.specs.Refusals.{refusal_of};
+ghost use Rattle.cvss_vector.specs.Segments.{text_of};
 ghost use Rattle.cvss_ffi.specs.Buffer.{IsPut, IsWritten};
 ghost use Rattle.cvss_ffi.specs.private.Steps.{IsWrittenAt};
 
-use cvss_any::{Message, ReadError, Refusal, Segment};
+use cvss_vector::{Message, ReadError, Refusal, Segment};
 
 /// Writes a text, or items, at the beginning of a buffer where they fit, and returns their number.
 // Its copy, inlined wherever it is called, would be a thirtieth of the module of WebAssembly.

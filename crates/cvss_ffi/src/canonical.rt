@@ -1,16 +1,16 @@
 //! The canonical text of a vector.
 
 ghost use Rattle.std.specs.Prelude.{◌≡◌, IfNone, IfSome, length};
-ghost use Rattle.cvss_any.specs.Answers.{HasScore, text_of};
-ghost use Rattle.cvss_any.specs.Dispatch.{DenotesCvss};
+ghost use Rattle.cvss_vector.specs.Answers.{HasScore, text_of};
+ghost use Rattle.cvss_vector.specs.Dispatch.{DenotesCvss};
 ghost use Rattle.cvss_ffi.specs.Answers.{IsRefused};
 ghost use Rattle.cvss_ffi.specs.Buffer.{IsWritten};
 
 use crate::buffer::write;
-use cvss_any::{Cvss, TextBuffer};
 use cvss_json_record::put_vector;
 use cvss_json_write::Page;
 use cvss_text::print::text_after;
+use cvss_vector::{Cvss, TextBuffer};
 
 /// The vector that a text denotes, if there is one. Its canonical text is written, which is as long
 /// as the text.

@@ -6,10 +6,10 @@ ghost use Rattle.cvss_ffi.specs.Defined.{HasNoneDefined, IsWithout, IsWithoutUnd
 ghost use Rattle.cvss_ffi.specs.Setting.{WritesVector};
 
 use crate::canonical::write_canonical;
-use cvss_any::{Cvss, Versioned};
 use cvss_json_record::spelled;
 use cvss_text::print::Printed;
 use cvss_text::setting::completed;
+use cvss_vector::{Cvss, Versioned};
 
 /// Writes the canonical text of a vector without its undefined metrics.
 pub fn put_without_undefined(cvss: &Cvss, buffer: &mut [u8]) -> usize

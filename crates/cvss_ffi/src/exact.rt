@@ -7,14 +7,12 @@ ghost use Rattle.cvss_ffi.specs.Answers.{NoneIs};
 ghost use Rattle.cvss_ffi.specs.Exact.{AreNumbersOf, AreNumbersV2, AreNumbersV3, IsNumber, IsPartial, IsRoundedTo, IsTemporalWith, count_in};
 
 use crate::scores::{tenths_of as scores_of, tenths_of_v3};
-use cvss_any::{Cvss, Versioned};
 use cvss_base::TENTH;
 use cvss_score::v3::Rules;
 use cvss_score::v3::rounding::round_count;
 use cvss_text::setting::read_given;
 use cvss_text::texts::components_of;
-use cvss_v2 as v2;
-use cvss_v3 as v3;
+use cvss_vector::{Cvss, Versioned, v2, v3};
 
 /// An exact number: a count of 10^-12 and a count of 10^-24, added.
 #[derive(Drop)]

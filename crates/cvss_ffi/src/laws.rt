@@ -1,15 +1,15 @@
 //! Laws of the calls, each the contract of a function that does nothing.
 
 ghost use Rattle.std.specs.Prelude.{◌≡◌, codes};
-ghost use Rattle.cvss_v4.specs.Merging.{effective_of};
-ghost use Rattle.cvss_v2.specs.declared.vector.Vector as vector_v2;
-ghost use Rattle.cvss_v3.specs.declared.vector.Vector as vector_v3;
-ghost use Rattle.cvss_v4.specs.declared.vector.Vector as vector_v4;
-ghost use Rattle.cvss_v2.specs.Vector.{v2};
-ghost use Rattle.cvss_v3.specs.Vector.{v3};
-ghost use Rattle.cvss_v4.specs.Vector.{v4};
-ghost use Rattle.cvss_v2.specs.Weights as weights_v2;
-ghost use Rattle.cvss_v3.specs.VectorWeights as weights_v3;
+ghost use Rattle.cvss_vector.specs.v4.Merging.{effective_of};
+ghost use Rattle.cvss_vector.specs.declared.v2.vector.Vector as vector_v2;
+ghost use Rattle.cvss_vector.specs.declared.v3.vector.Vector as vector_v3;
+ghost use Rattle.cvss_vector.specs.declared.v4.vector.Vector as vector_v4;
+ghost use Rattle.cvss_vector.specs.v2.Vector.{v2};
+ghost use Rattle.cvss_vector.specs.v3.Vector.{v3};
+ghost use Rattle.cvss_vector.specs.v4.Vector.{v4};
+ghost use Rattle.cvss_vector.specs.v2.Weights as weights_v2;
+ghost use Rattle.cvss_vector.specs.v3.VectorWeights as weights_v3;
 ghost use Rattle.cvss_base.specs.Equality.{ClonesAlways, ClonesByValue};
 ghost use Rattle.cvss_ffi.specs.Defined.{HasDefinedOf};
 

@@ -6,10 +6,10 @@ ghost use Rattle.cvss_ffi.specs.Buffer.{IsWritten};
 ghost use Rattle.cvss_ffi.specs.Metrics.{metrics_at, metrics_in_order, padded as padded_text};
 
 use crate::buffer::write;
-use cvss_any::Cvss;
 use cvss_base::v4::MOST_METRICS;
 use cvss_json_record::spelled;
 use cvss_text::print::Printed;
+use cvss_vector::Cvss;
 
 /// A metric of a vector. Each text is in eight bytes, with bytes 0 after it.
 #[derive(Clone, Copy)]

@@ -4,10 +4,9 @@ ghost use Rattle.std.specs.Prelude.{◌≡◌, ◌≤◌, pos};
 ghost use Rattle.cvss_score.specs.v2.Rating.{rating_of};
 ghost use Rattle.cvss_ffi.specs.Scores.{IsRatingNumber, nomenclature_of_any, severity_number as number_of_severity, version_number as number_of_version};
 
-use cvss_any::Cvss;
 use cvss_base::{Severity, TENTH, severity_of_score};
 use cvss_score::v4::Nomenclature;
-use cvss_v2 as v2;
+use cvss_vector::{Cvss, v2};
 
 /// What stands for nothing: a text that is refused has no version, and CVSS v4.0 no temporal score.
 pub const NOTHING: i32 = -1;

@@ -2,13 +2,13 @@
 
 ghost use Rattle.std.specs.Prelude.{None};
 ghost use Rattle.cvss_explain.specs.Explanation.{IsExplanationText};
-ghost use Rattle.cvss_any.specs.Answers.{HasScore};
+ghost use Rattle.cvss_vector.specs.Answers.{HasScore};
 ghost use Rattle.cvss_ffi.specs.Buffer.{Writes};
 ghost use Rattle.cvss_json_record.specs.Record.{IsRecordText};
 
 use crate::buffer::write;
-use cvss_any::Cvss;
 use cvss_json_write::Page;
+use cvss_vector::Cvss;
 
 /// Writes the record of a vector.
 pub fn put_record(cvss: &Cvss, buffer: &mut [u8]) -> usize

@@ -6,9 +6,9 @@ ghost use Rattle.cvss_ffi.specs.private.Rejection.{answered};
 
 use crate::refusal::read;
 use crate::rejection::Rejection;
-use cvss_any::{Cvss, ReadError};
 use cvss_text::texts::components_of;
-use cvss_v4::overrides::read_overrides;
+use cvss_vector::v4::overrides::read_overrides;
+use cvss_vector::{Cvss, ReadError};
 
 /// The vector that a text denotes with overrides in place, or why there is none.
 pub fn overridden<'a>(text: &'a [u8], overrides: &'a [u8]) -> Result<Cvss, Rejection<'a>>

@@ -2,17 +2,17 @@
 //! text that it quotes. It takes no memory.
 
 ghost use Rattle.std.specs.Prelude.{◌≡◌, [], IfOk, IfErr, pos};
-ghost use Rattle.cvss_any.specs.Answers.{HasScore};
-ghost use Rattle.cvss_any.specs.Dispatch.{DenotesCvss};
-ghost use Rattle.cvss_any.specs.Reasons.{IsReason, said_of};
-ghost use Rattle.cvss_any.specs.Segments.{segment_text};
+ghost use Rattle.cvss_vector.specs.Answers.{HasScore};
+ghost use Rattle.cvss_vector.specs.Dispatch.{DenotesCvss};
+ghost use Rattle.cvss_vector.specs.Reasons.{IsReason, said_of};
+ghost use Rattle.cvss_vector.specs.Segments.{segment_text};
 ghost use Rattle.cvss_ffi.specs.Answers.{Answers, WritesRefusal};
 ghost use Rattle.cvss_ffi.specs.Buffer.{IsWritten};
 ghost use Rattle.cvss_ffi.specs.Refusals.{IsReportedKind, IsKind, IsQuoted, reported_name as reported_kind_name, kind_number as number_of_kind, not_utf8, quoted_part as part_quoted};
 ghost use Rattle.cvss_ffi.specs.private.Steps.{IsRefusedBy, IsWrittenAt};
 
 use crate::buffer::{write, write_error, write_segments};
-use cvss_any::{Cvss, ReadError, Refusal, Segment};
+use cvss_vector::{Cvss, ReadError, Refusal, Segment};
 
 /// Writes why a text is refused.
 pub fn put_reason(text: &[u8], buffer: &mut [u8]) -> usize

@@ -7,9 +7,9 @@ ghost use Rattle.cvss_ffi.specs.private.Rejection.{answered, rejection_text};
 
 use crate::buffer::{write, write_error, write_refusal};
 use crate::canonical::write_canonical;
-use cvss_any::{Cvss, ReadError, Refusal};
 use cvss_json_write::Page;
-use cvss_v4::overrides::OverrideFault;
+use cvss_vector::v4::overrides::OverrideFault;
+use cvss_vector::{Cvss, ReadError, Refusal};
 
 /// Why there is no new vector.
 #[derive(Drop)]

@@ -1,14 +1,13 @@
 //! The scores of a vector, as C sees them.
 
-ghost use Rattle.cvss_any.specs.Answers.{HasScore};
-ghost use Rattle.cvss_any.specs.declared.vector.Cvss.TheVariants.{CvssV31};
+ghost use Rattle.cvss_vector.specs.Answers.{HasScore};
+ghost use Rattle.cvss_vector.specs.declared.vector.Cvss.TheVariants.{CvssV31};
 ghost use Rattle.cvss_json_record.specs.declared.group.Group.TheVariants.{Base, Temporal, Environmental};
 ghost use Rattle.cvss_ffi.specs.Scores.{AreScoresByOf, AreScoresOf, IsReportedScore};
 
 use crate::numbers::{NOTHING, nomenclature_of, rating_number, version_number};
-use cvss_any::Cvss;
 use cvss_score::v4::Nomenclature;
-use cvss_v3 as v3;
+use cvss_vector::{Cvss, v3};
 
 /// The version, the scores and the ratings of a vector. Scores are in tenths, from 0 to 100; ratings
 /// are 0 for none, 1 low, 2 medium, 3 high, 4 critical.

@@ -1,13 +1,13 @@
 //! Metrics that are set in a vector, and vectors that are built from metrics. It takes no memory.
 
 ghost use Rattle.std.specs.Prelude.{◌≡◌, IfNone, IfSome};
-ghost use Rattle.cvss_any.specs.declared.setting.Version as version;
+ghost use Rattle.cvss_vector.specs.declared.setting.Version as version;
 ghost use Rattle.cvss_ffi.specs.Setting.{Builds, SetsMetrics, number_of};
 ghost use Rattle.cvss_ffi.specs.private.Rejection.{answered};
 
 use crate::refusal::read;
 use crate::rejection::Rejection;
-use cvss_any::{Cvss, ReadError, Version};
+use cvss_vector::{Cvss, ReadError, Version};
 
 /// The vector that a text denotes with metrics set, or why there is none.
 pub fn with_metrics<'a>(text: &'a [u8], metrics: &'a [u8]) -> Result<Cvss, Rejection<'a>>

@@ -2,7 +2,7 @@
 
 ghost use Rattle.std.specs.Prelude.{◌≡◌, ◌≤◌, [], ◌∷◌, length};
 ghost use Rattle.std.specs.List.{repeat};
-ghost use Rattle.cvss_any.specs.Answers.{HasScore};
+ghost use Rattle.cvss_vector.specs.Answers.{HasScore};
 ghost use Rattle.cvss_base.specs.V4Types.{most_metrics};
 ghost use Rattle.cvss_base.specs.Version.{held};
 ghost use Rattle.cvss_ffi.specs.Buffer.{begun};
@@ -12,12 +12,12 @@ ghost use Rattle.cvss_ffi.specs.Values.{AreValuesOf, field_of, fields_of as fiel
 use crate::buffer::write;
 use crate::metrics::padded;
 use crate::numbers::{nomenclature_of, version_number};
-use cvss_any::Cvss;
 use cvss_base::v2::MetricType as V2;
 use cvss_base::v3::MetricType as V3;
 use cvss_base::v4::{MOST_METRICS, MetricType as V4};
 use cvss_json_record::spelled;
 use cvss_text::print::Printed;
+use cvss_vector::Cvss;
 
 /// The version of a vector, its published score, and the value of each of its metrics.
 #[derive(Drop)]
@@ -64,11 +64,11 @@ fn fields_of(cvss: &Cvss) -> [[u8; 8]; MOST_METRICS]
     ensures { result ≡ fields_of_cvss cvss.now }
 {
     match cvss {
-        Cvss::CvssV20(vector) => filled_up(&cvss_v2::each_metric!(fields!(vector, V2))),
+        Cvss::CvssV20(vector) => filled_up(&cvss_vector::each_v2_metric!(fields!(vector, V2))),
         Cvss::CvssV30(vector) | Cvss::CvssV31(vector) => {
-            filled_up(&cvss_v3::each_metric!(fields!(vector, V3)))
+            filled_up(&cvss_vector::each_v3_metric!(fields!(vector, V3)))
         }
-        Cvss::CvssV40(vector) => cvss_v4::each_metric!(fields!(vector, V4)),
+        Cvss::CvssV40(vector) => cvss_vector::each_v4_metric!(fields!(vector, V4)),
     }
 }
 

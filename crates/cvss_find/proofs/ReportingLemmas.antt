@@ -6,8 +6,8 @@ use Rattle.std.proofs.lemmas.List.{drop_all, flat_map_more, map-append}
 use Rattle.std.proofs.lemmas.List.Elements.{All-nil}
 use Rattle.std.proofs.lemmas.List.Folds.{list_all-append}
 use Rattle.std.specs.Prelude.{bytes_eq}
-use Rattle.cvss_any.specs.Complete.{IsPublishedOfComplete}
-use Rattle.cvss_any.specs.declared.published.Published.{Published}
+use Rattle.cvss_vector.specs.Complete.{IsPublishedOfComplete}
+use Rattle.cvss_vector.specs.declared.published.Published.{Published}
 use Rattle.cvss_answer.specs.Answers.{score_rule}
 use Rattle.cvss_lines.specs.Answers.{Accepted, Refused, WritesAnswer, is_accepted, written_answer, written_text}
 use Rattle.cvss_lines.specs.Prefixed.{AnswersByOneText, is_one_text}

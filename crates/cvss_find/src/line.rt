@@ -1,7 +1,7 @@
 //! The answer to a line: what is reported of the vectors in it.
 
 ghost use Rattle.std.specs.Prelude.{◌≡◌, ◌++◌, IfOk, OnOk, bytes_eq, codes, drop, false, true};
-ghost use Rattle.cvss_any.specs.Complete.{IsPublishedOfComplete};
+ghost use Rattle.cvss_vector.specs.Complete.{IsPublishedOfComplete};
 ghost use Rattle.cvss_find.specs.Answers.{answered_bytes, answers_as, before_answer};
 ghost use Rattle.cvss_find.specs.Decoding.{decoded};
 ghost use Rattle.cvss_find.specs.declared.form.Form.TheVariants.{Located};
@@ -13,10 +13,10 @@ use crate::decoding::decoded;
 use crate::form::Form;
 use crate::place::{write_first_place, write_place};
 use cvss_answer::{answer_score, write_canonical};
-use cvss_any::{Cvss, Published};
 use cvss_lines::OutputBuffer;
 use cvss_rows::{Format, write_cells};
 use cvss_scan::{Mention, Mentions, begins_with_prefix, has_percent};
+use cvss_vector::{Cvss, Published};
 use std::alloc::{AllocError, Global};
 use std::cell::Cell;
 

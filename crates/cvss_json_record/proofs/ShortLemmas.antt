@@ -9,10 +9,10 @@ use Rattle.cvss_text.proofs.PrintLemmas.{joined_after_first}
 use Rattle.cvss_base.specs.declared.v2.MetricType.TheVariants as metric_v2
 use Rattle.cvss_base.specs.declared.v3.MetricType.TheVariants as metric_v3
 use Rattle.cvss_base.specs.declared.v4.MetricType.TheVariants as metric_v4
-use Rattle.cvss_v2.specs.Vector.{v2}
-use Rattle.cvss_v2.specs.declared.vector.Vector.{Vector}
-use Rattle.cvss_v3.specs.Vector.{v3}
-use Rattle.cvss_v4.specs.Vector.{v4}
+use Rattle.cvss_vector.specs.v2.Vector.{v2}
+use Rattle.cvss_vector.specs.declared.v2.vector.Vector.{Vector}
+use Rattle.cvss_vector.specs.v3.Vector.{v3}
+use Rattle.cvss_vector.specs.v4.Vector.{v4}
 use Rattle.cvss_base.specs.Text.{component}
 use Rattle.cvss_base.specs.Version.{Version, canonical_text}
 use Rattle.cvss_text.specs.private.Printing.{with_slash, text_with_slash, texts_with_slash}

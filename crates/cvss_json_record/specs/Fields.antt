@@ -1,8 +1,8 @@
 -- The members that the records of each version may have, in the order of their names: FIRST's JSON schemas of
 -- CVSS v2.0, v3.0, v3.1 and v4.0.
 use Rattle.std.specs.Prelude.{ℕ, List, codes}
-use Rattle.cvss_any.specs.declared.vector.Cvss.{Cvss}
-use Rattle.cvss_any.specs.declared.vector.Cvss.TheVariants.{CvssV20, CvssV30, CvssV31, CvssV40}
+use Rattle.cvss_vector.specs.declared.vector.Cvss.{Cvss}
+use Rattle.cvss_vector.specs.declared.vector.Cvss.TheVariants.{CvssV20, CvssV30, CvssV31, CvssV40}
 use Rattle.cvss_json_record.specs.WordsV2 as words_v2
 use Rattle.cvss_json_record.specs.WordsV3 as words_v3
 use Rattle.cvss_json_record.specs.WordsV4 as words_v4

@@ -2,8 +2,8 @@
 -- section 7; v4.0 specification, section 8.2.
 use Rattle.std.specs.Prelude.{ℕ, ℤ, Bool, true, false, ◌&&◌, List, codes, Option, Some, None, is_some}
 use Rattle.std.specs.List.{list_any}
-use Rattle.cvss_any.specs.Answers.{score_of_tenths}
-use Rattle.cvss_v4.specs.Merging.{effective_of}
+use Rattle.cvss_vector.specs.Answers.{score_of_tenths}
+use Rattle.cvss_vector.specs.v4.Merging.{effective_of}
 use Rattle.cvss_score.specs.v2.Scores as scores_v2
 use Rattle.cvss_score.specs.v3.Scores as scores_v3
 use Rattle.cvss_score.specs.v4.Scores.{IsScore}
@@ -12,12 +12,12 @@ use Rattle.cvss_metric.specs.v3.Table as table_v3
 use Rattle.cvss_base.specs.Tenths.{IsInTenths}
 use Rattle.cvss_base.specs.V2Types as types_v2
 use Rattle.cvss_base.specs.V3Types as types_v3
-use Rattle.cvss_v2.specs.Vector as vector_v2
-use Rattle.cvss_v3.specs.Vector as vector_v3
-use Rattle.cvss_v2.specs.Weights as weights_v2
-use Rattle.cvss_v3.specs.VectorWeights as weights_v3
-use Rattle.cvss_any.specs.declared.vector.Cvss.{Cvss}
-use Rattle.cvss_any.specs.declared.vector.Cvss.TheVariants.{CvssV20, CvssV30, CvssV31, CvssV40}
+use Rattle.cvss_vector.specs.v2.Vector as vector_v2
+use Rattle.cvss_vector.specs.v3.Vector as vector_v3
+use Rattle.cvss_vector.specs.v2.Weights as weights_v2
+use Rattle.cvss_vector.specs.v3.VectorWeights as weights_v3
+use Rattle.cvss_vector.specs.declared.vector.Cvss.{Cvss}
+use Rattle.cvss_vector.specs.declared.vector.Cvss.TheVariants.{CvssV20, CvssV30, CvssV31, CvssV40}
 use Rattle.cvss_base.specs.declared.group.MetricGroup.{MetricGroup}
 use Rattle.cvss_base.specs.declared.group.MetricGroup.TheVariants as metrics
 use Rattle.cvss_json_record.specs.declared.group.Group.{Group}

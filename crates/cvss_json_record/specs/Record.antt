@@ -1,16 +1,16 @@
 -- The record of a vector: FIRST's JSON schemas of CVSS v2.0, v3.0, v3.1 and v4.0.
 use Rattle.std.specs.Prelude.{◌≡◌, ℕ, Bool, true, List, codes, Option, Some, None, option_map, option_and_then, unwrap_or, if◌then◌else◌}
 use Rattle.std.specs.List.{filter_map}
-use Rattle.cvss_any.specs.Answers.{rating_by, score_of_tenths, text_of}
-use Rattle.cvss_any.specs.declared.vector.Cvss.{Cvss}
-use Rattle.cvss_any.specs.declared.vector.Cvss.TheVariants.{CvssV20, CvssV30, CvssV31, CvssV40}
+use Rattle.cvss_vector.specs.Answers.{rating_by, score_of_tenths, text_of}
+use Rattle.cvss_vector.specs.declared.vector.Cvss.{Cvss}
+use Rattle.cvss_vector.specs.declared.vector.Cvss.TheVariants.{CvssV20, CvssV30, CvssV31, CvssV40}
 use Rattle.cvss_base.specs.Version.{held}
 use Rattle.cvss_base.specs.declared.severity.Severity.{Severity}
 use Rattle.cvss_base.specs.declared.severity.Severity.TheVariants as severity
 use Rattle.cvss_json_write.specs.Json.{Member, object_text, string_text, tenths_text}
-use Rattle.cvss_v2.specs.Vector.{v2}
-use Rattle.cvss_v3.specs.Vector.{v3}
-use Rattle.cvss_v4.specs.Vector.{v4}
+use Rattle.cvss_vector.specs.v2.Vector.{v2}
+use Rattle.cvss_vector.specs.v3.Vector.{v3}
+use Rattle.cvss_vector.specs.v4.Vector.{v4}
 use Rattle.cvss_json_record.specs.Versions.{version_of}
 use Rattle.cvss_json_record.specs.Words.{Row, word_in}
 use Rattle.cvss_json_record.specs.WordsV2 as words_v2

@@ -1,7 +1,7 @@
 -- The word of FIRST's JSON schemas for a vector's version.
 use Rattle.std.specs.Prelude.{ℕ, List, codes}
-use Rattle.cvss_any.specs.declared.vector.Cvss.{Cvss}
-use Rattle.cvss_any.specs.declared.vector.Cvss.TheVariants.{CvssV20, CvssV30, CvssV31, CvssV40}
+use Rattle.cvss_vector.specs.declared.vector.Cvss.{Cvss}
+use Rattle.cvss_vector.specs.declared.vector.Cvss.TheVariants.{CvssV20, CvssV30, CvssV31, CvssV40}
 
 -- the version that the record says
 abbrev pub version_of : Cvss → List ℕ

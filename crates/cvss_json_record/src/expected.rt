@@ -9,7 +9,7 @@ use crate::names::{Row, v2, v3, v4, word_in};
 use crate::score::{Scores, rating};
 use crate::text::spelled;
 use crate::versions::version;
-use cvss_any::Cvss;
+use cvss_vector::Cvss;
 
 /// What a member says.
 #[derive(Clone, Copy)]

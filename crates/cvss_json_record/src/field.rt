@@ -6,10 +6,10 @@ ghost use Rattle.cvss_json_record.specs.Fields.{fields_of, name_of};
 
 use crate::group::Group;
 use crate::names::{v2 as words_v2, v3 as words_v3, v4 as words_v4};
-use cvss_any::Cvss;
 use cvss_base::v2::MetricType as KindV2;
 use cvss_base::v3::MetricType as KindV3;
 use cvss_base::v4::MetricType as KindV4;
+use cvss_vector::Cvss;
 
 /// A member of a record, by what it says of the vector.
 #[derive(Clone, Copy)]

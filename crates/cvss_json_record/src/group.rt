@@ -2,15 +2,15 @@
 //! 7).
 
 ghost use Rattle.std.specs.Prelude.{◌≡◌};
-ghost use Rattle.cvss_any.specs.declared.vector.Cvss.TheVariants.{CvssV20, CvssV30};
+ghost use Rattle.cvss_vector.specs.declared.vector.Cvss.TheVariants.{CvssV20, CvssV30};
 ghost use Rattle.cvss_json_record.specs.Groups.{has_group, is_given_by, score_member, severity_member};
 ghost use Rattle.cvss_json_record.specs.Record.{reports_group};
 
 use crate::{v2, v3};
-use cvss_any::Cvss;
 use cvss_base::MetricGroup;
 use cvss_text::print::Printed;
 use cvss_text::walk::Components;
+use cvss_vector::Cvss;
 
 /// A group of metrics with a score of its own. The one score of CVSS v4.0 counts as that of the base
 /// group.

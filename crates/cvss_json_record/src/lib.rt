@@ -13,8 +13,7 @@ mod score;
 mod text;
 mod versions;
 
-use cvss_v2 as v2;
-use cvss_v3 as v3;
+use cvss_vector::{v2, v3};
 pub use expected::{Expected, expected_of};
 pub use field::{Field, fields_of};
 pub use group::Group;

@@ -1,7 +1,7 @@
 //! The record of a vector, as JSON text.
 
 ghost use Rattle.std.specs.Prelude.{◌≡◌, ◌≤◌, [], IfSome, option_and_then, option_map};
-ghost use Rattle.cvss_any.specs.Answers.{HasScore};
+ghost use Rattle.cvss_vector.specs.Answers.{HasScore};
 ghost use Rattle.cvss_json_write.specs.Scalars.{scalar_room, scalar_text};
 ghost use Rattle.cvss_json_record.specs.Record.{IsRecordText, expected_text, has_member, member_at, said_at};
 ghost use Rattle.cvss_json_record.specs.private.Room.{field_room};
@@ -10,8 +10,8 @@ use crate::expected::{Expected, expected_of};
 use crate::field::{Field, fields_of};
 use crate::score::Scores;
 use crate::text::put_vector;
-use cvss_any::Cvss;
 use cvss_json_write::{Members, Page, Scalar, put_member, put_name, put_object};
+use cvss_vector::Cvss;
 
 /// Writes the record of a vector that has a score: its version, its text, the word of each metric that
 /// it has, its scores and, except in CVSS v2, their ratings. The members are in the order of their

@@ -1,13 +1,13 @@
 //! The scores of a vector, as a record says them.
 
 ghost use Rattle.std.specs.Prelude.{◌≡◌};
-ghost use Rattle.cvss_any.specs.Answers.{HasScore, rating_by, score_of_tenths};
+ghost use Rattle.cvss_vector.specs.Answers.{HasScore, rating_by, score_of_tenths};
 ghost use Rattle.cvss_json_record.specs.Groups.{AreScoresOf, tenths_at};
 ghost use Rattle.cvss_json_record.specs.Record.{rating_word};
 
 use crate::group::Group;
-use cvss_any::Cvss;
 use cvss_base::{Severity, TENTH};
+use cvss_vector::Cvss;
 
 /// The scores of a vector in tenths, from 0 to 100 each.
 #[derive(Clone, Copy)]

@@ -2,14 +2,14 @@
 
 ghost use Rattle.std.specs.Prelude.{◌≡◌, ◌+◌, ◌≤◌, [], ◌∷◌, ◌++◌, length, ◌*◌};
 ghost use Rattle.std.specs.Option.{option_copied};
-ghost use Rattle.cvss_any.specs.Answers.{text_of};
+ghost use Rattle.cvss_vector.specs.Answers.{text_of};
 ghost use Rattle.cvss_base.specs.V4Types.{most_metrics};
 ghost use Rattle.cvss_base.specs.Version.{canonical_text, held, numeral};
 ghost use Rattle.cvss_text.specs.private.Printing.{texts_with_slash};
 
-use cvss_any::{Cvss, TextBuffer};
 use cvss_json_write::Page;
 use cvss_text::print::Printed;
+use cvss_vector::{Cvss, TextBuffer};
 
 /// Writes a vector's canonical text.
 pub fn put_vector(page: &mut Page, cvss: &Cvss)

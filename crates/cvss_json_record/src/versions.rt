@@ -3,7 +3,7 @@
 ghost use Rattle.std.specs.Prelude.{◌≡◌};
 ghost use Rattle.cvss_json_record.specs.Versions.{version_of};
 
-use cvss_any::Cvss;
+use cvss_vector::Cvss;
 
 /// The version that a vector's record says.
 pub fn version(cvss: &Cvss) -> &'static str

@@ -9,16 +9,16 @@ ghost use Rattle.cvss_base.specs.Refusal.{Refusal, IsFirstRefusal, IsFirstRefusa
 ghost use Rattle.cvss_base.specs.ErrorText.{error_text};
 ghost use Rattle.cvss_base.specs.Reported.{reason_reported};
 ghost use Rattle.cvss_base.specs.laws.Rounding.{IsOneCount};
-ghost use Rattle.cvss_v2.specs.Vector as of_v2;
-ghost use Rattle.cvss_v3.specs.Vector as of_v3;
-ghost use Rattle.cvss_v4.specs.Vector as of_v4;
-ghost use Rattle.cvss_any.specs.Answers.{text_of, IsScoreOf};
-ghost use Rattle.cvss_any.specs.Dispatch.{DenotesCvss, IsFirstRefusalCvss, cvss_reason};
-ghost use Rattle.cvss_any.specs.Reasons.{reason_text};
+ghost use Rattle.cvss_vector.specs.v2.Vector as of_v2;
+ghost use Rattle.cvss_vector.specs.v3.Vector as of_v3;
+ghost use Rattle.cvss_vector.specs.v4.Vector as of_v4;
+ghost use Rattle.cvss_vector.specs.Answers.{text_of, IsScoreOf};
+ghost use Rattle.cvss_vector.specs.Dispatch.{DenotesCvss, IsFirstRefusalCvss, cvss_reason};
+ghost use Rattle.cvss_vector.specs.Reasons.{reason_text};
 ghost use Rattle.cvss_laws.specs.any.GivenBack.{IsGivenBack};
 
-use cvss_any::{Cvss, MetricType};
 use cvss_base::Error;
+use cvss_vector::{Cvss, MetricType};
 
 /// A text denotes at most one vector, and the text that is printed of a vector denotes that vector
 /// exactly where it is well formed and, in CVSS v3, has a metric and the minor version of its

@@ -10,14 +10,14 @@ ghost use Rattle.cvss_base.specs.Exact.{of_count};
 ghost use Rattle.cvss_base.specs.Rounding.{IsNearestAway};
 ghost use Rattle.cvss_base.specs.Tenths.{IsInTenths};
 ghost use Rattle.cvss_base.specs.laws.Rounding.{IsOneCount};
-ghost use Rattle.cvss_v2.specs.Vector.{v2};
-ghost use Rattle.cvss_v2.specs.Weights.{weights_of};
-ghost use Rattle.cvss_v2.specs.declared.vector.Vector.{Vector};
+ghost use Rattle.cvss_vector.specs.v2.Vector.{v2};
+ghost use Rattle.cvss_vector.specs.v2.Weights.{weights_of};
+ghost use Rattle.cvss_vector.specs.declared.v2.vector.Vector.{Vector};
 ghost use Rattle.cvss_score.specs.v2.Scores.{IsTemporal, IsBaseScore, IsTemporalScore, IsEnvironmentalScore, IsBaseScoreBy, IsTemporalScoreBy, IsEnvironmentalScoreBy};
 ghost use Rattle.cvss_score.specs.declared.v2.weights.Weights.{Weights};
 
-pub use cvss_v2::laws::vectors_are_their_values;
-use cvss_v2::{Score, Vector};
+pub use cvss_vector::v2::laws::vectors_are_their_values;
+use cvss_vector::v2::{Score, Vector};
 
 /// Scores compare as their counts, are equal exactly if these are, and are 0 by default; a clone is
 /// the score, and is never refused.

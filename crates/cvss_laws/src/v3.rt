@@ -8,14 +8,14 @@ ghost use Rattle.cvss_base.specs.Version.{canonical_text, Denotes};
 ghost use Rattle.cvss_laws.specs.v3.FifthDecimals.{IsSameWhenCut};
 ghost use Rattle.cvss_laws.specs.v3.ScoreLaws.{DefineTheSame, with_modified_as_base};
 ghost use Rattle.cvss_base.specs.laws.Rounding.{IsOneCount};
-ghost use Rattle.cvss_v3.specs.Vector.{v3};
-ghost use Rattle.cvss_v3.specs.VectorWeights.{weights_of};
-ghost use Rattle.cvss_v3.specs.declared.vector.Vector.{Vector};
+ghost use Rattle.cvss_vector.specs.v3.Vector.{v3};
+ghost use Rattle.cvss_vector.specs.v3.VectorWeights.{weights_of};
+ghost use Rattle.cvss_vector.specs.declared.v3.vector.Vector.{Vector};
 ghost use Rattle.cvss_score.specs.v3.Scores.{base_number, environmental_number, temporal_number, IsBaseScore, IsTemporalScore, IsEnvironmentalScore};
 ghost use Rattle.cvss_score.specs.declared.v3.weights.Weights.{Weights};
 
-pub use cvss_v3::laws::vectors_are_their_values;
-use cvss_v3::{Score, Vector};
+pub use cvss_vector::v3::laws::vectors_are_their_values;
+use cvss_vector::v3::{Score, Vector};
 
 /// Scores compare as their counts, are equal exactly if these are, and are 0 by default; a clone is
 /// the score, and is never refused.

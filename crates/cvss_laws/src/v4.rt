@@ -18,12 +18,12 @@ ghost use Rattle.cvss_score.specs.v4.Gap.{eq1_depth, eq2_depth, eq3_eq6_depth, e
 ghost use Rattle.cvss_score.specs.v4.Scores.{has_impact, number, IsScore};
 ghost use Rattle.cvss_score.specs.v4.Values.{listed_value, table_value, IsListed};
 ghost use Rattle.cvss_score.specs.declared.v4.scoring.effective.Effective.{Effective};
-ghost use Rattle.cvss_v4.specs.Merging.{letter_at, effective_of};
-ghost use Rattle.cvss_v4.specs.Nomenclature.{nomenclature_of};
-ghost use Rattle.cvss_v4.specs.Table.{value_at};
-ghost use Rattle.cvss_v4.specs.Vector.{v4};
-ghost use Rattle.cvss_v4.specs.declared.vector.Vector.{Vector};
-ghost use Rattle.cvss_v4.specs.declared.vector.overriding.OverrideError.{OverrideError};
+ghost use Rattle.cvss_vector.specs.v4.Merging.{letter_at, effective_of};
+ghost use Rattle.cvss_vector.specs.v4.Nomenclature.{nomenclature_of};
+ghost use Rattle.cvss_vector.specs.v4.Table.{value_at};
+ghost use Rattle.cvss_vector.specs.v4.Vector.{v4};
+ghost use Rattle.cvss_vector.specs.declared.v4.vector.Vector.{Vector};
+ghost use Rattle.cvss_vector.specs.declared.v4.vector.overriding.OverrideError.{OverrideError};
 ghost use Rattle.cvss_laws.specs.v4.ClassLaws.{IsDominated, HaveLeastSum, IsDepth};
 ghost use Rattle.cvss_laws.specs.v4.LetterLaws.{AreLettersOf};
 ghost use Rattle.cvss_laws.specs.v4.Maximal.{eq1_levels, eq1_maximal, eq2_levels, eq2_maximal, eq3_eq6_levels, eq3_eq6_maximal, eq4_levels, eq4_maximal};
@@ -32,8 +32,8 @@ ghost use Rattle.cvss_laws.specs.v4.OverridingLaws.{AreAlike};
 ghost use Rattle.cvss_laws.specs.v4.ScoreLaws.{IsFromTenthToTen};
 
 use cvss_score::v4::scoring::explanation::{Explanation, GroupExplanation, GroupExplanations};
-use cvss_v4::laws::vectors_are_their_values;
-use cvss_v4::{Nomenclature, OverrideError, Score, Vector};
+use cvss_vector::v4::laws::vectors_are_their_values;
+use cvss_vector::v4::{Nomenclature, OverrideError, Score, Vector};
 
 /// Two vectors, scores or nomenclatures are equal exactly if they are one value, and two errors of
 /// overrides exactly if they are of one kind, at one place, and say the same.

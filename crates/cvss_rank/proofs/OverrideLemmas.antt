@@ -1,10 +1,10 @@
 -- For which vectors an override holds.
 use Rattle.std.proofs.Common.{◌≡◌, ◌⊎◌, ◌<◌, ◌≤◌, ◌+◌, inl, inr, ℕ, List, length, drop, get_or, Option, refl, sym, subst, ◌∙◌}
 use Rattle.std.proofs.lemmas.List.{drop_all, drop_more}
-use Rattle.cvss_any.specs.Setting.{IsWith, IsWithReason}
-use Rattle.cvss_any.specs.declared.metric_type.MetricType.{MetricType}
-use Rattle.cvss_any.specs.declared.vector.Cvss.{Cvss}
-use Rattle.cvss_any.specs.declared.vector.Cvss.TheVariants.{CvssV20, CvssV30, CvssV31, CvssV40}
+use Rattle.cvss_vector.specs.Setting.{IsWith, IsWithReason}
+use Rattle.cvss_vector.specs.declared.metric_type.MetricType.{MetricType}
+use Rattle.cvss_vector.specs.declared.vector.Cvss.{Cvss}
+use Rattle.cvss_vector.specs.declared.vector.Cvss.TheVariants.{CvssV20, CvssV30, CvssV31, CvssV40}
 use Rattle.cvss_base.specs.Refusal.{Refusal}
 use Rattle.cvss_rank.specs.Overrides.{HoldsFor, HoldsForNoneLike, HoldsForSome, HoldsIn, IsAfter, IsAfterAll, IsSetBy, family_of}
 use Rattle.cvss_rank.specs.declared.overrides.Family.{Family}
@@ -12,12 +12,12 @@ use Rattle.cvss_rank.specs.declared.overrides.Family.TheVariants.{V2, V3, V4}
 use Rattle.cvss_rank.specs.declared.overrides.Override.{Override}
 use Rattle.cvss_text.proofs.SettingLemmas.{set_no_reason}
 use Rattle.cvss_text.specs.Setting.{components_in}
-use Rattle.cvss_v2.specs.Vector.{v2}
-use Rattle.cvss_v2.specs.private.VectorLaws.{v2_laws}
-use Rattle.cvss_v3.specs.Vector.{v3}
-use Rattle.cvss_v3.specs.private.VectorLaws.{v3_laws}
-use Rattle.cvss_v4.specs.Vector.{v4}
-use Rattle.cvss_v4.specs.private.VectorLaws.{v4_laws}
+use Rattle.cvss_vector.specs.v2.Vector.{v2}
+use Rattle.cvss_vector.specs.v2.private.VectorLaws.{v2_laws}
+use Rattle.cvss_vector.specs.v3.Vector.{v3}
+use Rattle.cvss_vector.specs.v3.private.VectorLaws.{v3_laws}
+use Rattle.cvss_vector.specs.v4.Vector.{v4}
+use Rattle.cvss_vector.specs.v4.private.VectorLaws.{v4_laws}
 
 -- what is wrong with metrics for one vector is so for all of its family
 pub with_no_reason : (text : List ℕ) (cvss other new : Cvss) (index : Option ℕ) (reason : Refusal MetricType) → family_of other ≡ family_of cvss → IsWithReason cvss text index reason → IsWith other text new → ⊥

@@ -2,9 +2,9 @@
 -- v4.0 specification, sections 3 and 4.
 use Rattle.std.specs.Prelude.{◌≡◌, ◌⊎◌, List, [], ◌∷◌, Option, None, Some, ⊤}
 use Rattle.std.specs.Str.{IsUtf8}
-use Rattle.cvss_any.specs.Setting.{IsWith}
-use Rattle.cvss_any.specs.declared.vector.Cvss.{Cvss}
-use Rattle.cvss_any.specs.declared.vector.Cvss.TheVariants.{CvssV20, CvssV30, CvssV31, CvssV40}
+use Rattle.cvss_vector.specs.Setting.{IsWith}
+use Rattle.cvss_vector.specs.declared.vector.Cvss.{Cvss}
+use Rattle.cvss_vector.specs.declared.vector.Cvss.TheVariants.{CvssV20, CvssV30, CvssV31, CvssV40}
 use Rattle.cvss_rank.specs.declared.overrides.Family.{Family}
 use Rattle.cvss_rank.specs.declared.overrides.Family.TheVariants.{V2, V3, V4}
 use Rattle.cvss_rank.specs.declared.overrides.Override.{Override}

@@ -3,8 +3,8 @@ use Rattle.std.specs.Prelude.{◌≡◌, ◌⊎◌, ℕ, suc, ◌≤◌, Bool, L
 use Rattle.std.specs.Cmp.Lexicographic.{slice_cmp}
 use Rattle.std.specs.Ordering.{ordering_then, nat_cmp}
 use Rattle.std.specs.declared.cmp.Ordering.{Ordering}
-use Rattle.cvss_any.specs.Answers.{score_of_tenths}
-use Rattle.cvss_any.specs.declared.vector.Cvss.{Cvss}
+use Rattle.cvss_vector.specs.Answers.{score_of_tenths}
+use Rattle.cvss_vector.specs.declared.vector.Cvss.{Cvss}
 use Rattle.cvss_rank.specs.Overall.{IsOverallScore}
 use Rattle.cvss_rank.specs.Overrides.{IsAfterAll}
 use Rattle.cvss_rank.specs.Reading.{IsReason, IsVectorOf}

@@ -1,9 +1,9 @@
 -- The vector of a line, or why it has none.
 use Rattle.std.specs.Prelude.{◌≡◌, ℕ, Bool, List, [], ◌∷◌, ◌++◌, None}
-use Rattle.cvss_any.specs.Complete.{IsReadErrorBy, missing_by}
-use Rattle.cvss_any.specs.Dispatch.{DenotesCvss}
-use Rattle.cvss_any.specs.declared.refusal.ReadError.{ReadError}
-use Rattle.cvss_any.specs.declared.vector.Cvss.{Cvss}
+use Rattle.cvss_vector.specs.Complete.{IsReadErrorBy, missing_by}
+use Rattle.cvss_vector.specs.Dispatch.{DenotesCvss}
+use Rattle.cvss_vector.specs.declared.refusal.ReadError.{ReadError}
+use Rattle.cvss_vector.specs.declared.vector.Cvss.{Cvss}
 use Rattle.cvss_scan.specs.Mentions.{AreFound, IsFound, Placed, mentions_of}
 use Rattle.cvss_rank.specs.declared.reading.Reason.{Reason}
 use Rattle.cvss_rank.specs.declared.reading.Reason.TheVariants.{NoVector, SeveralVectors, Rejected}

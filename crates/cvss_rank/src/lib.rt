@@ -9,8 +9,7 @@ mod ranking;
 mod reading;
 mod row;
 
-use cvss_v2 as v2;
-use cvss_v3 as v3;
+use cvss_vector::{v2, v3};
 pub use overall::{is_undefined, overall_tenths};
 pub use overrides::{Family, Override, holds_for_some};
 pub use ranking::{BadLine, Ranking, rank};

@@ -1,16 +1,16 @@
 //! The overall score of a vector.
 
 ghost use Rattle.std.specs.Prelude.{◌≡◌, ◌≤◌};
-ghost use Rattle.cvss_any.specs.Answers.{HasScore, score_of_tenths};
+ghost use Rattle.cvss_vector.specs.Answers.{HasScore, score_of_tenths};
 ghost use Rattle.cvss_base.specs.Version.{held};
 ghost use Rattle.cvss_rank.specs.Overall.{IsOverallScore, IsScoreOfV2, IsScoreOfV3, defines_v2, defines_v3, group_v2, group_v3, is_defined, is_group, is_undefined};
 
 use crate::{v2, v3};
-use cvss_any::Cvss;
 use cvss_base::MetricGroup;
 use cvss_text::metrics::spelled;
 use cvss_text::print::Printed;
 use cvss_text::walk::Components;
+use cvss_vector::Cvss;
 
 /// The tenths of the overall score of a vector that has one: the score of CVSS v4.0; in v2 and v3 the
 /// environmental score if an environmental metric is defined, else the temporal score if a temporal

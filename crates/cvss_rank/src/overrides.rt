@@ -1,12 +1,11 @@
 //! Metrics that are set in vectors of several versions.
 
 ghost use Rattle.std.specs.Prelude.{◌≡◌, ◌↔◌, IfSome, IsTrue, MatchOption};
-ghost use Rattle.cvss_any.specs.Answers.{HasScore};
+ghost use Rattle.cvss_vector.specs.Answers.{HasScore};
 ghost use Rattle.cvss_rank.specs.Overrides.{HoldsForNoneLike, HoldsForSome, HoldsIn, IsAfter, IsAfterAll, IsFor, IsSetBy, family_of};
 
 use crate::{v2, v3};
-use cvss_any::Cvss;
-use cvss_v4 as v4;
+use cvss_vector::{Cvss, v4};
 
 /// Versions with the same metrics.
 #[derive(Clone, Copy, Debug, PartialEq, Eq)]

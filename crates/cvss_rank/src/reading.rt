@@ -1,11 +1,11 @@
 //! The vector of a line.
 
 ghost use Rattle.std.specs.Prelude.{Bool, IfErr, IfOk};
-ghost use Rattle.cvss_any.specs.Answers.{HasScore};
+ghost use Rattle.cvss_vector.specs.Answers.{HasScore};
 ghost use Rattle.cvss_rank.specs.Reading.{IsOnlyMatch, IsReason, IsVectorOf};
 
-use cvss_any::{Cvss, ReadError};
 use cvss_scan::Mentions;
+use cvss_vector::{Cvss, ReadError};
 
 /// Why a line has no vector.
 #[derive(Drop)]

@@ -1,11 +1,11 @@
 //! What is ranked of a line.
 
 ghost use Rattle.std.specs.Prelude.{◌≡◌, IsPermutation, IsSorted};
-ghost use Rattle.cvss_any.specs.Answers.{rating_by, score_of_tenths};
+ghost use Rattle.cvss_vector.specs.Answers.{rating_by, score_of_tenths};
 ghost use Rattle.cvss_rank.specs.Ranking.{row_order};
 
-use cvss_any::Cvss;
 use cvss_base::{Severity, TENTH};
+use cvss_vector::Cvss;
 use std::cmp::Ordering;
 
 /// A line, and its vector after the overrides.

@@ -3,8 +3,8 @@ use Rattle.std.proofs.Common.{◌≡◌, inl, inr, ℕ, ◌+◌, List, [], ◌�
 use Rattle.std.proofs.lemmas.Bool.{cases_order}
 use Rattle.cvss_base.specs.declared.v4.MetricType.{MetricType}
 use Rattle.cvss_base.specs.Refusal.{Refusal, piece_at, IsFirstRefusalAfter}
-use Rattle.cvss_v4.specs.declared.vector.Vector.{Vector}
-use Rattle.cvss_v4.specs.Vector.{v4}
+use Rattle.cvss_vector.specs.declared.v4.vector.Vector.{Vector}
+use Rattle.cvss_vector.specs.v4.Vector.{v4}
 use Rattle.cvss_ranking.specs.Faults.{HasNoRefusalBefore, IsFirstRefused}
 use Rattle.cvss_ranking.specs.Triage.{IsRow, AreRows}
 use Rattle.cvss_ranking.specs.declared.row.Row.{Row}

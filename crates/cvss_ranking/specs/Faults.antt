@@ -4,11 +4,11 @@ use Rattle.std.specs.Fmt.{decimal}
 use Rattle.cvss_base.specs.ErrorText.{error_text}
 use Rattle.cvss_base.specs.declared.error.Error.{Error}
 use Rattle.cvss_base.specs.declared.v4.MetricType.{MetricType}
-use Rattle.cvss_v4.specs.Overriding.{Objection, OfOtherGroup, OfText, HasNoObjectionBefore, IsFirstObjection}
+use Rattle.cvss_vector.specs.v4.Overriding.{Objection, OfOtherGroup, OfText, HasNoObjectionBefore, IsFirstObjection}
 use Rattle.cvss_base.specs.Refusal.{Refusal, carries_text, piece_at, IsFirstRefusalAfter}
 use Rattle.cvss_base.specs.Reported.{reason_reported}
 use Rattle.cvss_base.specs.V4Types.{v4_reason}
-use Rattle.cvss_v4.specs.Vector.{v4}
+use Rattle.cvss_vector.specs.v4.Vector.{v4}
 use Rattle.cvss_ranking.specs.declared.error.TriageError.{TriageError}
 use Rattle.cvss_ranking.specs.declared.error.TriageError.TheVariants.{Override, NotEnvironmental, Text, OutOfMemory}
 

@@ -4,12 +4,12 @@ use Rattle.std.specs.Prelude.{◌≡◌, ℕ, List, [], ◌∷◌, IsPermutation
 use Rattle.std.specs.Cmp.Lexicographic.{slice_cmp}
 use Rattle.std.specs.Ordering.{ordering_then, int_cmp, nat_cmp}
 use Rattle.std.specs.declared.cmp.Ordering.{Ordering}
-use Rattle.cvss_v4.specs.Merging.{effective_of}
-use Rattle.cvss_v4.specs.Overriding.{AreOverrides, IsOverridden}
+use Rattle.cvss_vector.specs.v4.Merging.{effective_of}
+use Rattle.cvss_vector.specs.v4.Overriding.{AreOverrides, IsOverridden}
 use Rattle.cvss_score.specs.v4.Scores.{IsScore}
 use Rattle.cvss_base.specs.Tenths.{IsInTenths, IsFromZeroToTen}
-use Rattle.cvss_v4.specs.declared.vector.Vector.{Vector}
-use Rattle.cvss_v4.specs.Vector.{v4}
+use Rattle.cvss_vector.specs.declared.v4.vector.Vector.{Vector}
+use Rattle.cvss_vector.specs.v4.Vector.{v4}
 use Rattle.cvss_base.specs.Version.{canonical_text, Denotes, IsWellFormed}
 use Rattle.cvss_ranking.specs.declared.row.Row.{Row}
 

@@ -1,7 +1,7 @@
 //! Why texts get no rows.
 
 ghost use Rattle.std.specs.Prelude.{◌≡◌, ℕ, Some};
-ghost use Rattle.cvss_v4.specs.Overriding.{Objection, ReportsObjection};
+ghost use Rattle.cvss_vector.specs.v4.Overriding.{Objection, ReportsObjection};
 ghost use Rattle.cvss_base.specs.Refusal.{Refusal};
 ghost use Rattle.cvss_base.specs.Reported.{Reports};
 ghost use Rattle.cvss_base.specs.V4Types.{v4_reason};
@@ -10,7 +10,7 @@ ghost use Rattle.cvss_ranking.specs.Faults.{InOverride, InText, ReportsFault, tr
 ghost use Rattle.cvss_ranking.specs.declared.error.TriageError.TheVariants.{OutOfMemory};
 
 use cvss_base::Error;
-use cvss_v4::OverrideError;
+use cvss_vector::v4::OverrideError;
 use std::alloc::{AllocError, AllocFailed};
 use std::fmt;
 

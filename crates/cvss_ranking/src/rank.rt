@@ -9,7 +9,7 @@ ghost use Rattle.cvss_ranking.specs.declared.error.TriageError.TheVariants.{OutO
 
 use crate::error::TriageError;
 use crate::row::{Row, sort};
-use cvss_v4::Vector;
+use cvss_vector::v4::Vector;
 use std::alloc::Global;
 
 /// The rows of vectors' texts, with an organisation's environmental metrics put in, in falling

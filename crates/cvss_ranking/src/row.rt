@@ -2,12 +2,12 @@
 
 ghost use Rattle.std.specs.Prelude.{◌≡◌, IfOk, IsPermutation, IsSorted};
 ghost use Rattle.cvss_base.specs.Rating.{rating_of_score};
-ghost use Rattle.cvss_v4.specs.Vector.{v4};
+ghost use Rattle.cvss_vector.specs.v4.Vector.{v4};
 ghost use Rattle.cvss_base.specs.Version.{IsComplete};
 ghost use Rattle.cvss_ranking.specs.Triage.{row_order};
 
 use cvss_base::Severity;
-use cvss_v4::{Nomenclature, Score, Vector};
+use cvss_vector::v4::{Nomenclature, Score, Vector};
 use std::alloc::{AllocError, Global};
 
 /// A text, and what its vector is with the overrides in place.

@@ -1,24 +1,24 @@
 -- The row of a line: CVSS v2 guide, section 3.2; v3.1 specification, section 7; v4.0 specification, section 8.
 use Rattle.std.specs.Prelude.{◌≡◌, ℕ, Bool, List, [], ◌∷◌, ◌++◌, codes, flat_map, if◌then◌else◌, None, ℤ}
 use Rattle.std.specs.Str.{IsUtf8}
-use Rattle.cvss_any.specs.Answers.{IsScoreOf, rating_by, score_of_tenths, text_of}
-use Rattle.cvss_any.specs.Complete.{IsReadErrorBy, missing_by}
-use Rattle.cvss_any.specs.Dispatch.{DenotesCvss}
-use Rattle.cvss_any.specs.Reasons.{error_message}
-use Rattle.cvss_any.specs.declared.refusal.ReadError.{ReadError}
-use Rattle.cvss_any.specs.declared.vector.Cvss.{Cvss}
-use Rattle.cvss_any.specs.declared.vector.Cvss.TheVariants.{CvssV20, CvssV30, CvssV31, CvssV40}
+use Rattle.cvss_vector.specs.Answers.{IsScoreOf, rating_by, score_of_tenths, text_of}
+use Rattle.cvss_vector.specs.Complete.{IsReadErrorBy, missing_by}
+use Rattle.cvss_vector.specs.Dispatch.{DenotesCvss}
+use Rattle.cvss_vector.specs.Reasons.{error_message}
+use Rattle.cvss_vector.specs.declared.refusal.ReadError.{ReadError}
+use Rattle.cvss_vector.specs.declared.vector.Cvss.{Cvss}
+use Rattle.cvss_vector.specs.declared.vector.Cvss.TheVariants.{CvssV20, CvssV30, CvssV31, CvssV40}
 use Rattle.cvss_base.specs.SeverityText.{text_of as severity_text}
 use Rattle.cvss_base.specs.Tenths.{tenths_text}
 use Rattle.cvss_lines.specs.Answers.{Rule, by_one_text}
 use Rattle.cvss_lines.specs.Prefixed.{IsPrefixed}
 use Rattle.cvss_score.specs.v2.Scores as scores_v2
 use Rattle.cvss_score.specs.v3.Scores as scores_v3
-use Rattle.cvss_v2.specs.Weights as weights_v2
-use Rattle.cvss_v2.specs.declared.vector.Vector as vector_v2
-use Rattle.cvss_v3.specs.VectorWeights as weights_v3
-use Rattle.cvss_v3.specs.declared.vector.Vector as vector_v3
-use Rattle.cvss_v4.specs.Nomenclature as nomenclature
+use Rattle.cvss_vector.specs.v2.Weights as weights_v2
+use Rattle.cvss_vector.specs.declared.v2.vector.Vector as vector_v2
+use Rattle.cvss_vector.specs.v3.VectorWeights as weights_v3
+use Rattle.cvss_vector.specs.declared.v3.vector.Vector as vector_v3
+use Rattle.cvss_vector.specs.v4.Nomenclature as nomenclature
 use Rattle.cvss_rows.specs.Cells.{Cell, Nothing, Words, AnyText, Number, before_cell, cell_text, closing, given_text, opening}
 use Rattle.cvss_rows.specs.declared.format.Format.{Format}
 

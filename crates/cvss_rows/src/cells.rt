@@ -1,15 +1,13 @@
 //! The fields of a row.
 
 ghost use Rattle.std.specs.Prelude.{◌≡◌, ◌≤◌, map};
-ghost use Rattle.cvss_any.specs.Answers.{HasScore, text_of};
-ghost use Rattle.cvss_any.specs.Reasons.{error_message};
+ghost use Rattle.cvss_vector.specs.Answers.{HasScore, text_of};
+ghost use Rattle.cvss_vector.specs.Reasons.{error_message};
 ghost use Rattle.cvss_rows.specs.Rows.{AreFields, AreScores, AreScoresV2, AreScoresV3, nomenclature_cell, rejected_fields, score_cell};
 ghost use Rattle.cvss_rows.specs.private.Views.{cell_view, field_view};
 
-use cvss_any::{Cvss, ReadError};
 use cvss_base::tenths;
-use cvss_v2 as v2;
-use cvss_v3 as v3;
+use cvss_vector::{Cvss, ReadError, v2, v3};
 
 /// What a cell holds.
 #[derive(Clone, Copy)]

@@ -1,14 +1,14 @@
 //! Texts of a row that may need escapes.
 
 ghost use Rattle.std.specs.Prelude.{◌≡◌, ◌++◌, ◌<◌, true, OnOk};
-ghost use Rattle.cvss_any.specs.Segments.{segment_text, text_of};
+ghost use Rattle.cvss_vector.specs.Segments.{segment_text, text_of};
 ghost use Rattle.cvss_base.specs.Text.{read_as};
 ghost use Rattle.cvss_rows.specs.declared.format.Format.TheVariants.{Json};
 ghost use Rattle.cvss_rows.specs.Cells.{escaped, escaped_byte, given_text, hex_digit, nothing, quoted};
 
 use crate::format::Format;
-use cvss_any::Segment;
 use cvss_lines::OutputBuffer;
+use cvss_vector::Segment;
 use std::alloc::AllocError;
 
 /// Writes the given text, or nothing where JSON cannot hold it.

@@ -1,7 +1,7 @@
 //! The row of a line.
 
 ghost use Rattle.std.specs.Prelude.{◌≡◌, ℕ, ◌++◌, [], ◌∷◌, map, IfOk, OnOk};
-ghost use Rattle.cvss_any.specs.Answers.{HasScore};
+ghost use Rattle.cvss_vector.specs.Answers.{HasScore};
 ghost use Rattle.cvss_lines.specs.Answers.{WritesAnswer};
 ghost use Rattle.cvss_rows.specs.Rows.{IsRow, cells_rule, cells_text};
 ghost use Rattle.cvss_rows.specs.private.Views.{WritesVectorCells, field_view};
@@ -9,8 +9,8 @@ ghost use Rattle.cvss_rows.specs.private.Views.{WritesVectorCells, field_view};
 use crate::cells::{Field, fields_of, rejected_fields};
 use crate::format::Format;
 use crate::writing::{push_closing, push_fields, push_start};
-use cvss_any::Cvss;
 use cvss_lines::{Answering, OutputBuffer};
+use cvss_vector::Cvss;
 use std::alloc::{AllocError, Global};
 
 /// Answers lines by rows: what `cvss_answer::answer_score` answers, with the scores of the groups of

@@ -8,8 +8,8 @@ ghost use Rattle.cvss_rows.specs.private.Views.{cell_view, field_view};
 use crate::cells::{Cell, Field};
 use crate::escaping::{push_given, push_segments};
 use crate::format::Format;
-use cvss_any::Message;
 use cvss_lines::OutputBuffer;
+use cvss_vector::Message;
 use std::alloc::AllocError;
 
 /// Writes what is before the fields.

@@ -5,11 +5,11 @@ use Rattle.std.proofs.Math.Bool.{or-true}
 use Rattle.std.proofs.lemmas.Bool.{and_parts, cond-true, false≢true}
 use Rattle.std.proofs.lemmas.List.Elements.{All-from_get_or}
 use Rattle.std.proofs.lemmas.List.Folds.{list_any-append}
-use Rattle.cvss_any.specs.Dispatch.{DenotesCvss, DenotesV2, DenotesV3, DenotesV4}
+use Rattle.cvss_vector.specs.Dispatch.{DenotesCvss, DenotesV2, DenotesV3, DenotesV4}
 use Rattle.cvss_base.specs.Text.{component, has, joined, read_as, slash}
 use Rattle.cvss_base.specs.Version.{AreComponentsOf, Version, numeral, read, version_piece}
-use Rattle.cvss_any.specs.declared.vector.Cvss.{Cvss}
-use Rattle.cvss_any.specs.declared.vector.Cvss.TheVariants.{CvssV20, CvssV30, CvssV31, CvssV40}
+use Rattle.cvss_vector.specs.declared.vector.Cvss.{Cvss}
+use Rattle.cvss_vector.specs.declared.vector.Cvss.TheVariants.{CvssV20, CvssV30, CvssV31, CvssV40}
 use Rattle.cvss_base.specs.Refusal.{piece_at}
 use Rattle.cvss_base.specs.declared.v2.MetricType.{MetricType as KindV2}
 use Rattle.cvss_base.specs.declared.v2.MetricType.TheVariants as kind_v2
@@ -19,16 +19,16 @@ use Rattle.cvss_base.specs.declared.v4.MetricType.{MetricType as KindV4}
 use Rattle.cvss_base.specs.declared.v4.MetricType.TheVariants as kind_v4
 use Rattle.cvss_text.proofs.ComponentLemmas.{piece_held}
 use Rattle.cvss_text.specs.private.Walk.{VersionLaws}
-use Rattle.cvss_v2.specs.Vector.{v2}
-use Rattle.cvss_v2.specs.private.VectorLaws.{v2_laws}
-use Rattle.cvss_v2.specs.declared.vector.Vector as vector_v2
-use Rattle.cvss_v3.specs.Vector.{v3}
-use Rattle.cvss_v3.specs.private.VectorLaws.{v3_laws}
-use Rattle.cvss_v3.specs.declared.vector.Vector as vector_v3
-use Rattle.cvss_v4.specs.Vector.{v4}
-use Rattle.cvss_v4.specs.private.VectorLaws.{v4_laws}
-use Rattle.cvss_v4.specs.declared.vector.Vector as vector_v4
-use Rattle.cvss_any.proofs.ReadLemmas.{only_one, v2_parts, v3_parts, v4_parts}
+use Rattle.cvss_vector.specs.v2.Vector.{v2}
+use Rattle.cvss_vector.specs.v2.private.VectorLaws.{v2_laws}
+use Rattle.cvss_vector.specs.declared.v2.vector.Vector as vector_v2
+use Rattle.cvss_vector.specs.v3.Vector.{v3}
+use Rattle.cvss_vector.specs.v3.private.VectorLaws.{v3_laws}
+use Rattle.cvss_vector.specs.declared.v3.vector.Vector as vector_v3
+use Rattle.cvss_vector.specs.v4.Vector.{v4}
+use Rattle.cvss_vector.specs.v4.private.VectorLaws.{v4_laws}
+use Rattle.cvss_vector.specs.declared.v4.vector.Vector as vector_v4
+use Rattle.cvss_vector.proofs.ReadLemmas.{only_one, v2_parts, v3_parts, v4_parts}
 use Rattle.cvss_scan.specs.Mentions.{IsAccepted, mentions_of}
 use Rattle.cvss_scan.specs.Parts.{begins_with_prefix, is_vector_byte, label_length}
 use Rattle.cvss_scan.specs.laws.Whole.{IsMentionedBetween, IsWhole}

@@ -1,8 +1,8 @@
 -- The mentions of vectors in a text of any bytes, each with its place, and which of them are found.
 use Rattle.std.specs.Prelude.{◌≡◌, ℕ, ◌+◌, ◌⊎◌, ◌&&◌, ◌||◌, Bool, true, List, [], ◌∷◌, drop, if◌then◌else◌, length, ⊤, unwrap_or}
-use Rattle.cvss_any.specs.Dispatch.{DenotesCvss}
+use Rattle.cvss_vector.specs.Dispatch.{DenotesCvss}
 use Rattle.cvss_base.specs.Text.{has, slash}
-use Rattle.cvss_any.specs.declared.vector.Cvss.{Cvss}
+use Rattle.cvss_vector.specs.declared.vector.Cvss.{Cvss}
 use Rattle.cvss_scan.specs.Parts.{begins_exactly, begins_loosely, begins_with_prefix, label_length, without_dividers, parts_of, unencoded}
 
 -- a mention, and the place of its first byte, counted from 0

@@ -1,15 +1,15 @@
 //! A match of a vector in a text.
 
 ghost use Rattle.std.specs.Prelude.{◌≡◌, ◌↔◌, ◌+◌, ◌<◌, ◌≤◌, ◌^◌, length, IfSome, IsTrue, MatchOption, Some};
-ghost use Rattle.cvss_any.specs.Answers.{HasScore};
-ghost use Rattle.cvss_any.specs.Dispatch.{DenotesCvss};
-ghost use Rattle.cvss_any.specs.declared.vector.Cvss.{Cvss};
+ghost use Rattle.cvss_vector.specs.Answers.{HasScore};
+ghost use Rattle.cvss_vector.specs.Dispatch.{DenotesCvss};
+ghost use Rattle.cvss_vector.specs.declared.vector.Cvss.{Cvss};
 ghost use Rattle.cvss_scan.specs.Mentions.{IsFound, is_meant, label_of, mention_of, without_label};
 ghost use Rattle.cvss_scan.specs.MentionsLeft.{as_placed};
 
 use crate::part::{unencoded, without_dividers};
 use crate::prefix::{begins_exactly, begins_loosely, begins_with_prefix, label_length};
-use cvss_any::Cvss;
+use cvss_vector::Cvss;
 
 /// A match of a vector in a text: bytes that are accepted as a vector, or that were meant as one.
 #[derive(Clone, Copy, Debug)]

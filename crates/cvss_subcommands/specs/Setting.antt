@@ -1,16 +1,16 @@
 -- The answers to lines whose vectors have metrics set.
 use Rattle.std.specs.Prelude.{◌≡◌, ◌⊎◌, ℕ, List, None, Option, Some}
 use Rattle.std.specs.Str.{IsUtf8}
-use Rattle.cvss_any.specs.Complete.{first_missing}
-use Rattle.cvss_any.specs.Dispatch.{DenotesCvss}
-use Rattle.cvss_any.specs.Refusals.{IsReadError, refusal_of}
-use Rattle.cvss_any.specs.Setting.{IsWith, IsWithReason}
-use Rattle.cvss_any.specs.declared.metric_type.MetricType.{MetricType}
-use Rattle.cvss_any.specs.declared.refusal.ReadError.{ReadError}
-use Rattle.cvss_any.specs.declared.refusal.ReadError.TheVariants.{Invalid}
-use Rattle.cvss_any.specs.declared.refusal.Refusal.{Refusal}
-use Rattle.cvss_any.specs.declared.refusal.Refusal.TheVariants.{Missing}
-use Rattle.cvss_any.specs.declared.vector.Cvss.{Cvss}
+use Rattle.cvss_vector.specs.Complete.{first_missing}
+use Rattle.cvss_vector.specs.Dispatch.{DenotesCvss}
+use Rattle.cvss_vector.specs.Refusals.{IsReadError, refusal_of}
+use Rattle.cvss_vector.specs.Setting.{IsWith, IsWithReason}
+use Rattle.cvss_vector.specs.declared.metric_type.MetricType.{MetricType}
+use Rattle.cvss_vector.specs.declared.refusal.ReadError.{ReadError}
+use Rattle.cvss_vector.specs.declared.refusal.ReadError.TheVariants.{Invalid}
+use Rattle.cvss_vector.specs.declared.refusal.Refusal.{Refusal}
+use Rattle.cvss_vector.specs.declared.refusal.Refusal.TheVariants.{Missing}
+use Rattle.cvss_vector.specs.declared.vector.Cvss.{Cvss}
 use Rattle.cvss_answer.specs.Answers.{vector_rule}
 use Rattle.cvss_lines.specs.Answers.{Rule}
 

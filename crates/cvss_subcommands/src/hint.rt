@@ -1,7 +1,7 @@
 //! What may help with a rejected vector that is a word of the command line.
 
-use cvss_any::{Cvss, Version};
 use cvss_program::{Source, source_of};
+use cvss_vector::{Cvss, Version};
 use std::fmt;
 
 /// What would make a rejected text a vector.

@@ -1,14 +1,14 @@
 //! What `cvss set` answers to a line.
 
 ghost use Rattle.std.specs.Prelude.{IfOk, IfErr};
-ghost use Rattle.cvss_any.specs.Answers.{HasScore};
+ghost use Rattle.cvss_vector.specs.Answers.{HasScore};
 ghost use Rattle.cvss_subcommands.specs.Setting.{IsSetError, IsSetWhole, set_rule};
 ghost use Rattle.cvss_lines.specs.Prefixed.{is_one_text};
 
 use cvss_answer::{write_error, write_vector};
-use cvss_any::{Cvss, ReadError, Refusal};
 use cvss_lines::{Answering, OutputBuffer};
 use cvss_program::LineAnswer;
+use cvss_vector::{Cvss, ReadError, Refusal};
 use std::alloc::{AllocError, Global};
 
 /// Sets metrics in the vector, and scores it. A vector of CVSS v3 that lacks base metrics then is

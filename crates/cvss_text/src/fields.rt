@@ -1,5 +1,5 @@
-//! What is done with the fields of a vector, once for all versions. The macro `each_metric` of a
-//! version calls each of these macros with the abbreviation, the field and the type of each metric.
+//! What is done with the fields of a vector, once for all versions. The macro of a version, such as
+//! `each_v2_metric`, calls each of these with the abbreviation, the field and the type of each metric.
 
 /// The metric types, in an array.
 #[macro_export]

@@ -4,7 +4,7 @@ use Rattle.std.specs.Borrow.{Bor}
 use Rattle.std.specs.Fmt.{decimal}
 use Rattle.std.specs.Global.{Vec}
 use Rattle.std.specs.Slice.{IsItemAt}
-use Rattle.cvss_any.specs.Reasons.{error_message}
+use Rattle.cvss_vector.specs.Reasons.{error_message}
 use Rattle.cvss_program.specs.Sources.{has_name, source_of}
 use Rattle.cvss_rank.specs.declared.ranking.BadLine.{BadLine}
 use Rattle.cvss_rank.specs.declared.reading.Reason.{Reason}

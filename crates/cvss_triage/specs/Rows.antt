@@ -1,6 +1,6 @@
 -- How rows are written.
 use Rattle.std.specs.Prelude.{ℕ, ℤ, List, ◌++◌, codes}
-use Rattle.cvss_any.specs.Answers.{rating_by, score_of_tenths, text_of}
+use Rattle.cvss_vector.specs.Answers.{rating_by, score_of_tenths, text_of}
 use Rattle.cvss_base.specs.SeverityText.{text_of as severity_text}
 use Rattle.cvss_base.specs.Tenths.{score_text}
 use Rattle.cvss_rank.specs.declared.row.Row.{Row}

@@ -1,14 +1,14 @@
 //! The texts that are reported on standard error.
 
 ghost use Rattle.std.specs.Prelude.{◌≡◌, ◌++◌, ◌<◌, ◌∷◌, [], All, IfOk, MatchOption, OnOk, Some, codes, option_and_then, option_map, ◌⊎◌};
-ghost use Rattle.cvss_any.specs.Reasons.{error_message};
+ghost use Rattle.cvss_vector.specs.Reasons.{error_message};
 ghost use Rattle.cvss_triage.specs.Reports.{IsPlace, ReportsBad, bad_line_text, name_text, number_text, place_text, reason_words, shown_name, unknown_text};
 
 use cvss_answer::write_error;
-use cvss_any::ReadError;
 use cvss_lines::OutputBuffer;
 use cvss_program::{has_name, source_of};
 use cvss_rank::{BadLine, Reason};
+use cvss_vector::ReadError;
 use std::alloc::{AllocError, Global};
 use std::fmt;
 

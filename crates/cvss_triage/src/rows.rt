@@ -1,13 +1,13 @@
 //! How rows are written.
 
 ghost use Rattle.std.specs.Prelude.{◌≡◌, ◌++◌, IfOk, OnOk, flat_map};
-ghost use Rattle.cvss_any.specs.Answers.{score_of_tenths, text_of};
+ghost use Rattle.cvss_vector.specs.Answers.{score_of_tenths, text_of};
 ghost use Rattle.cvss_triage.specs.Rows.{overall_text, row_text, scored_text};
 
-use cvss_any::Cvss;
 use cvss_base::{OneDecimal, TENTH};
 use cvss_lines::OutputBuffer;
 use cvss_rank::Row;
+use cvss_vector::Cvss;
 use std::alloc::{AllocError, Global};
 use std::fmt::{self, Write};
 

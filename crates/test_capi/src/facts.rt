@@ -4,13 +4,13 @@ use crate::buffers::{LEFT, print_written};
 use crate::cut;
 use crate::lists::number;
 use crate::texts::{canonical, reason};
-use cvss_any::Cvss;
 use cvss_base::v4::MOST_METRICS;
 use cvss_ffi::metrics::put_metrics;
 use cvss_ffi::numbers::{NOTHING, rating_number, version_number};
 use cvss_ffi::refusal::{kind_of, put_reported_kind};
 use cvss_ffi::scores::scores_by;
 use cvss_ffi::{CvssMetric, CvssScores, CvssScoresBy, put};
+use cvss_vector::Cvss;
 use std::io;
 
 const RATINGS: [&str; 5] = ["none", "low", "medium", "high", "critical"];

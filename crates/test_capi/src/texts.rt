@@ -3,7 +3,6 @@
 use crate::buffers::print_written;
 use crate::cut;
 use crate::lists::number;
-use cvss_any::Cvss;
 use cvss_ffi::answer::put_answer_to;
 use cvss_ffi::canonical::put_canonical_of;
 use cvss_ffi::defined::put_without_undefined;
@@ -12,6 +11,7 @@ use cvss_ffi::overriding::overridden;
 use cvss_ffi::refusal::{put_quoted, put_reason};
 use cvss_ffi::rejection::{put_new, put_why_not};
 use cvss_ffi::setting::{built, with_metrics};
+use cvss_vector::Cvss;
 use std::io;
 
 pub(crate) fn canonical(rt: &HostRuntime, text: &[u8]) -> io::Result<()> {

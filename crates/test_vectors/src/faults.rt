@@ -1,7 +1,7 @@
 //! What the error of a refused text holds.
 
-use cvss_any::Cvss;
 use cvss_base::Error;
+use cvss_vector::Cvss;
 use std::{fmt, io};
 
 /// The kind of a refusal, and the part of the text or the metric that it holds.

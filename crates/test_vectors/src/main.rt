@@ -41,9 +41,7 @@ mod values3;
 mod values4;
 mod vectors;
 
-use cvss_v2 as v2;
-use cvss_v3 as v3;
-use cvss_v4 as v4;
+use cvss_vector::{v2, v3, v4};
 use std::io;
 use std::io::{BufRead, BufReader};
 

@@ -2,7 +2,7 @@
 
 use crate::shown::print_error;
 use cvss_ranking::{Row, apply};
-use cvss_v4::Vector;
+use cvss_vector::v4::Vector;
 use std::io;
 
 /// The rows of the texts, which follow `=`, with the overrides, which follow `+`.

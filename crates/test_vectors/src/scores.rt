@@ -3,7 +3,7 @@
 use crate::numbers::rounded;
 use crate::shown::print_error;
 use crate::{v2, v3};
-use cvss_any::Cvss;
+use cvss_vector::Cvss;
 use std::io;
 
 /// The score of a vector as it is written, and all of its scores.

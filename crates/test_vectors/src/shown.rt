@@ -2,9 +2,9 @@
 
 use crate::kinds::{each_kind, each_value};
 use crate::{first_word, v2, v3, v4};
-use cvss_any::Cvss;
 use cvss_base::{Error, Severity};
 use cvss_score::v4::Nomenclature;
+use cvss_vector::Cvss;
 use std::alloc::{AllocError, Global};
 use std::{fmt, io};
 

@@ -6,13 +6,13 @@ use cvss::v2::{Metric, MetricType};
 use cvss_metric::v2::base::*;
 use cvss_metric::v2::environmental::*;
 use cvss_metric::v2::temporal::*;
-use cvss_v2::each_metric;
+use cvss_vector::each_v2_metric;
 use std::io;
 
 /// Says of the metric of a name, or of its values.
 pub(crate) fn answer(rt: &HostRuntime, name: &str, asked: Asked<'_>) -> io::Result<()> {
     match MetricType::from_str(rt.alloc(), name) {
-        Ok(kind) => each_metric!(reported_at!(rt, kind, asked)),
+        Ok(kind) => each_v2_metric!(reported_at!(rt, kind, asked)),
         Err(error) => print_error(rt, &error),
     }
 }

@@ -2,17 +2,17 @@
 
 use crate::kinds::{Asked, print_with, reported_at};
 use crate::shown::{print_error, print_value, show};
+use cvss::v3::{Metric, MetricType};
 use cvss_metric::v3::base::*;
 use cvss_metric::v3::environmental::*;
 use cvss_metric::v3::temporal::*;
-use cvss::v3::{Metric, MetricType};
-use cvss_v3::each_metric;
+use cvss_vector::each_v3_metric;
 use std::io;
 
 /// Says of the metric of a name, or of its values.
 pub(crate) fn answer(rt: &HostRuntime, name: &str, asked: Asked<'_>) -> io::Result<()> {
     match MetricType::from_str(rt.alloc(), name) {
-        Ok(kind) => each_metric!(reported_at!(rt, kind, asked)),
+        Ok(kind) => each_v3_metric!(reported_at!(rt, kind, asked)),
         Err(error) => print_error(rt, &error),
     }
 }

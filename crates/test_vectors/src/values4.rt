@@ -3,13 +3,13 @@
 use crate::kinds::{Asked, print_with, reported_at};
 use crate::shown::{print_error, show};
 use cvss::v4::metric::{Metric, MetricType, base, environmental, supplemental, threat};
-use cvss_v4::each_metric;
+use cvss_vector::each_v4_metric;
 use std::io;
 
 /// Says of the metric of a name, or of its values.
 pub(crate) fn answer(rt: &HostRuntime, name: &str, asked: Asked<'_>) -> io::Result<()> {
     match MetricType::from_str(rt.alloc(), name) {
-        Ok(kind) => each_metric!(reported_at!(rt, kind, asked)),
+        Ok(kind) => each_v4_metric!(reported_at!(rt, kind, asked)),
         Err(error) => print_error(rt, &error),
     }
 }

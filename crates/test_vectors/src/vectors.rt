@@ -2,8 +2,8 @@
 
 use crate::shown::print_error;
 use crate::{v2, v3, v4};
-use cvss_any::{Bounds, Cvss, MetricType};
 use cvss_base::Severity;
+use cvss_vector::{Bounds, Cvss, MetricType};
 use std::{fmt, io};
 
 const OTHERWISE: &str = "read_bytes says otherwise";

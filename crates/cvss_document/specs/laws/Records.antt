@@ -1,8 +1,8 @@
 -- The record of a vector as a reader of JSON sees it: FIRST's JSON schemas of CVSS v2.0, v3.0, v3.1 and v4.0.
 use Rattle.std.specs.Prelude.{◌≤◌, Option, Some, None, IfSome, option_map, option_and_then, List}
 use Rattle.std.specs.List.{filter_map}
-use Rattle.cvss_any.specs.Answers.{text_of}
-use Rattle.cvss_any.specs.declared.vector.Cvss.{Cvss}
+use Rattle.cvss_vector.specs.Answers.{text_of}
+use Rattle.cvss_vector.specs.declared.vector.Cvss.{Cvss}
 use Rattle.serde_json.specs.Data.{Data, string}
 use Rattle.cvss_document.specs.Scores.{score_value}
 use Rattle.cvss_json_record.specs.Fields.{fields_of, name_of}

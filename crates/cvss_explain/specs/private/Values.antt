@@ -3,8 +3,8 @@ use Rattle.std.specs.Prelude.{ℕ, ◌+◌, List, length, Option, Some, option_m
 use Rattle.std.specs.Borrow.{Bor}
 use Rattle.std.specs.Fmt.{decimal}
 use Rattle.std.specs.List.{filter_map}
-use Rattle.cvss_any.specs.Answers.{rating_by, score_of_tenths, text_of}
-use Rattle.cvss_any.specs.declared.vector.Cvss.{Cvss}
+use Rattle.cvss_vector.specs.Answers.{rating_by, score_of_tenths, text_of}
+use Rattle.cvss_vector.specs.declared.vector.Cvss.{Cvss}
 use Rattle.cvss_base.specs.SeverityText.{text_of as severity_text}
 use Rattle.cvss_explain.specs.LettersV4.{effective_members}
 use Rattle.cvss_explain.specs.V2 as v2
@@ -16,7 +16,7 @@ use Rattle.cvss_json_record.specs.Versions.{version_of}
 use Rattle.cvss_json_write.specs.Json.{Member, object_text, string_text}
 use Rattle.cvss_json_write.specs.Scalars.{member_view, scalar_room, scalar_text}
 use Rattle.cvss_json_write.specs.declared.member.Scalar as scalar
-use Rattle.cvss_v3.specs.VectorWeights.{weights_of}
+use Rattle.cvss_vector.specs.v3.VectorWeights.{weights_of}
 
 -- the members of an object of scalars
 abbrev pub members_view : List (Bor (List ℕ) × scalar.Scalar) → List Member

@@ -4,10 +4,10 @@ ghost use Rattle.std.specs.Prelude.{ℤ};
 ghost use Rattle.cvss_base.specs.Exact.{of_count, tenths, thousandths, ◌≈◌, IsWithinLimit};
 ghost use Rattle.cvss_base.specs.Tenths.{IsInTenths};
 ghost use Rattle.cvss_score.specs.v2.Scores.{impact, adjusted_impact, exploitability, f, base_number, temporal_number, environmental_number, IsBase, IsTemporal};
-ghost use Rattle.cvss_v2.specs.Weights.{weights_of};
+ghost use Rattle.cvss_vector.specs.v2.Weights.{weights_of};
 
 use cvss_score::v2::score::of_tenths;
-use cvss_v2::{Score, Vector};
+use cvss_vector::v2::{Score, Vector};
 
 /// A thousandth, in counts of 10^-24.
 const THOUSANDTH: i128 = 1_000_000_000_000_000_000_000;

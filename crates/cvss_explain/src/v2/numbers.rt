@@ -5,12 +5,12 @@ ghost use Rattle.cvss_explain.specs.Near.{AreNearest, count_of};
 ghost use Rattle.cvss_explain.specs.NumbersV2.{AreBaseNumbers, AreEnvironmentalNumbers, AreTemporalNumbers};
 ghost use Rattle.cvss_base.specs.Exact.{IsWithinLimit};
 ghost use Rattle.cvss_base.specs.Tenths.{IsFromZeroToTen, IsInTenths};
-ghost use Rattle.cvss_v2.specs.Weights.{weights_of};
+ghost use Rattle.cvss_vector.specs.v2.Weights.{weights_of};
 
 use crate::decimal::ten_millionths;
 use crate::v2::counts;
 use cvss_base::tenths::tenths_of;
-use cvss_v2::{Score, Vector};
+use cvss_vector::v2::{Score, Vector};
 
 /// The numbers of the base score in ten millionths, and the score in tenths.
 #[derive(Clone, Copy)]

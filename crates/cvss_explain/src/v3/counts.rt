@@ -5,11 +5,11 @@ ghost use Rattle.cvss_base.specs.Exact.{of_count, ◌≈◌, IsWithinLimit};
 ghost use Rattle.cvss_base.specs.Tenths.{IsInTenths, IsFromZeroToTen};
 ghost use Rattle.cvss_score.specs.v3.Closeness.{IsCloseTo};
 ghost use Rattle.cvss_score.specs.v3.Scores.{impact, miss, modified_impact, modified_exploitability, base_number, environmental_number, temporal_number, IsRounded, IsBase};
-ghost use Rattle.cvss_v3.specs.VectorWeights.{weights_of};
+ghost use Rattle.cvss_vector.specs.v3.VectorWeights.{weights_of};
 
 use cvss_score::v3::Exponent;
 use cvss_score::v3::score::of_tenths;
-use cvss_v3::{Score, Vector};
+use cvss_vector::v3::{Score, Vector};
 
 /// 10^-7 and 10^-13 in counts of 10^-24.
 const SEVENTH: i128 = 100_000_000_000_000_000;

@@ -5,12 +5,12 @@ ghost use Rattle.cvss_explain.specs.Near.{AreNearest, count_of};
 ghost use Rattle.cvss_explain.specs.NumbersV3.{AreBaseNumbers, AreEnvironmentalNumbers, AreTemporalNumbers};
 ghost use Rattle.cvss_base.specs.Exact.{IsWithinLimit};
 ghost use Rattle.cvss_base.specs.Tenths.{IsFromZeroToTen, IsInTenths};
-ghost use Rattle.cvss_v3.specs.VectorWeights.{weights_of};
+ghost use Rattle.cvss_vector.specs.v3.VectorWeights.{weights_of};
 
 use crate::decimal::ten_millionths;
 use crate::v3::counts;
 use cvss_base::tenths::tenths_of;
-use cvss_v3::{Score, Vector};
+use cvss_vector::v3::{Score, Vector};
 
 /// A number in ten millionths, and the score in tenths that it is rounded to.
 #[derive(Clone, Copy)]

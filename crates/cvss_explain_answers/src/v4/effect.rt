@@ -8,7 +8,7 @@ use cvss_base::v4::MetricType;
 use cvss_json_record::spelled;
 use cvss_json_write::Page;
 use cvss_score::v4::scoring::classes::MacroVector;
-use cvss_v4::Vector;
+use cvss_vector::v4::Vector;
 
 /// Writes the levels that a metric counts in; no supplemental metric counts.
 pub(super) fn put_levels(class: &MacroVector, kind: MetricType, page: &mut Page)

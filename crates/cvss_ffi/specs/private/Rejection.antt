@@ -1,11 +1,11 @@
 -- Why there is no new vector.
 use Rattle.std.specs.Prelude.{ℕ, List, ◌++◌, Result, Ok, Err}
-use Rattle.cvss_any.specs.Reasons.{error_message}
-use Rattle.cvss_any.specs.Refusals.{refusal_of}
+use Rattle.cvss_vector.specs.Reasons.{error_message}
+use Rattle.cvss_vector.specs.Refusals.{refusal_of}
 use Rattle.cvss_ffi.specs.Overriding.{no_v4_text, objection_text, override_words}
 use Rattle.cvss_ffi.specs.Setting.{no_version_text, set_reason_text}
-use Rattle.cvss_any.specs.declared.vector.Cvss.{Cvss}
-use Rattle.cvss_v4.specs.private.OverridingSteps.{objection_of}
+use Rattle.cvss_vector.specs.declared.vector.Cvss.{Cvss}
+use Rattle.cvss_vector.specs.v4.private.OverridingSteps.{objection_of}
 use Rattle.cvss_ffi.specs.declared.rejection.Rejection.{Rejection}
 use Rattle.cvss_ffi.specs.declared.rejection.Rejection.TheVariants.{Text, NoVersion, OtherVersion, Metrics, Override}
 

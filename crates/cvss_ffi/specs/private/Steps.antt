@@ -1,7 +1,7 @@
 -- Words of the private code: what is read of a text, and texts that are written one after another.
 use Rattle.std.specs.Prelude.{◌≡◌, ℕ, ◌+◌, ◌<◌, ◌≤◌, List, [], ◌++◌, drop, length, take}
-use Rattle.cvss_any.specs.Reasons.{IsReason, error_message, said_of}
-use Rattle.cvss_any.specs.declared.refusal.ReadError.{ReadError}
+use Rattle.cvss_vector.specs.Reasons.{IsReason, error_message, said_of}
+use Rattle.cvss_vector.specs.declared.refusal.ReadError.{ReadError}
 use Rattle.cvss_ffi.specs.Answers.{IsRefused}
 use Rattle.cvss_ffi.specs.Refusals.{IsKind, IsQuoted, IsReportedKind, kind_number, not_utf8, quoted_part, reported_name}
 

@@ -5,18 +5,18 @@ use Rattle.std.proofs.lemmas.List.{length-append}
 use Rattle.cvss_base.specs.Version.{numeral, components_of, version_piece}
 use Rattle.cvss_base.specs.Text.{slash, joined}
 use Rattle.cvss_text.proofs.CanonicalLemmas.{canonical_text-denotes}
-use Rattle.cvss_v2.specs.Vector.{v2}
-use Rattle.cvss_v2.specs.private.VectorLaws.{v2_laws}
-use Rattle.cvss_v3.specs.Vector.{v3}
-use Rattle.cvss_v3.specs.private.VectorLaws.{v3_laws}
-use Rattle.cvss_v3.specs.declared.vector.Vector.{Vector}
-use Rattle.cvss_v4.specs.Vector.{v4}
-use Rattle.cvss_v4.specs.private.VectorLaws.{v4_laws}
-use Rattle.cvss_any.specs.Answers.{text_of}
-use Rattle.cvss_any.specs.Dispatch.{DenotesCvss, DenotesV3}
+use Rattle.cvss_vector.specs.v2.Vector.{v2}
+use Rattle.cvss_vector.specs.v2.private.VectorLaws.{v2_laws}
+use Rattle.cvss_vector.specs.v3.Vector.{v3}
+use Rattle.cvss_vector.specs.v3.private.VectorLaws.{v3_laws}
+use Rattle.cvss_vector.specs.declared.v3.vector.Vector.{Vector}
+use Rattle.cvss_vector.specs.v4.Vector.{v4}
+use Rattle.cvss_vector.specs.v4.private.VectorLaws.{v4_laws}
+use Rattle.cvss_vector.specs.Answers.{text_of}
+use Rattle.cvss_vector.specs.Dispatch.{DenotesCvss, DenotesV3}
 use Rattle.cvss_laws.specs.any.GivenBack.{IsGivenBack, HasVersionAndMetric}
-use Rattle.cvss_any.specs.declared.vector.Cvss.{Cvss}
-use Rattle.cvss_any.specs.declared.vector.Cvss.TheVariants.{CvssV20, CvssV30, CvssV31, CvssV40}
+use Rattle.cvss_vector.specs.declared.vector.Cvss.{Cvss}
+use Rattle.cvss_vector.specs.declared.vector.Cvss.TheVariants.{CvssV20, CvssV30, CvssV31, CvssV40}
 
 -- a version piece with more after it is longer than it is alone
 longer : (piece : List ℕ) (parts : List (List ℕ)) → parts ≢ [] → joined (piece ∷ parts) ≡ piece → ⊥

@@ -12,8 +12,8 @@ use Rattle.cvss_base.specs.Rounding.{IsNearestAway, IsRoundedV2}
 use Rattle.cvss_base.proofs.RoundingLemmas.{nearest_of, nearest_tenths, nearest_is, v2_tenths, v2_is}
 use Rattle.cvss_base.specs.declared.v2.MetricType.TheVariants.{A, C, I, E, RL, RC, CDP, TD, CR, IR, AR}
 use Rattle.cvss_score.specs.v2.Scores.{impact_of, impact, adjusted_impact, exploitability, base_number, temporal_number, environmental_number}
-use Rattle.cvss_v2.specs.declared.vector.Vector.{Vector}
-use Rattle.cvss_v2.specs.Weights.{weights_of}
+use Rattle.cvss_vector.specs.declared.v2.vector.Vector.{Vector}
+use Rattle.cvss_vector.specs.v2.Weights.{weights_of}
 use Rattle.cvss_base.proofs.TestLemmas.{passes, passes_two, passes_three, all_below, below_passes}
 use Rattle.cvss_laws.proofs.v2.TableLemmas.{weights, weight_listed, weighted_impacts, weighted_listed, exploitabilities, exploitability_listed}
 

@@ -5,9 +5,9 @@ use Rattle.std.proofs.Common.{◌≡◌, ◌^◌, ℤ, pos, ◌*ℤ◌, ap, ◌�
 use Rattle.cvss_base.specs.Rounding.{IsNearestAway, IsRoundedV2}
 use Rattle.cvss_base.specs.laws.Rounding.{IsOneCount}
 use Rattle.cvss_base.proofs.RoundingLemmas.{v2-unique, nearest_away-unique, v2_tenths, v2_is, nearest_tenths, nearest_is}
-use Rattle.cvss_v2.specs.declared.vector.Vector.{Vector}
+use Rattle.cvss_vector.specs.declared.v2.vector.Vector.{Vector}
 use Rattle.cvss_score.specs.v2.Scores.{impact, adjusted_impact, exploitability, base_number, IsPublished, IsBaseBy, IsTemporalBy, IsEnvironmentalBy, IsBaseScore, IsTemporalScore, IsEnvironmentalScore, IsBaseScoreBy, IsTemporalScoreBy, IsEnvironmentalScoreBy}
-use Rattle.cvss_v2.specs.Weights.{weights_of}
+use Rattle.cvss_vector.specs.v2.Weights.{weights_of}
 use Rattle.cvss_laws.proofs.v2.ComputedLemmas.{above_least, place, base_is_alike, adjusted_base_is_alike, temporal_from, temporal_is_alike, environmental_from, environmental_is_alike}
 use Rattle.cvss_score.proofs.v2_lemmas.UniqueLemmas.{base_once, temporal_once, environmental_once}
 

@@ -4,10 +4,10 @@ use Rattle.std.specs.List.{dedup, Contains}
 use Rattle.std.proofs.Common.{◌≡◌, ℕ, ◌*◌, List, [], ◌∷◌, ◌++◌, map, true, eqb, Option, refl, rules}
 use Rattle.cvss_base.specs.declared.v2.MetricType.{MetricType}
 use Rattle.cvss_base.specs.declared.v2.MetricType.TheVariants.{A, AC, AV, Au, C, CR}
-use Rattle.cvss_v2.specs.declared.vector.Vector.{Vector}
+use Rattle.cvss_vector.specs.declared.v2.vector.Vector.{Vector}
 use Rattle.cvss_metric.specs.v2.Table.{Value, rows_of, weight_of, absent_weight}
-use Rattle.cvss_v2.specs.Vector.{value_at}
-use Rattle.cvss_v2.specs.Weights.{weight_in}
+use Rattle.cvss_vector.specs.v2.Vector.{value_at}
+use Rattle.cvss_vector.specs.v2.Weights.{weight_in}
 use Rattle.cvss_base.proofs.TestLemmas.{passes_two, passes_three, is_listed, listed_if}
 
 -- the weights of a metric, that of an absent one included

@@ -3,11 +3,11 @@ use Rattle.std.specs.Prelude.{codes, option_map, unwrap_or, IfSome}
 use Rattle.std.proofs.Common.{◌≡◌, inl, inr, Option, Some, None, refl, rules, sym, ap, ◌∙◌}
 use Rattle.cvss_base.specs.declared.v2.MetricType.{MetricType}
 use Rattle.cvss_base.specs.declared.v2.MetricType.TheVariants.{A}
-use Rattle.cvss_v2.specs.declared.vector.Vector.{Vector}
+use Rattle.cvss_vector.specs.declared.v2.vector.Vector.{Vector}
 use Rattle.cvss_laws.specs.v2.NotDefined.{DefineTheSame}
 use Rattle.cvss_metric.specs.v2.Table.{Value, spelling_of, weight_of, absent_weight}
-use Rattle.cvss_v2.specs.Vector.{value_at}
-use Rattle.cvss_v2.specs.Weights.{weight_in, weights_by, weights_of}
+use Rattle.cvss_vector.specs.v2.Vector.{value_at}
+use Rattle.cvss_vector.specs.v2.Weights.{weight_in, weights_by, weights_of}
 
 -- a value that is spelled ND weighs as its absent metric
 not_defined_weight : (kind : MetricType) (value : Value kind) → spelling_of kind value ≡ codes "ND" → weight_of kind value ≡ absent_weight kind

@@ -16,9 +16,9 @@ use Rattle.cvss_score.proofs.v3_lemmas.EqualLemmas.{rounds_equal}
 use Rattle.cvss_score.proofs.v3_lemmas.NumberLemmas.{number_of, bottom, own_bottom, equal, settled, own_rounded, none_equal}
 use Rattle.cvss_score.proofs.v3_lemmas.RoundLemmas.{between_jumps, rounded_v31}
 use Rattle.cvss_laws.specs.v3.FifthDecimals.{IsSameWhenCut}
-use Rattle.cvss_v3.specs.VectorWeights.{weights_of}
-use Rattle.cvss_v3.specs.declared.vector.Vector.{Vector}
-use Rattle.cvss_v3.proofs.TableLemmas.{weights_listed}
+use Rattle.cvss_vector.specs.v3.VectorWeights.{weights_of}
+use Rattle.cvss_vector.specs.declared.v3.vector.Vector.{Vector}
+use Rattle.cvss_vector.proofs.v3.TableLemmas.{weights_listed}
 
 -- a number that lies a fifth decimal or more above the tenth before its rounding has the same rounding when it is cut
 cut_is : (n : Exact) (s : ℤ) → 0 < n.bottom → whole 0 ⊑ n → tenths (s -ℤ pos 1) ⊕ 1 over 100_000 ⊑ n

@@ -14,10 +14,10 @@ use Rattle.cvss_metric.specs.declared.v3.environmental.requirement.IntegrityRequ
 use Rattle.cvss_metric.specs.declared.v3.environmental.requirement.AvailabilityRequirement.TheVariants as availability_requirement
 use Rattle.cvss_metric.specs.declared.v3.environmental.modified.Modified.TheVariants.{NotDefined}
 use Rattle.cvss_metric.specs.declared.v3.environmental.modified.ModifiedScope.TheVariants as modified_scope
-use Rattle.cvss_v3.specs.declared.vector.Vector.{Vector}
+use Rattle.cvss_vector.specs.declared.v3.vector.Vector.{Vector}
 use Rattle.cvss_laws.specs.v3.ScoreLaws.{DefineTheSame}
-use Rattle.cvss_v3.specs.Vector.{value_at}
-use Rattle.cvss_v3.specs.VectorWeights.{weights_of}
+use Rattle.cvss_vector.specs.v3.Vector.{value_at}
+use Rattle.cvss_vector.specs.v3.VectorWeights.{weights_of}
 use Rattle.cvss_score.specs.v3.Weighing.{weight_at, privileges_weight, effective, effective_scope, is_changed}
 
 -- whether the metric has the value X

@@ -14,9 +14,9 @@ use Rattle.cvss_score.proofs.v3_lemmas.LawLemmas.{base_once}
 use Rattle.cvss_score.proofs.v3_lemmas.NumberLemmas.{number_of, own_bottom, equal, settled, none_equal}
 use Rattle.cvss_score.proofs.v3_lemmas.RoundLemmas.{between_jumps}
 use Rattle.cvss_score.proofs.v3_lemmas.SubScoreLemmas.{weight_bound}
-use Rattle.cvss_v3.specs.VectorWeights.{weights_of}
-use Rattle.cvss_v3.specs.declared.vector.Vector.{Vector}
-use Rattle.cvss_v3.proofs.TableLemmas.{weights_listed}
+use Rattle.cvss_vector.specs.v3.VectorWeights.{weights_of}
+use Rattle.cvss_vector.specs.declared.v3.vector.Vector.{Vector}
+use Rattle.cvss_vector.proofs.v3.TableLemmas.{weights_listed}
 
 -- a greater number has no smaller rounding
 ordered : (minor : ℕ) (x y : Exact) (r s : ℤ) → 0 < x.bottom → 0 < y.bottom → x ⊑ y → IsRounded minor x r → IsRounded minor y s → r ≤ℤ s

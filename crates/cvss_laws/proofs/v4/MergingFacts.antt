@@ -5,9 +5,9 @@ use Rattle.cvss_base.specs.declared.v4.MetricType.{MetricType}
 use Rattle.cvss_base.specs.declared.v4.MetricType.TheVariants.{AV, MAV}
 use Rattle.cvss_metric.specs.declared.v4.base.attack.AttackVector.TheVariants as attack_vector
 use Rattle.cvss_metric.specs.declared.v4.environmental.attack.ModifiedAttackVector.TheVariants as modified_attack_vector
-use Rattle.cvss_v4.specs.Merging.{letter_at}
+use Rattle.cvss_vector.specs.v4.Merging.{letter_at}
 use Rattle.cvss_laws.specs.v4.MergingLaws.{IsWrittenAsBase, IsKept, HasModifiedAsBase}
-use Rattle.cvss_v4.specs.declared.vector.Vector.{Vector}
+use Rattle.cvss_vector.specs.declared.v4.vector.Vector.{Vector}
 
 -- the vector with AV:L and without MAV
 abbrev local : Vector → Vector

@@ -3,9 +3,9 @@ use Rattle.cvss_base.specs.V4Types.{name_of}
 use Rattle.cvss_base.specs.declared.v4.MetricType.{MetricType}
 use Rattle.cvss_base.specs.declared.v4.MetricType.TheVariants.{AC, AT, AV, PR, SA, SC, SI, UI, VA, VC, VI, E, AR, CR, IR, MAC, MAT, MAV, MPR, MSA, MSC, MSI, MUI, MVA, MVC, MVI}
 use Rattle.cvss_score.specs.v4.Effective.{meaning, attack_vectors, privileges, user_interactions, attack_complexities, all_attack_requirements, vulnerable_impacts, subsequent_impacts, safety_impacts, requirements, exploit_maturities}
-use Rattle.cvss_v4.specs.Merging.{letter_at, replaced, merged, effective_of}
+use Rattle.cvss_vector.specs.v4.Merging.{letter_at, replaced, merged, effective_of}
 use Rattle.cvss_laws.specs.v4.MergingLaws.{IsWrittenAsBase, IsKept, HasModifiedAsBase}
-use Rattle.cvss_v4.specs.declared.vector.Vector.{Vector}
+use Rattle.cvss_vector.specs.declared.v4.vector.Vector.{Vector}
 
 -- the vectors have the same letters, each base metric's taken together with its modified metric's
 record AreMergedAlike (v w : Vector) : Type 0 where

@@ -1,12 +1,12 @@
 -- When a vector of any version is given back by its own text.
 use Rattle.std.specs.Prelude.{◌≡◌, ◌≢◌, ℕ, []}
 use Rattle.cvss_base.specs.Version.{components_of, IsComplete, IsWellFormed}
-use Rattle.cvss_v2.specs.Vector.{v2}
-use Rattle.cvss_v3.specs.Vector.{v3}
-use Rattle.cvss_v3.specs.declared.vector.Vector.{Vector}
-use Rattle.cvss_v4.specs.Vector.{v4}
-use Rattle.cvss_any.specs.declared.vector.Cvss.{Cvss}
-use Rattle.cvss_any.specs.declared.vector.Cvss.TheVariants.{CvssV20, CvssV30, CvssV31, CvssV40}
+use Rattle.cvss_vector.specs.v2.Vector.{v2}
+use Rattle.cvss_vector.specs.v3.Vector.{v3}
+use Rattle.cvss_vector.specs.declared.v3.vector.Vector.{Vector}
+use Rattle.cvss_vector.specs.v4.Vector.{v4}
+use Rattle.cvss_vector.specs.declared.vector.Cvss.{Cvss}
+use Rattle.cvss_vector.specs.declared.vector.Cvss.TheVariants.{CvssV20, CvssV30, CvssV31, CvssV40}
 
 -- the vector has this minor version, and a metric at all
 pub record HasVersionAndMetric (minor : ℕ) (vector : Vector) : Type 0 where

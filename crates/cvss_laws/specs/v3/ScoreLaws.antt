@@ -3,8 +3,8 @@
 use Rattle.std.specs.Prelude.{◌≡◌, ◌⊎◌, IfSome, None, codes}
 use Rattle.cvss_base.specs.declared.v3.MetricType.{MetricType}
 use Rattle.cvss_metric.specs.v3.Table.{spelling_of}
-use Rattle.cvss_v3.specs.declared.vector.Vector.{Vector}
-use Rattle.cvss_v3.specs.Vector.{value_at}
+use Rattle.cvss_vector.specs.declared.v3.vector.Vector.{Vector}
+use Rattle.cvss_vector.specs.v3.Vector.{value_at}
 use Rattle.cvss_score.specs.v3.Weighing.{effective, effective_scope}
 
 -- the vector has no value for the metric, or the value X

@@ -4,9 +4,9 @@ use Rattle.cvss_base.specs.V4Types.{name_of, group_of}
 use Rattle.cvss_base.specs.declared.group.MetricGroup.TheVariants.{Supplemental}
 use Rattle.cvss_base.specs.declared.v4.MetricType.{MetricType}
 use Rattle.cvss_base.specs.declared.v4.MetricType.TheVariants.{E, AR, CR, IR}
-use Rattle.cvss_v4.specs.Merging.{letter_at, merged}
-use Rattle.cvss_v4.specs.Table.{value_at}
-use Rattle.cvss_v4.specs.declared.vector.Vector.{Vector}
+use Rattle.cvss_vector.specs.v4.Merging.{letter_at, merged}
+use Rattle.cvss_vector.specs.v4.Table.{value_at}
+use Rattle.cvss_vector.specs.declared.v4.vector.Vector.{Vector}
 
 -- the second vector has no such modified metric, and in the base metric the letter of the first's two together
 pub record IsWrittenAsBase (v w : Vector) (modified base : MetricType) : Type 0 where

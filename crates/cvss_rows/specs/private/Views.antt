@@ -1,8 +1,8 @@
 -- Cells and fields of the code, as their definitions have them.
 use Rattle.std.specs.Prelude.{◌≡◌, ℕ, List, [], ◌∷◌, ◌++◌}
 use Rattle.std.specs.Borrow.{Bor}
-use Rattle.cvss_any.specs.Reasons.{error_message}
-use Rattle.cvss_any.specs.declared.vector.Cvss.{Cvss}
+use Rattle.cvss_vector.specs.Reasons.{error_message}
+use Rattle.cvss_vector.specs.declared.vector.Cvss.{Cvss}
 use Rattle.cvss_rows.specs.Cells as spec
 use Rattle.cvss_rows.specs.Rows.{AreFields, Fields, cells_text}
 use Rattle.cvss_rows.specs.declared.format.Format.{Format}

@@ -1,6 +1,6 @@
 use Rattle.std.proofs.Common.{◌-◌, refl, sym, ap, arith}
 use Rattle.std.specs.Fmt.{digits}
-use Rattle.cvss_any.specs.declared.published.Bounds.TheVariants.{OfV2}
+use Rattle.cvss_vector.specs.declared.published.Bounds.TheVariants.{OfV2}
 use Rattle.cvss_answer.specs.Answers.{rated_line}
 use Rattle.cvss_answer.proofs.ScoringLemmas.{index-now, line_reported}
 use Rattle.cvss_answer.proofs.score_line.line_of_v2.Goals as goal

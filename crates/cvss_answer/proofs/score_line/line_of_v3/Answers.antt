@@ -1,6 +1,6 @@
 use Rattle.std.proofs.Common.{refl, arith}
 use Rattle.std.specs.Fmt.{digits}
-use Rattle.cvss_any.specs.declared.published.Bounds.TheVariants.{SinceV3}
+use Rattle.cvss_vector.specs.declared.published.Bounds.TheVariants.{SinceV3}
 use Rattle.cvss_answer.proofs.ScoringLemmas.{index-now, line_reported}
 use Rattle.cvss_answer.proofs.score_line.line_of_v3.Goals as goal
 

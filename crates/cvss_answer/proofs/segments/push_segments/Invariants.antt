@@ -1,5 +1,5 @@
 use Rattle.std.proofs.Common.{◌≡◌, ◌++◌, take}
-use Rattle.cvss_any.specs.Segments.{text_of}
+use Rattle.cvss_vector.specs.Segments.{text_of}
 use Rattle.cvss_answer.proofs.segments.push_segments.Given as goal
 
 abbrev pub invariant-loop-segment : goal.invariant-loop-segment

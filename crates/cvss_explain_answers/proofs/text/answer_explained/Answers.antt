@@ -1,5 +1,5 @@
 use Rattle.std.proofs.Common.{◌++◌, codes, refl}
-use Rattle.cvss_any.specs.Reasons.{error_message}
+use Rattle.cvss_vector.specs.Reasons.{error_message}
 use Rattle.cvss_lines.specs.Answers.{written_text}
 use Rattle.cvss_lines.proofs.TextsLemmas.{accepted_by, refused_by}
 use Rattle.cvss_explain_answers.proofs.PartLemmas.{closed}

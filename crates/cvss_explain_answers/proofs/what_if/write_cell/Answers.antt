@@ -1,6 +1,6 @@
 use Rattle.std.proofs.Common.{MatchOption, [], append-nil, inr, refl, subst, sym}
-use Rattle.cvss_any.specs.Setting.{IsWith}
-use Rattle.cvss_any.specs.declared.vector.Cvss.{Cvss}
+use Rattle.cvss_vector.specs.Setting.{IsWith}
+use Rattle.cvss_vector.specs.declared.vector.Cvss.{Cvss}
 use Rattle.cvss_base.specs.Text.{component}
 use Rattle.cvss_explain_answers.specs.WhatIf.{IsScored}
 use Rattle.cvss_explain_answers.proofs.what_if.write_cell.Goals as goal

@@ -1,5 +1,5 @@
 use Rattle.std.proofs.Common.{◌++◌, codes, inr, refl}
-use Rattle.cvss_any.specs.Reasons.{error_message}
+use Rattle.cvss_vector.specs.Reasons.{error_message}
 use Rattle.cvss_ffi.proofs.LengthLemmas.{length_denoted_cvss}
 use Rattle.cvss_ffi.proofs.answer.write_answer.Goals as goal
 

@@ -3,7 +3,7 @@ use Rattle.std.proofs.Math.Seq.{drop-append_seam}
 use Rattle.std.proofs.lemmas.Bool.{le-leb, lt-leb}
 use Rattle.std.proofs.lemmas.Fmt.{decimal_digit, length-decimal-le}
 use Rattle.std.proofs.lemmas.List.{length-take-le}
-use Rattle.cvss_any.specs.Answers.{rating_by, score_of_tenths, vector_answer}
+use Rattle.cvss_vector.specs.Answers.{rating_by, score_of_tenths, vector_answer}
 use Rattle.cvss_base.specs.Tenths.{tenths_text}
 use Rattle.cvss_explain.proofs.ShortLemmas.{severity_short}
 use Rattle.cvss_ffi.specs.Buffer.{IsWritten}

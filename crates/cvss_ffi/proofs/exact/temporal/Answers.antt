@@ -3,7 +3,7 @@ use Rattle.std.proofs.lemmas.Int.{to_z-of_z}
 use mir.Syntax.{w32}
 use Rattle.cvss_base.specs.Exact.{of_count}
 use Rattle.cvss_score.specs.v2.Scores.{IsTemporal}
-use Rattle.cvss_v2.specs.Weights.{weights_of}
+use Rattle.cvss_vector.specs.v2.Weights.{weights_of}
 use Rattle.cvss_ffi.specs.Exact.{exact_of}
 use Rattle.cvss_ffi.proofs.exact.temporal.Goals as goal
 

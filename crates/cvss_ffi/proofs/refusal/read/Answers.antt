@@ -1,11 +1,11 @@
 use Rattle.std.proofs.Common.{◌≡◌, ℕ, List, [], Ok, Err, IfErr}
 use Rattle.std.specs.Prelude.{Result}
-use Rattle.cvss_any.proofs.ErrorLemmas.{said_of_bytes}
-use Rattle.cvss_any.specs.Dispatch.{DenotesCvss}
-use Rattle.cvss_any.specs.Reasons.{not_utf8_text, reason_text}
-use Rattle.cvss_any.specs.Refusals.{IsReadError}
-use Rattle.cvss_any.specs.declared.refusal.ReadError.{ReadError}
-use Rattle.cvss_any.specs.declared.vector.Cvss.{Cvss}
+use Rattle.cvss_vector.proofs.ErrorLemmas.{said_of_bytes}
+use Rattle.cvss_vector.specs.Dispatch.{DenotesCvss}
+use Rattle.cvss_vector.specs.Reasons.{not_utf8_text, reason_text}
+use Rattle.cvss_vector.specs.Refusals.{IsReadError}
+use Rattle.cvss_vector.specs.declared.refusal.ReadError.{ReadError}
+use Rattle.cvss_vector.specs.declared.vector.Cvss.{Cvss}
 use Rattle.cvss_ffi.specs.Refusals.{kind_number, not_utf8, quoted_part, reported_name}
 use Rattle.cvss_ffi.specs.private.Steps.{IsRefusedBy}
 use Rattle.cvss_ffi.proofs.refusal.read.Goals as goal

@@ -1,7 +1,7 @@
 use Rattle.std.proofs.Common.{arith, ap, length}
 use Rattle.std.proofs.lemmas.Grind.{common_steps}
-use Rattle.cvss_v3.specs.Vector.{v3}
-use Rattle.cvss_v4.specs.Vector.{v4}
+use Rattle.cvss_vector.specs.v3.Vector.{v3}
+use Rattle.cvss_vector.specs.v4.Vector.{v4}
 use Rattle.cvss_json_record.proofs.ShortLemmas.{fits, short_v3, short_v4, text_short}
 use Rattle.cvss_json_record.proofs.text.put_vector.Goals as goal
 

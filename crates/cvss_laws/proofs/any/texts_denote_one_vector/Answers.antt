@@ -1,4 +1,4 @@
-use Rattle.cvss_any.proofs.ReadLemmas.{one_vector}
+use Rattle.cvss_vector.proofs.ReadLemmas.{one_vector}
 use Rattle.cvss_laws.proofs.any.GivenBackLemmas.{own_text}
 use Rattle.cvss_laws.proofs.any.texts_denote_one_vector.Goals as goal
 

@@ -1,10 +1,10 @@
-use Rattle.cvss_v2.specs.Vector.{v2}
-use Rattle.cvss_v2.specs.private.VectorLaws.{v2_laws}
-use Rattle.cvss_v3.specs.Vector.{v3}
-use Rattle.cvss_v3.specs.private.VectorLaws.{v3_laws}
-use Rattle.cvss_v4.specs.Vector.{v4}
-use Rattle.cvss_v4.specs.private.VectorLaws.{v4_laws}
-use Rattle.cvss_any.proofs.ReadLemmas.{one_refusal as one_refusal_of_any}
+use Rattle.cvss_vector.specs.v2.Vector.{v2}
+use Rattle.cvss_vector.specs.v2.private.VectorLaws.{v2_laws}
+use Rattle.cvss_vector.specs.v3.Vector.{v3}
+use Rattle.cvss_vector.specs.v3.private.VectorLaws.{v3_laws}
+use Rattle.cvss_vector.specs.v4.Vector.{v4}
+use Rattle.cvss_vector.specs.v4.private.VectorLaws.{v4_laws}
+use Rattle.cvss_vector.proofs.ReadLemmas.{one_refusal as one_refusal_of_any}
 use Rattle.cvss_text.proofs.RefusalLemmas.{one_refusal, one_refusal_after}
 use Rattle.cvss_laws.proofs.any.texts_have_one_first_refusal.Goals as goal
 

@@ -1,7 +1,7 @@
 use Rattle.std.proofs.Common.{refl}
 use Rattle.cvss_text.proofs.CanonicalLemmas.{canonical_text-denotes, denoted_once}
-use Rattle.cvss_v2.specs.Vector.{v2}
-use Rattle.cvss_v2.specs.private.VectorLaws.{v2_laws}
+use Rattle.cvss_vector.specs.v2.Vector.{v2}
+use Rattle.cvss_vector.specs.v2.private.VectorLaws.{v2_laws}
 use Rattle.cvss_laws.proofs.v2.texts_denote_one_vector.Goals as goal
 
 pub returns : goal.returns

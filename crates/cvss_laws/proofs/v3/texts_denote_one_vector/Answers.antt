@@ -1,7 +1,7 @@
 use Rattle.cvss_text.proofs.CanonicalLemmas.{canonical_text-denotes}
 use Rattle.cvss_text.proofs.FrontLemmas.{denoted_once_after}
-use Rattle.cvss_v3.specs.Vector.{v3}
-use Rattle.cvss_v3.specs.private.VectorLaws.{v3_laws, v3_front_laws}
+use Rattle.cvss_vector.specs.v3.Vector.{v3}
+use Rattle.cvss_vector.specs.v3.private.VectorLaws.{v3_laws, v3_front_laws}
 use Rattle.cvss_laws.proofs.v3.texts_denote_one_vector.Goals as goal
 
 pub returns : goal.returns

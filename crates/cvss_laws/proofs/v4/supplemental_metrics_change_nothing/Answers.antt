@@ -3,12 +3,12 @@ use Rattle.cvss_base.specs.V4Types.{group_of}
 use Rattle.cvss_base.specs.declared.group.MetricGroup.{MetricGroup}
 use Rattle.cvss_base.specs.declared.group.MetricGroup.TheVariants.{Supplemental}
 use Rattle.cvss_base.specs.declared.v4.MetricType.{MetricType}
-use Rattle.cvss_v4.specs.Merging.{effective_of}
-use Rattle.cvss_v4.specs.Nomenclature.{nomenclature_of}
-use Rattle.cvss_v4.specs.Table.{Value, value_at}
+use Rattle.cvss_vector.specs.v4.Merging.{effective_of}
+use Rattle.cvss_vector.specs.v4.Nomenclature.{nomenclature_of}
+use Rattle.cvss_vector.specs.v4.Table.{Value, value_at}
 use Rattle.cvss_laws.specs.v4.MergingLaws.{DifferInSupplemental}
-use Rattle.cvss_v4.specs.private.VectorLaws.{with_values}
-use Rattle.cvss_v4.specs.declared.vector.Vector.{Vector}
+use Rattle.cvss_vector.specs.v4.private.VectorLaws.{with_values}
+use Rattle.cvss_vector.specs.declared.v4.vector.Vector.{Vector}
 use Rattle.cvss_laws.proofs.v4.supplemental_metrics_change_nothing.Goals as goal
 
 -- the first vector's value for a metric of this group, if it is a supplemental one, and else the second's

@@ -1,6 +1,6 @@
 use Rattle.std.proofs.Common.{drop}
-use Rattle.cvss_any.specs.Answers.{HasScore}
-use Rattle.cvss_any.specs.declared.vector.Cvss.{Cvss}
+use Rattle.cvss_vector.specs.Answers.{HasScore}
+use Rattle.cvss_vector.specs.declared.vector.Cvss.{Cvss}
 use Rattle.cvss_rank.specs.Overrides.{IsAfterAll}
 use Rattle.cvss_rank.proofs.overrides.after_all.Given as goal
 

@@ -1,6 +1,6 @@
 use Rattle.std.proofs.Common.{subst}
-use Rattle.cvss_any.specs.Refusals.{refusal_of}
-use Rattle.cvss_any.specs.Setting.{IsWithReason}
+use Rattle.cvss_vector.specs.Refusals.{refusal_of}
+use Rattle.cvss_vector.specs.Setting.{IsWithReason}
 use Rattle.cvss_rank.proofs.OverrideLemmas.{with_no_reason}
 use Rattle.cvss_rank.proofs.overrides.set_by.Goals as goal
 

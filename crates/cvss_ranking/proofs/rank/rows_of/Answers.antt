@@ -1,7 +1,7 @@
 use Rattle.std.proofs.Common.{◌≡◌, ◌<◌, inr, slice_index_or, ℕ, List, [], length, map, take, Bor, sym, subst, arith}
 use Rattle.std.proofs.lemmas.List.{length-map, get_or-map, take_all, take_more}
 use Rattle.cvss_base.specs.Refusal.{piece_at, IsFirstRefusalAfter}
-use Rattle.cvss_v4.specs.Vector.{v4}
+use Rattle.cvss_vector.specs.v4.Vector.{v4}
 use Rattle.cvss_base.specs.Version.{Denotes}
 use Rattle.cvss_ranking.specs.Faults.{InText, HasNoRefusalBefore, IsFirstRefused, ReportsFault}
 use Rattle.cvss_ranking.specs.Triage.{IsRow, IsRowOf}

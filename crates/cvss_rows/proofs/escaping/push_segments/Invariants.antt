@@ -1,5 +1,5 @@
 use Rattle.std.proofs.Common.{◌≡◌, ◌++◌, take}
-use Rattle.cvss_any.specs.Segments.{text_of}
+use Rattle.cvss_vector.specs.Segments.{text_of}
 use Rattle.cvss_rows.specs.Cells.{escaped}
 use Rattle.cvss_rows.proofs.escaping.push_segments.Given as goal
 

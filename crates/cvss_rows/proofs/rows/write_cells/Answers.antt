@@ -1,5 +1,5 @@
 use Rattle.std.proofs.Common.{refl}
-use Rattle.cvss_any.specs.Reasons.{error_message}
+use Rattle.cvss_vector.specs.Reasons.{error_message}
 use Rattle.cvss_lines.proofs.TextsLemmas.{accepted_by, refused_by}
 use Rattle.cvss_rows.specs.Rows.{cells_text, rejected_fields}
 use Rattle.cvss_rows.proofs.rows.write_cells.Goals as goal

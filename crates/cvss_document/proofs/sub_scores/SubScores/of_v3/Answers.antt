@@ -1,6 +1,6 @@
 use Rattle.std.proofs.Common.{lit<}
 use Rattle.cvss_document.proofs.TenthLemmas.{impact_bottom, near_by, near_equal}
-use Rattle.cvss_v3.specs.VectorWeights.{weights_of}
+use Rattle.cvss_vector.specs.v3.VectorWeights.{weights_of}
 use Rattle.cvss_document.proofs.sub_scores.SubScores.of_v3.Goals as goal
 
 pub returns : goal.returns

@@ -4,7 +4,7 @@ use Rattle.std.proofs.lemmas.Int.{ints, to_z-of_z}
 use Rattle.cvss_base.proofs.ExactLemmas.{equal_trans}
 use Rattle.cvss_score.specs.v2.Scores.{adjusted_impact}
 use Rattle.cvss_score.proofs.v2_lemmas.UniqueLemmas.{temporal_alone}
-use Rattle.cvss_v2.specs.Weights.{weights_of}
+use Rattle.cvss_vector.specs.v2.Weights.{weights_of}
 use Rattle.cvss_explain.proofs.v2.counts.environmental_number.Goals as goal
 
 pub returns-clause-value : goal.returns-clause-value

@@ -6,7 +6,7 @@ use Rattle.cvss_score.specs.v3.Scores.{base_number}
 use Rattle.cvss_score.specs.v3.private.Near.{Approximates}
 use Rattle.cvss_score.proofs.v3_lemmas.EqualLemmas.{base_bottom}
 use Rattle.cvss_score.proofs.v3_lemmas.NearLemmas.{still_approximates}
-use Rattle.cvss_v3.specs.VectorWeights.{weights_of}
+use Rattle.cvss_vector.specs.v3.VectorWeights.{weights_of}
 use Rattle.cvss_explain.proofs.v3.counts.base_number.Goals as goal
 
 near : (c : goal.After-new) → Approximates (weights_of c.args.vector.now).changed (of_count c.new.result) (base_number (weights_of c.args.vector.now))

@@ -3,7 +3,7 @@ use Rattle.std.proofs.lemmas.Int.{ints}
 use Rattle.cvss_base.proofs.ExactLemmas.{equal_trans}
 use Rattle.cvss_score.proofs.v3_lemmas.LawLemmas.{first_once}
 use Rattle.cvss_score.specs.v3.Scores.{environmental_number, IsRounded}
-use Rattle.cvss_v3.specs.VectorWeights.{weights_of}
+use Rattle.cvss_vector.specs.v3.VectorWeights.{weights_of}
 use Rattle.cvss_explain.proofs.v3.counts.environmental_number.Goals as goal
 
 pub returns-clause-value : goal.returns-clause-value

@@ -5,7 +5,7 @@ use Rattle.cvss_score.specs.v3.Scores.{modified_exponent, modified_impact}
 use Rattle.cvss_score.specs.v3.private.Near.{Approximates}
 use Rattle.cvss_score.proofs.v3_lemmas.CountLemmas.{modified_parts}
 use Rattle.cvss_score.proofs.v3_lemmas.NumberLemmas.{approximates}
-use Rattle.cvss_v3.specs.VectorWeights.{weights_of}
+use Rattle.cvss_vector.specs.v3.VectorWeights.{weights_of}
 use Rattle.cvss_explain.proofs.v3.counts.modified_impact.Goals as goal
 
 near : (c : goal.After-new)

@@ -1,6 +1,0 @@
-use Rattle.cvss_any.proofs.ReadLemmas.{read_v3}
-use Rattle.cvss_any.proofs.one_version.V3VectorOneVersion.reads_by_its_rules.Goals as goal
-
-pub returns-clause-read : goal.returns-clause-read
-returns-clause-read c =
-    read_v3 c.args._text.now c.args._components.now c.args._minor c.requires.routed c.args._empty c.requires.front

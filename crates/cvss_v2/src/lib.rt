@@ -1,8 +1,0 @@
-//! CVSS v2: its vectors and scores.
-#![tactic(auto)]
-
-pub mod laws;
-mod vector;
-
-pub use cvss_score::v2::Score;
-pub use vector::{Metrics, Vector};

@@ -1,6 +1,0 @@
-use Rattle.std.proofs.Common.{rules}
-use Rattle.cvss_base.specs.declared.v3.MetricType.TheVariants.{A}
-use Rattle.cvss_v3.proofs.vector.Vector.empty.Goals as goal
-
-pub returns-clause-valueless : goal.returns-clause-valueless
-returns-clause-valueless c = record { none = elim [ A ↦ search rules | _ ↦ search rules ] }

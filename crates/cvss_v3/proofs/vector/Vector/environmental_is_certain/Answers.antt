@@ -1,8 +1,0 @@
-use Rattle.cvss_v3.specs.VectorWeights.{weights_of}
-use Rattle.cvss_v3.proofs.TableLemmas.{weights_listed}
-use Rattle.cvss_v3.proofs.vector.Vector.environmental_is_certain.Goals as goal
-
-pub returns-clause-certain : goal.returns-clause-certain
-returns-clause-certain c = λ is_certain.
-    let v = c.args.self.now in
-    c.is_certain.ensures.environmental is_certain v.minor_version (weights_of v) (weights_listed v)

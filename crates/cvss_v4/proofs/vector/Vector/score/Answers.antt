@@ -1,4 +1,0 @@
-use Rattle.cvss_v4.proofs.vector.Vector.score.Goals as goal
-
-pub returns-clause-order : goal.returns-clause-order
-returns-clause-order c = rw c.effective.ensures at c.score_of.ensures.order

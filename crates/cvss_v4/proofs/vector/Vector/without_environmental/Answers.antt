@@ -1,6 +1,0 @@
-use Rattle.std.proofs.Common.{refl}
-use Rattle.cvss_base.specs.declared.v4.MetricType.TheVariants as metric
-use Rattle.cvss_v4.proofs.vector.Vector.without_environmental.Goals as goal
-
-pub returns : goal.returns
-returns c = record { values = elim [ metric.AC ↦ refl | _ ↦ refl ]; minor_version = refl }

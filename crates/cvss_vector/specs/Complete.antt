@@ -1,0 +1,58 @@
+-- The base metrics that a vector lacks. Only CVSS v3 has texts that lack some.
+use Rattle.std.specs.Prelude.{◌≡◌, ◌⊎◌, ℕ, Bool, true, false, List, ◌++◌, Option, Some, None}
+use Rattle.std.specs.Option.{option_map}
+use Rattle.std.specs.Str.{IsUtf8}
+use Rattle.cvss_base.specs.Refusal.{Missing}
+use Rattle.cvss_vector.specs.v3.Complete.{first_missing_base}
+use Rattle.cvss_vector.specs.Dispatch.{DenotesCvss}
+use Rattle.cvss_vector.specs.Published.{IsPublishedAs}
+use Rattle.cvss_vector.specs.Refusals.{IsReadError, IsReadErrorFor}
+use Rattle.cvss_vector.specs.declared.metric_type.MetricType.{MetricType}
+use Rattle.cvss_vector.specs.declared.metric_type.MetricType.TheVariants.{V3}
+use Rattle.cvss_vector.specs.declared.published.Published.{Published}
+use Rattle.cvss_vector.specs.declared.refusal.ReadError.{ReadError}
+use Rattle.cvss_vector.specs.declared.vector.Cvss.{Cvss}
+use Rattle.cvss_vector.specs.declared.vector.Cvss.TheVariants.{CvssV30, CvssV31}
+
+-- the first base metric that a vector lacks that was read from a text
+abbrev pub first_missing : Cvss → Option MetricType
+first_missing (CvssV30 vector) = option_map V3 (first_missing_base vector)
+first_missing (CvssV31 vector) = option_map V3 (first_missing_base vector)
+first_missing _ = None
+
+-- the first base metric that a vector lacks, unless it may lack some
+abbrev pub missing_by : Bool → Cvss → Option MetricType
+missing_by true cvss = None
+missing_by false cvss = first_missing cvss
+
+-- that is published of the vector that the text denotes, whose canonical text is given; it lacks no base metric, unless
+-- it may
+pub record IsPublishedBy (allow_incomplete : Bool) (text canonical : List ℕ) (published : Published) : Type 0 where
+  pub of : IsPublishedAs text canonical published
+  pub complete : missing_by allow_incomplete of.cvss ≡ None
+
+-- the same, of a text that is its vector's canonical one, and of a vector that may lack none
+abbrev pub IsPublishedOfComplete : List ℕ → Published → Type 0
+IsPublishedOfComplete text published = IsPublishedBy false text text published
+
+-- the text denotes a vector that lacks base metrics and may not, and the error says the first of them
+pub record IsMissingError (allow_incomplete : Bool) (text : List ℕ) (error : ReadError) : Type 0 where
+  pub cvss : Cvss
+  pub denoted : DenotesCvss text cvss
+  pub utf8 : IsUtf8 text
+  pub metric : MetricType
+  pub missing : missing_by allow_incomplete cvss ≡ Some metric
+  pub is : IsReadErrorFor text (Missing metric) error
+
+-- the error is right: the bytes are the text of no vector for this reason, or of one that lacks base metrics and may not
+abbrev pub IsReadErrorBy : Bool → List ℕ → ReadError → Type 0
+IsReadErrorBy allow_incomplete text error = IsReadError text error ⊎ IsMissingError allow_incomplete text error
+
+-- what is appended: what is written of the canonical text and of what is published of the vector that the text denotes, or
+-- of an error that is right
+abbrev pub IsPublishedTo : (List ℕ → Published → List ℕ) → (ReadError → List ℕ) → Bool → List ℕ → List ℕ → Bool → List ℕ → Type 0
+IsPublishedTo accepted rejected allow_incomplete text old true new =
+    (canonical : List ℕ) × (published : Published) × IsPublishedBy allow_incomplete text canonical published
+    × (new ≡ old ++ accepted canonical published)
+IsPublishedTo accepted rejected allow_incomplete text old false new =
+    (error : ReadError) × IsReadErrorBy allow_incomplete text error × (new ≡ old ++ rejected error)

@@ -1,0 +1,15 @@
+pub mod Answers
+pub mod Bytes
+pub mod Complete
+pub mod Dispatch
+pub mod MetricTypes
+pub mod MetricsLeft
+pub mod Published
+pub mod Reasons
+pub mod Refusals
+pub mod Segments
+pub mod Setting
+pub mod private
+pub mod v2
+pub mod v3
+pub mod v4

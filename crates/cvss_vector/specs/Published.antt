@@ -1,0 +1,31 @@
+-- What is published of a vector: its score, and by which bounds the score is rated.
+use Rattle.std.specs.Prelude.{◌≡◌, ℕ, ◌≤◌, List, ℤ}
+use Rattle.std.specs.Str.{IsUtf8}
+use Rattle.cvss_base.specs.Rating.{rating_of_score}
+use Rattle.cvss_base.specs.declared.severity.Severity.{Severity}
+use Rattle.cvss_score.specs.v2.Rating.{rating_of}
+use Rattle.cvss_vector.specs.Answers.{text_of, IsScoreOf, score_of_tenths, rating_by}
+use Rattle.cvss_vector.specs.Dispatch.{DenotesCvss}
+use Rattle.cvss_vector.specs.declared.published.Published.{Published}
+use Rattle.cvss_vector.specs.declared.published.Bounds.{Bounds}
+use Rattle.cvss_vector.specs.declared.published.Bounds.TheVariants.{OfV2, SinceV3}
+use Rattle.cvss_vector.specs.declared.vector.Cvss.{Cvss}
+
+-- the rating of a score, a count of 10^-24, by such bounds
+abbrev pub rating_within : Bounds → ℤ → Severity
+rating_within OfV2 = rating_of
+rating_within SinceV3 = rating_of_score
+
+-- the tenths are those of the vector's score, which its version rates by these bounds
+pub record IsPublished (cvss : Cvss) (published : Published) : Type 0 where
+  pub scored : IsScoreOf cvss (score_of_tenths published.tenths)
+  pub rated : rating_by cvss ≡ rating_within published.bounds
+  pub to_ten : published.tenths ≤ 100
+
+-- that is published of the vector that the text denotes, whose canonical text is given
+pub record IsPublishedAs (text canonical : List ℕ) (published : Published) : Type 0 where
+  pub cvss : Cvss
+  pub canonical_is : canonical ≡ text_of cvss
+  pub denoted : DenotesCvss text cvss
+  pub utf8 : IsUtf8 text
+  pub is : IsPublished cvss published

@@ -1,0 +1,20 @@
+//! Laws of vectors of CVSS v3, each the contract of a function that does nothing. A proof that
+//! needs a law calls it.
+
+ghost use Rattle.std.specs.Prelude.{◌≡◌, None};
+ghost use Rattle.cvss_base.specs.Equality.{EqualsByValue, ClonesByValue};
+ghost use Rattle.cvss_base.specs.declared.v3.MetricType.{MetricType};
+ghost use Rattle.cvss_vector.specs.v3.Vector.{value_at};
+
+use crate::v3::Vector;
+
+/// Two vectors are equal exactly if they are one; a clone is the vector, and the default vector has
+/// minor version 0 and no metric.
+pub fn vectors_are_their_values()
+    ensures equality { EqualsByValue ⟦<Vector as PartialEq>⟧.eq }
+    ensures clone { ClonesByValue ⟦<Vector as Clone>⟧.is_clone }
+    ensures default_minor { (vector : Vector) → ⟦<Vector as Default>⟧.is_default vector
+        → vector.minor_version ≡ 0 }
+    ensures default { (vector : Vector) → ⟦<Vector as Default>⟧.is_default vector
+        → (kind : MetricType) → value_at vector kind ≡ None }
+{}

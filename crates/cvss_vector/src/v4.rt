@@ -1,0 +1,9 @@
+//! CVSS v4.0: its vectors, their nomenclature and their scores.
+
+pub mod laws;
+pub mod overrides;
+mod vector;
+
+pub use cvss_score::v4::scoring::explanation::Explanation;
+pub use cvss_score::v4::{Nomenclature, Score};
+pub use vector::{Metrics, OverrideError, Vector};
