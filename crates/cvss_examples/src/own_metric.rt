@@ -9,7 +9,7 @@ ghost use Rattle.cvss_metric.specs.declared.v3.base.access.UserInteraction.TheVa
 ghost use Rattle.cvss_examples.specs.declared.own_metric.Participation.TheVariants.{Needed, Unneeded};
 ghost use Rattle.cvss_examples.specs.Participation.{participation};
 
-use cvss::v3::metric::environmental::{BaseMetric, Modified};
+use cvss::v3::metric::environmental::{BaseValue, Modified};
 use cvss::v3::metric::{MetricEnum, MetricValue};
 use cvss::v3::{Metric, MetricType};
 use std::fmt;
@@ -62,7 +62,7 @@ impl fmt::Display for Participation {
     }
 }
 
-impl BaseMetric for Participation {
+impl BaseValue for Participation {
     const MODIFIED_TYPE: MetricType = MetricType::MUI;
 
     ghost MODIFIED_TYPE = { MUI };

@@ -144,11 +144,23 @@ fn values_are_read_in_any_case(rt: HostRuntime) {
     );
 }
 
+/// What a base metric is in generic code, which requires `BaseMetric` alone: a metric.
+fn spelled<M: BaseMetric + Drop>(metric: M) -> &'static str {
+    metric.as_str()
+}
+
+/// And `Modified` of it is a metric too.
+fn modified_name<M: BaseMetric>() -> &'static str {
+    <Modified<M> as v3::Metric>::name()
+}
+
 #[test]
 fn metrics_are_distinguished(rt: HostRuntime) {
     use v3::metric::base::{AttackVector, Scope};
     assert!(rt; Scope::Changed.is_changed() && !Scope::Unchanged.is_changed());
     assert!(rt; matches!(AttackVector::MODIFIED_TYPE, v3::MetricType::MAV));
+    assert!(rt; spelled(AttackVector::Network) == "N");
+    assert!(rt; modified_name::<AttackVector>() == "MAV");
     assert!(rt; v2::MetricType::A < v2::MetricType::AC);
     assert!(rt; v2::MetricType::IR < v2::MetricType::AR);
 }

@@ -12,11 +12,12 @@ ghost use Rattle.cvss_metric.specs.v3.Table.{spelling_of, weight_of, reported_ki
 ghost use Rattle.cvss.specs.MetricsV3.{IsMetric};
 
 mod enums;
+pub mod environmental;
 mod modified;
 
 use cvss_base::Error;
 use cvss_metric::v3::weight_in_counts;
-pub use cvss_metric::v3::{MetricType, MetricValue, base, environmental, reported_kind, temporal};
+pub use cvss_metric::v3::{MetricType, MetricValue, base, reported_kind, temporal};
 use std::alloc::Global;
 use std::fmt;
 

@@ -7,9 +7,9 @@ ghost use Rattle.cvss_metric.specs.v3.private.ModifiedLaws.{modified_equality};
 ghost use Rattle.cvss.specs.private.ModifiedOrder.{covered, ranked, modified_order};
 
 use super::MetricEnum;
-use super::environmental::{BaseMetric, Modified};
+use super::environmental::{BaseValue, Modified};
 
-impl<T: BaseMetric + MetricEnum> MetricEnum for Modified<T> {
+impl<T: BaseValue + MetricEnum> MetricEnum for Modified<T> {
     ghost law = { record {
       covers = covered T.base_law T.law.covers;
       ordered = modified_order _ _ _ T.law.ordered (ranked T.base_law)
