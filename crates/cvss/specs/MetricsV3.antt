@@ -4,7 +4,7 @@ use Rattle.std.specs.Ordering.{nat_cmp}
 use Rattle.std.specs.declared.cmp.Ordering.{Ordering}
 use Rattle.cvss_base.specs.Equality.{EqualsByValue, ClonesByValue, ClonesAlways}
 use Rattle.cvss_base.specs.declared.v3.MetricType.{MetricType}
-pub use Rattle.cvss_metric.specs.v3.BaseMetrics.{IsBaseMetric}
+pub use Rattle.cvss_metric.specs.v3.BaseMetrics.{IsBaseValue}
 use Rattle.cvss_metric.specs.v3.Table.{Value, rank_of}
 
 -- the enum has the values of the metric in the table

@@ -63,9 +63,9 @@ impl fmt::Display for Participation {
 }
 
 impl BaseValue for Participation {
-    const MODIFIED_TYPE: MetricType = MetricType::MUI;
+    const MODIFIED_KIND: MetricType = MetricType::MUI;
 
-    ghost MODIFIED_TYPE = { MUI };
+    ghost MODIFIED_KIND = { MUI };
 
     ghost base_law = { Prim.search rules };
 }

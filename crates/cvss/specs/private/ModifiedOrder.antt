@@ -10,7 +10,7 @@ use Rattle.cvss_base.specs.declared.v3.MetricType.TheVariants.{A as availability
 use Rattle.cvss_metric.specs.declared.v3.environmental.modified.Modified.{Modified}
 use Rattle.cvss_metric.specs.declared.v3.environmental.modified.Modified.TheVariants.{NotDefined, Modified as Set}
 use Rattle.cvss_metric.specs.declared.v3.environmental.modified.ModifiedScope.TheVariants as scope
-use Rattle.cvss_metric.specs.v3.BaseMetrics.{IsBaseMetric}
+use Rattle.cvss_metric.specs.v3.BaseMetrics.{IsBaseValue}
 use Rattle.cvss_metric.specs.v3.Modified.{modified_rank}
 use Rattle.cvss_metric.specs.v3.Table.{Value, AnyValue, rank_of, modified_of, replacing, replacing_value, modified_value}
 
@@ -25,7 +25,7 @@ value_covered S is (scope.Modified value) = (Set value, refl)
 value_covered availability is y = search rules
 value_covered _ is y = search rules
 
-module _ {A : Type 0} {kind modified_kind : MetricType} {value : A → Value kind} {own : Modified A → Option AnyValue} (base : IsBaseMetric kind modified_kind value own) where
+module _ {A : Type 0} {kind modified_kind : MetricType} {value : A → Value kind} {own : Modified A → Option AnyValue} (base : IsBaseValue kind modified_kind value own) where
   some : IsSome (modified_of kind)
   some = ap is_some base.replaced
 

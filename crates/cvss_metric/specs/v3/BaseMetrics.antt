@@ -6,7 +6,7 @@ use Rattle.cvss_metric.specs.v3.Modified.{modified_map}
 use Rattle.cvss_metric.specs.v3.Table.{Value, AnyValue, spelling_of, weight_of, modified_of, replacing_value, modified_value}
 
 -- the enum has the values of a base metric, which the modified metric can replace
-pub record IsBaseMetric {A : Type 0} (kind modified_kind : MetricType) (value : A → Value kind) (own : Modified A → Option AnyValue) : Type 0 where
+pub record IsBaseValue {A : Type 0} (kind modified_kind : MetricType) (value : A → Value kind) (own : Modified A → Option AnyValue) : Type 0 where
   -- each value has a weight, and none is spelled X
   pub weighed : (x : A) → IsSome (weight_of kind (value x))
   pub defined : (x : A) → spelling_of kind (value x) ≢ codes "X"

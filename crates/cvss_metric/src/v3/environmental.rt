@@ -4,5 +4,5 @@ mod modified;
 mod requirement;
 mod texts;
 
-pub use modified::{BaseMetric, Modified, ModifiedScope};
+pub use modified::{BaseValue, Modified, ModifiedScope};
 pub use requirement::{AvailabilityRequirement, ConfidentialityRequirement, IntegrityRequirement};

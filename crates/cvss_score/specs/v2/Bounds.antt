@@ -1,4 +1,4 @@
--- Bounds of the numbers of the equations, within which the arithmetic neither wraps nor overflows.
+-- Bounds of the numbers of the equations (guide, section 3.2), within which the arithmetic neither wraps nor overflows.
 use Rattle.std.specs.Prelude.{ℕ, ◌*◌, ◌^◌, ◌≤◌, ◌≤ℤ◌, ℤ, pos, negsuc, neg_ℤ}
 use Rattle.cvss_score.specs.declared.v2.weights.Weights.{Weights}
 

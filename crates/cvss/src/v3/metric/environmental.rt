@@ -6,8 +6,8 @@ ghost use Rattle.cvss_base.specs.declared.v3.MetricType.{MetricType};
 
 use super::{Metric, MetricEnum, MetricType};
 pub use cvss_metric::v3::environmental::{
-    AvailabilityRequirement, BaseMetric as BaseValue, ConfidentialityRequirement,
-    IntegrityRequirement, Modified, ModifiedScope,
+    AvailabilityRequirement, BaseValue, ConfidentialityRequirement, IntegrityRequirement, Modified,
+    ModifiedScope,
 };
 
 /// A base metric that a modified metric can replace (v3.1 specification, section 4.2): each of its
@@ -20,13 +20,13 @@ pub trait BaseMetric: BaseValue + Metric {
     ghost MODIFIED_TYPE: { MetricType };
 
     // The modified metric is that of the values.
-    ghost modified: { MODIFIED_TYPE ≡ ⟦<Self as BaseValue>⟧.MODIFIED_TYPE };
+    ghost modified: { MODIFIED_TYPE ≡ ⟦<Self as BaseValue>⟧.MODIFIED_KIND };
 }
 
 impl<T: BaseValue + MetricEnum> BaseMetric for T {
-    const MODIFIED_TYPE: MetricType = <T as BaseValue>::MODIFIED_TYPE;
+    const MODIFIED_TYPE: MetricType = T::MODIFIED_KIND;
 
-    ghost MODIFIED_TYPE = { ⟦<T as BaseValue>⟧.MODIFIED_TYPE };
+    ghost MODIFIED_TYPE = { T.MODIFIED_KIND };
 
     ghost modified = { refl };
 }

@@ -8,7 +8,7 @@ use Rattle.cvss_base.specs.declared.v3.MetricType.{MetricType}
 use Rattle.cvss_base.specs.declared.v3.MetricType.TheVariants.{A as availability}
 use Rattle.cvss_metric.specs.declared.v3.environmental.modified.Modified.{Modified}
 use Rattle.cvss_metric.specs.declared.v3.environmental.modified.Modified.TheVariants.{NotDefined, Modified as Set}
-use Rattle.cvss_metric.specs.v3.BaseMetrics.{IsBaseMetric}
+use Rattle.cvss_metric.specs.v3.BaseMetrics.{IsBaseValue}
 use Rattle.cvss_metric.specs.v3.Modified.{modified_spelling}
 use Rattle.cvss_metric.specs.v3.Table.{Value, AnyValue, rows_of, spelling_of, weight_of, modified_of, replacing, replacing_value, modified_value}
 
@@ -29,7 +29,7 @@ set_weight _ = search rules
 abbrev pub is_modified_letter : MetricType → ℕ → Bool
 is_modified_letter kind letter = option_map_or (λ modified. list_any (λ row. bytes_eq row.0 (letter ∷ [])) (rows_of modified)) (modified_of kind) false
 
-module _ {A : Type 0} {kind modified_kind : MetricType} {value : A → Value kind} {own : Modified A → Option AnyValue} (base : IsBaseMetric kind modified_kind value own) where
+module _ {A : Type 0} {kind modified_kind : MetricType} {value : A → Value kind} {own : Modified A → Option AnyValue} (base : IsBaseValue kind modified_kind value own) where
   some : IsSome (modified_of kind)
   some = ap is_some base.replaced
 

@@ -7,7 +7,7 @@ ghost use Rattle.cvss_base.specs.Exact.{IsWithinLimit};
 ghost use Rattle.cvss_base.specs.declared.v3.MetricType.TheVariants.{PR, UI, MPR, MUI};
 ghost use Rattle.cvss_metric.specs.v3.Table.{scoped_weight, metric_component};
 
-use crate::v3::environmental::BaseMetric;
+use crate::v3::environmental::BaseValue;
 use crate::v3::metric::{HUNDREDTH, MetricType, MetricValue};
 use std::fmt;
 
@@ -56,10 +56,10 @@ impl fmt::Display for PrivilegesRequired {
     }
 }
 
-impl BaseMetric for PrivilegesRequired {
-    const MODIFIED_TYPE: MetricType = MetricType::MPR;
+impl BaseValue for PrivilegesRequired {
+    const MODIFIED_KIND: MetricType = MetricType::MPR;
 
-    ghost MODIFIED_TYPE = { MPR };
+    ghost MODIFIED_KIND = { MPR };
 
     ghost own_value = { λ metric. Some (record { kind = MPR; value = metric }) };
 
@@ -129,10 +129,10 @@ impl fmt::Display for UserInteraction {
     }
 }
 
-impl BaseMetric for UserInteraction {
-    const MODIFIED_TYPE: MetricType = MetricType::MUI;
+impl BaseValue for UserInteraction {
+    const MODIFIED_KIND: MetricType = MetricType::MUI;
 
-    ghost MODIFIED_TYPE = { MUI };
+    ghost MODIFIED_KIND = { MUI };
 
     ghost own_value = { λ metric. Some (record { kind = MUI; value = metric }) };
 

@@ -5,7 +5,7 @@ ghost use Rattle.std.proofs.Common.{rules};
 ghost use Rattle.cvss_base.specs.declared.v3.MetricType.TheVariants.{AV, AC, MAV, MAC};
 ghost use Rattle.cvss_metric.specs.v3.Table.{metric_component, default_complexity};
 
-use crate::v3::environmental::BaseMetric;
+use crate::v3::environmental::BaseValue;
 use crate::v3::metric::{MetricType, MetricValue};
 use std::fmt;
 
@@ -56,10 +56,10 @@ impl fmt::Display for AttackVector {
     }
 }
 
-impl BaseMetric for AttackVector {
-    const MODIFIED_TYPE: MetricType = MetricType::MAV;
+impl BaseValue for AttackVector {
+    const MODIFIED_KIND: MetricType = MetricType::MAV;
 
-    ghost MODIFIED_TYPE = { MAV };
+    ghost MODIFIED_KIND = { MAV };
 
     ghost own_value = { λ metric. Some (record { kind = MAV; value = metric }) };
 
@@ -116,10 +116,10 @@ impl fmt::Display for AttackComplexity {
     }
 }
 
-impl BaseMetric for AttackComplexity {
-    const MODIFIED_TYPE: MetricType = MetricType::MAC;
+impl BaseValue for AttackComplexity {
+    const MODIFIED_KIND: MetricType = MetricType::MAC;
 
-    ghost MODIFIED_TYPE = { MAC };
+    ghost MODIFIED_KIND = { MAC };
 
     ghost own_value = { λ metric. Some (record { kind = MAC; value = metric }) };
 

@@ -1,11 +1,11 @@
 //! The impact on the component that suffers most (v3.1 specification, section 2.3).
 
-ghost use Rattle.std.specs.Prelude.{◌≡◌, ◌∷◌, Some};
+ghost use Rattle.std.specs.Prelude.{Some};
 ghost use Rattle.std.proofs.Common.{rules};
 ghost use Rattle.cvss_base.specs.declared.v3.MetricType.TheVariants.{C, I, A, MC, MI, MA};
 ghost use Rattle.cvss_metric.specs.v3.Table.{metric_component};
 
-use crate::v3::environmental::BaseMetric;
+use crate::v3::environmental::BaseValue;
 use crate::v3::metric::{MetricType, MetricValue};
 use std::fmt;
 
@@ -53,10 +53,10 @@ impl fmt::Display for Confidentiality {
     }
 }
 
-impl BaseMetric for Confidentiality {
-    const MODIFIED_TYPE: MetricType = MetricType::MC;
+impl BaseValue for Confidentiality {
+    const MODIFIED_KIND: MetricType = MetricType::MC;
 
-    ghost MODIFIED_TYPE = { MC };
+    ghost MODIFIED_KIND = { MC };
 
     ghost own_value = { λ metric. Some (record { kind = MC; value = metric }) };
 
@@ -107,10 +107,10 @@ impl fmt::Display for Integrity {
     }
 }
 
-impl BaseMetric for Integrity {
-    const MODIFIED_TYPE: MetricType = MetricType::MI;
+impl BaseValue for Integrity {
+    const MODIFIED_KIND: MetricType = MetricType::MI;
 
-    ghost MODIFIED_TYPE = { MI };
+    ghost MODIFIED_KIND = { MI };
 
     ghost own_value = { λ metric. Some (record { kind = MI; value = metric }) };
 
@@ -161,10 +161,10 @@ impl fmt::Display for Availability {
     }
 }
 
-impl BaseMetric for Availability {
-    const MODIFIED_TYPE: MetricType = MetricType::MA;
+impl BaseValue for Availability {
+    const MODIFIED_KIND: MetricType = MetricType::MA;
 
-    ghost MODIFIED_TYPE = { MA };
+    ghost MODIFIED_KIND = { MA };
 
     ghost own_value = { λ metric. Some (record { kind = MA; value = metric }) };
 

@@ -5,7 +5,7 @@ ghost use Rattle.cvss_base.specs.Exact.{IsWithinLimit};
 ghost use Rattle.cvss_base.specs.declared.v3.MetricType.{MetricType};
 ghost use Rattle.cvss_base.specs.declared.v3.MetricType.TheVariants.{S, MS};
 ghost use Rattle.cvss_metric.specs.v3.Table.{scoped_weight, weight_of, metric_component, replacing, modified_value};
-ghost use Rattle.cvss_metric.specs.v3.BaseMetrics.{IsBaseMetric};
+ghost use Rattle.cvss_metric.specs.v3.BaseMetrics.{IsBaseValue};
 ghost use Rattle.cvss_metric.specs.v3.Modified.{replaced, weight_or};
 
 use super::texts::modified_with_slash;
@@ -22,23 +22,23 @@ pub enum Modified<T> {
 
 /// A base metric that a modified metric can replace: each of its values has a weight, and none is
 /// spelled `X`.
-pub trait BaseMetric: MetricValue {
+pub trait BaseValue: MetricValue {
     ghost use Rattle.std.specs.Prelude.{Option, None};
     ghost use Rattle.cvss_metric.specs.declared.v3.environmental.modified.Modified.{Modified};
     ghost use Rattle.cvss_metric.specs.v3.Table.{AnyValue};
 
     /// The modified metric.
-    const MODIFIED_TYPE: MetricType;
+    const MODIFIED_KIND: MetricType;
 
-    ghost MODIFIED_TYPE: { MetricType };
+    ghost MODIFIED_KIND: { MetricType };
 
     ghost own_value: { Modified Self → Option AnyValue } = { λ _. None };
 
-    ghost base_law: { IsBaseMetric Self.KIND MODIFIED_TYPE Self.value own_value };
+    ghost base_law: { IsBaseValue Self.KIND MODIFIED_KIND Self.value own_value };
 }
 
-impl<T: BaseMetric> MetricValue for Modified<T> {
-    const KIND: MetricType = T::MODIFIED_TYPE;
+impl<T: BaseValue> MetricValue for Modified<T> {
+    const KIND: MetricType = T::MODIFIED_KIND;
 
     ghost KIND = { replacing T.KIND };
 
@@ -60,7 +60,7 @@ impl<T: BaseMetric> MetricValue for Modified<T> {
     }
 }
 
-impl<T: BaseMetric> fmt::Display for Modified<T> {
+impl<T: BaseValue> fmt::Display for Modified<T> {
     ghost output = { λ metric. Some (metric_component (replacing T.KIND)
         (modified_value T.KIND T.value T.own_value metric)) };
 
@@ -84,7 +84,7 @@ impl<T: Copy> Modified<T> {
     }
 }
 
-impl<T: BaseMetric> Modified<T> {
+impl<T: BaseValue> Modified<T> {
     /// The weight of the value that is set, and else of the base metric's, in counts of 10^-24.
     pub fn modified_score(self, base: Option<T>) -> i128
         ensures value { result ≡ pos (weight_or (λ value. weight_of T.KIND (T.value value))
