@@ -3,7 +3,7 @@ use Rattle.std.specs.Prelude.{◌≡◌, ℕ, Bool, true, false, List, ◌++◌,
 use Rattle.std.specs.Str.{IsUtf8}
 use Rattle.cvss_vector.specs.Answers.{IsScoreOf, score_of_tenths, vector_answer}
 use Rattle.cvss_vector.specs.Complete.{missing_by}
-use Rattle.cvss_answer.specs.Answers.{IsRejection}
+use Rattle.cvss_vector.specs.Lines.{IsRejection}
 use Rattle.cvss_vector.specs.Dispatch.{DenotesCvss}
 use Rattle.cvss_vector.specs.declared.vector.Cvss.{Cvss}
 use Rattle.cvss_explain_answers.specs.Explanation.{AreLines}

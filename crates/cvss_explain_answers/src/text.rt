@@ -9,9 +9,8 @@ ghost use Rattle.cvss_lines.specs.Answers.{WritesAnswer};
 
 use crate::what_if::write_table;
 use crate::{v2, v3, v4};
-use cvss_answer::{write_error, write_vector};
 use cvss_lines::OutputBuffer;
-use cvss_vector::Cvss;
+use cvss_vector::{Cvss, write_error, write_vector};
 use std::alloc::{AllocError, Global};
 
 /// Answers a line by the explanation of its vector's score, or with `what_if` by the scores that other

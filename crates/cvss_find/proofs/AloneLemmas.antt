@@ -1,7 +1,7 @@
 -- What answers a line that is one vector and nothing else.
 use Rattle.std.proofs.Common.{◌≡◌, ℕ, Bool, true, false, cond, List, [], ◌∷◌, inl, inr, refl, sym, ap, ◌∙◌, subst}
 use Rattle.std.proofs.Math.Bool.{and-true}
-use Rattle.cvss_answer.specs.Answers.{score_rule}
+use Rattle.cvss_vector.specs.Lines.{score_rule}
 use Rattle.cvss_lines.specs.Answers.{Answer, Accepted, Refused, is_accepted, texts_of}
 use Rattle.cvss_scan.specs.Mentions.{AreFound, IsAccepted, Placed, mentions_of}
 use Rattle.cvss_find.specs.Answers.{AreReported, IsAnswerTo, Reported, all_accepted, answer_with, reported_texts}

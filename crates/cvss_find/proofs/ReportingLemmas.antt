@@ -8,7 +8,7 @@ use Rattle.std.proofs.lemmas.List.Folds.{list_all-append}
 use Rattle.std.specs.Prelude.{bytes_eq}
 use Rattle.cvss_vector.specs.Complete.{IsPublishedOfComplete}
 use Rattle.cvss_vector.specs.declared.published.Published.{Published}
-use Rattle.cvss_answer.specs.Answers.{score_rule}
+use Rattle.cvss_vector.specs.Lines.{score_rule}
 use Rattle.cvss_lines.specs.Answers.{Accepted, Refused, WritesAnswer, is_accepted, written_answer, written_text}
 use Rattle.cvss_lines.specs.Prefixed.{AnswersByOneText, is_one_text}
 use Rattle.cvss_find.specs.Answers.{AreReported, Asked, IsReported, Reported, all_accepted, answer_with, answered_bytes, answers_as, before_answer, place_text, reported_texts, shows_all, texts_for}

@@ -2,7 +2,7 @@
 use Rattle.std.specs.Prelude.{◌≡◌, ℕ, ◌+◌, ◌&&◌, Bool, true, false, List, [], ◌∷◌, ◌++◌, bytes_eq, codes, drop, flat_map, length, map, not, if◌then◌else◌, ⊤}
 use Rattle.std.specs.Fmt.{decimal}
 use Rattle.std.specs.List.{list_all}
-use Rattle.cvss_answer.specs.Answers.{score_rule}
+use Rattle.cvss_vector.specs.Lines.{score_rule}
 use Rattle.cvss_find.specs.Decoding.{decoded}
 use Rattle.cvss_find.specs.declared.form.Form.{Form}
 use Rattle.cvss_find.specs.declared.form.Form.TheVariants.{Annotated, Located, Object}

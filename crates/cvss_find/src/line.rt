@@ -12,11 +12,10 @@ ghost use Rattle.cvss_scan.specs.MentionsLeft.{as_placed};
 use crate::decoding::decoded;
 use crate::form::Form;
 use crate::place::{write_first_place, write_place};
-use cvss_answer::{answer_score, write_canonical};
 use cvss_lines::OutputBuffer;
 use cvss_rows::{Format, write_cells};
 use cvss_scan::{Mention, Mentions, begins_with_prefix, has_percent};
-use cvss_vector::{Cvss, Published};
+use cvss_vector::{Cvss, Published, answer_score, write_canonical};
 use std::alloc::{AllocError, Global};
 use std::cell::Cell;
 

@@ -1,6 +1,5 @@
 pub mod any
 pub mod base
-pub mod ranking
 pub mod v2
 pub mod v3
 pub mod v4

@@ -4,3 +4,4 @@ pub mod Maximal
 pub mod MergingLaws
 pub mod OverridingLaws
 pub mod ScoreLaws
+pub mod TriageLaws

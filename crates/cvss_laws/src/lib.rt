@@ -5,7 +5,6 @@
 pub mod any;
 pub mod base;
 pub mod number;
-pub mod ranking;
 pub mod v2;
 pub mod v3;
 pub mod v4;

@@ -21,6 +21,7 @@ ghost use Rattle.cvss_score.specs.declared.v4.scoring.effective.Effective.{Effec
 ghost use Rattle.cvss_vector.specs.v4.Merging.{letter_at, effective_of};
 ghost use Rattle.cvss_vector.specs.v4.Nomenclature.{nomenclature_of};
 ghost use Rattle.cvss_vector.specs.v4.Table.{value_at};
+ghost use Rattle.cvss_vector.specs.v4.Triage.{AreTheSame};
 ghost use Rattle.cvss_vector.specs.v4.Vector.{v4};
 ghost use Rattle.cvss_vector.specs.declared.v4.vector.Vector.{Vector};
 ghost use Rattle.cvss_vector.specs.declared.v4.vector.overriding.OverrideError.{OverrideError};
@@ -30,26 +31,32 @@ ghost use Rattle.cvss_laws.specs.v4.Maximal.{eq1_levels, eq1_maximal, eq2_levels
 ghost use Rattle.cvss_laws.specs.v4.MergingLaws.{HasModifiedAsBase, DifferInSupplemental};
 ghost use Rattle.cvss_laws.specs.v4.OverridingLaws.{AreAlike};
 ghost use Rattle.cvss_laws.specs.v4.ScoreLaws.{IsFromTenthToTen};
+ghost use Rattle.cvss_laws.specs.v4.TriageLaws.{ReportTheSame};
 
 use cvss_score::v4::scoring::explanation::{Explanation, GroupExplanation, GroupExplanations};
 use cvss_vector::v4::laws::vectors_are_their_values;
+use cvss_vector::v4::triage::{Row, TriageError};
 use cvss_vector::v4::{Nomenclature, OverrideError, Score, Vector};
 
-/// Two vectors, scores or nomenclatures are equal exactly if they are one value, and two errors of
-/// overrides exactly if they are of one kind, at one place, and say the same.
+/// Two vectors, scores or nomenclatures are equal exactly if they are one value, two rows of triage
+/// exactly if their texts and scores are, and two errors of overrides or of triage exactly if they are of
+/// one kind, at one place, and say the same.
 pub fn equality_is_that_of_values()
     ensures vector { EqualsByValue ⟦<Vector as PartialEq>⟧.eq }
     ensures score { EqualsByValue ⟦<Score as PartialEq>⟧.eq }
     ensures nomenclature { EqualsByValue ⟦<Nomenclature as PartialEq>⟧.eq }
     ensures override_error { (x y : OverrideError) → IsTrue (⟦<OverrideError as PartialEq>⟧.eq x y)
         ↔ AreAlike x y }
+    ensures row { (x y : Row) → IsTrue (⟦<Row as PartialEq>⟧.eq x y) ↔ AreTheSame x y }
+    ensures triage_error { (x y : TriageError) → IsTrue (⟦<TriageError as PartialEq>⟧.eq x y)
+        ↔ ReportTheSame x y }
 {
     crate::base::equality_is_that_of_values();
     vectors_are_their_values();
 }
 
 /// A clone of a vector, a score, a nomenclature or an explanation of a score is that value, and a clone
-/// of an error of overrides is of its kind, at its place, and says the same.
+/// of an error of overrides or of triage is of its kind, at its place, and says the same.
 pub fn clones_are_equal()
     ensures vector { ClonesByValue ⟦<Vector as Clone>⟧.is_clone }
     ensures score { ClonesByValue ⟦<Score as Clone>⟧.is_clone }
@@ -60,6 +67,8 @@ pub fn clones_are_equal()
     ensures override_error { (x clone : OverrideError)
         → ⟦<OverrideError as Clone>⟧.is_clone x clone
         → AreAlike x clone }
+    ensures triage_error { (x clone : TriageError) → ⟦<TriageError as Clone>⟧.is_clone x clone
+        → ReportTheSame x clone }
 {
     crate::base::clones_are_equal();
 }

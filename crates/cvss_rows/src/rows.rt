@@ -13,7 +13,7 @@ use cvss_lines::{Answering, OutputBuffer};
 use cvss_vector::Cvss;
 use std::alloc::{AllocError, Global};
 
-/// Answers lines by rows: what `cvss_answer::answer_score` answers, with the scores of the groups of
+/// Answers lines by rows: what `cvss_vector::answer_score` answers, with the scores of the groups of
 /// metrics.
 #[derive(Drop)]
 pub struct Rows<'a> {

@@ -2,7 +2,7 @@
 use Rattle.std.specs.Prelude.{◌≡◌, ◌⊎◌, ℕ, Bool, true, false, List, take, Option, Err}
 use Rattle.std.specs.Global.{Vec}
 use Rattle.std.specs.Io.KnownBytes.{Appends, Keeps}
-use Rattle.cvss_answer.specs.Answers.{score_rule}
+use Rattle.cvss_vector.specs.Lines.{score_rule}
 use Rattle.cvss_lines.specs.Answers.{Rule}
 use Rattle.cvss_lines.specs.Prefixed.{IsPrefixed}
 use Rattle.cvss_lines.specs.Runs.{Ends}

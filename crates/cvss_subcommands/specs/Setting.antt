@@ -11,7 +11,7 @@ use Rattle.cvss_vector.specs.declared.refusal.ReadError.TheVariants.{Invalid}
 use Rattle.cvss_vector.specs.declared.refusal.Refusal.{Refusal}
 use Rattle.cvss_vector.specs.declared.refusal.Refusal.TheVariants.{Missing}
 use Rattle.cvss_vector.specs.declared.vector.Cvss.{Cvss}
-use Rattle.cvss_answer.specs.Answers.{vector_rule}
+use Rattle.cvss_vector.specs.Lines.{vector_rule}
 use Rattle.cvss_lines.specs.Answers.{Rule}
 
 -- the line is a text that denotes a vector, and this is that vector with the metrics set

@@ -5,10 +5,9 @@ ghost use Rattle.cvss_vector.specs.Answers.{HasScore};
 ghost use Rattle.cvss_subcommands.specs.Setting.{IsSetError, IsSetWhole, set_rule};
 ghost use Rattle.cvss_lines.specs.Prefixed.{is_one_text};
 
-use cvss_answer::{write_error, write_vector};
 use cvss_lines::{Answering, OutputBuffer};
 use cvss_program::LineAnswer;
-use cvss_vector::{Cvss, ReadError, Refusal};
+use cvss_vector::{Cvss, ReadError, Refusal, write_error, write_vector};
 use std::alloc::{AllocError, Global};
 
 /// Sets metrics in the vector, and scores it. A vector of CVSS v3 that lacks base metrics then is
@@ -22,7 +21,7 @@ pub(crate) struct Set<'a> {
 impl Answering for Set<'_> {
     ghost rule = { λ set. set_rule set.metrics.now };
 
-    #[tactic(auto, using(cvss_answer::proofs::ScoringLemmas::vector_written))]
+    #[tactic(auto, using(cvss_vector::proofs::AnsweringLemmas::vector_written))]
     fn answer_line(
         &self,
         _alloc: Global,

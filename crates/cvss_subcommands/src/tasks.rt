@@ -1,15 +1,15 @@
 //! What the subcommands do with a line.
 
 ghost use Rattle.std.specs.Prelude.{false, true};
-ghost use Rattle.cvss_answer.specs.Answers.{score_rule};
+ghost use Rattle.cvss_vector.specs.Lines.{score_rule};
 ghost use Rattle.cvss_lines.specs.Prefixed.{is_one_text};
 ghost use Rattle.cvss_lines.specs.Runs.{Ends};
 ghost use Rattle.cvss_rows.specs.Rows.{IsRow};
 
-use cvss_answer::answer_score;
 use cvss_lines::{Answering, OutputBuffer, RunFault, Summary, run};
 use cvss_program::{LineAnswer, Task};
 use cvss_rows::{Format, Rows};
+use cvss_vector::answer_score;
 use std::alloc::{AllocError, Global};
 use std::io::{Read, Write};
 

@@ -4,8 +4,8 @@
 mod kinds;
 mod streams;
 
-use cvss_answer::Vectors;
 use cvss_lines::{RunFault, Summary, exit_status, run};
+use cvss_vector::Vectors;
 use kinds::KINDS;
 use std::alloc::{AllocError, Global};
 use std::io::ErrorKind;

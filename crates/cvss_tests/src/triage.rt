@@ -3,7 +3,7 @@
 use crate::values::{Tried, are_printed};
 use cvss::Error;
 use cvss::v4::{MetricType, OverrideError};
-use cvss_ranking::TriageError;
+use cvss_vector::v4::triage::TriageError;
 
 /// That a text lacks AC.
 const INCOMPLETE: Error = Error::MissingMandatoryMetricV4 {

@@ -1,8 +1,8 @@
 ghost use Rattle.cvss_lines.specs.Runs.{Ends};
-ghost use Rattle.cvss_answer.specs.Answers.{IsAnswer};
+ghost use Rattle.cvss_vector.specs.Lines.{IsAnswer};
 
 use crate::{RunFault, Summary};
-use cvss_answer::Vectors;
+use cvss_vector::Vectors;
 use std::alloc::Global;
 use std::io::{Read, Write};
 

@@ -4,11 +4,10 @@ ghost use Rattle.std.specs.Prelude.{◌≡◌, ◌++◌, ◌<◌, ◌∷◌, [],
 ghost use Rattle.cvss_vector.specs.Reasons.{error_message};
 ghost use Rattle.cvss_triage.specs.Reports.{IsPlace, ReportsBad, bad_line_text, name_text, number_text, place_text, reason_words, shown_name, unknown_text};
 
-use cvss_answer::write_error;
 use cvss_lines::OutputBuffer;
 use cvss_program::{has_name, source_of};
 use cvss_rank::{BadLine, Reason};
-use cvss_vector::ReadError;
+use cvss_vector::{ReadError, write_error};
 use std::alloc::{AllocError, Global};
 use std::fmt;
 

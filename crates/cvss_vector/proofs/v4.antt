@@ -1,2 +1,3 @@
 mod OverridingLemmas
 mod PrintingLemmas
+mod TriageLemmas

@@ -2,6 +2,7 @@ pub mod Answers
 pub mod Bytes
 pub mod Complete
 pub mod Dispatch
+pub mod Lines
 pub mod MetricTypes
 pub mod MetricsLeft
 pub mod Published

@@ -1,10 +1,10 @@
--- What is published of a vector: its score, and by which bounds the score is rated.
-use Rattle.std.specs.Prelude.{◌≡◌, ℕ, ◌≤◌, List, ℤ}
+-- What is published of a vector: its score, and by which bounds the score is rated; and the line that says so.
+use Rattle.std.specs.Prelude.{◌≡◌, ℕ, ◌≤◌, List, [], ◌∷◌, ◌++◌, codes, ℤ}
 use Rattle.std.specs.Str.{IsUtf8}
 use Rattle.cvss_base.specs.Rating.{rating_of_score}
 use Rattle.cvss_base.specs.declared.severity.Severity.{Severity}
 use Rattle.cvss_score.specs.v2.Rating.{rating_of}
-use Rattle.cvss_vector.specs.Answers.{text_of, IsScoreOf, score_of_tenths, rating_by}
+use Rattle.cvss_vector.specs.Answers.{text_of, IsScoreOf, score_of_tenths, rating_by, rating_text}
 use Rattle.cvss_vector.specs.Dispatch.{DenotesCvss}
 use Rattle.cvss_vector.specs.declared.published.Published.{Published}
 use Rattle.cvss_vector.specs.declared.published.Bounds.{Bounds}
@@ -29,3 +29,16 @@ pub record IsPublishedAs (text canonical : List ℕ) (published : Published) : T
   pub denoted : DenotesCvss text cvss
   pub utf8 : IsUtf8 text
   pub is : IsPublished cvss published
+
+-- what follows a vector's text in its line: a score of so many tenths and its rating within these bounds, each after a
+-- blank, and a byte 10
+abbrev pub rated_line : Bounds → ℕ → List ℕ
+rated_line bounds tenths =
+    codes " " ++ (rating_text tenths (rating_within bounds (score_of_tenths tenths)) ++ 10 ∷ [])
+
+abbrev pub score_line : Published → List ℕ
+score_line published = rated_line published.bounds published.tenths
+
+-- the line of a canonical text with what is published of its vector
+abbrev pub vector_line : List ℕ → Published → List ℕ
+vector_line text published = text ++ score_line published

@@ -1,5 +1,5 @@
 -- What is said of a text that is refused. The words are those of the errors (cvss_base, ErrorText).
-use Rattle.std.specs.Prelude.{◌≡◌, ◌⊎◌, ℕ, List, ◌++◌, codes}
+use Rattle.std.specs.Prelude.{◌≡◌, ◌⊎◌, ℕ, List, [], ◌∷◌, ◌++◌, codes}
 use Rattle.std.specs.Str.{IsUtf8}
 use Rattle.cvss_base.specs.ErrorText.{quoted}
 use Rattle.cvss_base.specs.Refusal.{Refusal, BadComponent, WrongPrefix, WrongVersion, UnknownName, BadValue, Repeated, Missing}
@@ -32,6 +32,10 @@ said_of of_reason of_no_text (Invalid refusal) = of_reason (refusal_of refusal)
 -- the error's text
 abbrev pub error_message : ReadError → List ℕ
 error_message error = said_of reason_text not_utf8_text error
+
+-- the error's line
+abbrev pub error_line : ReadError → List ℕ
+error_line error = codes "error: " ++ (error_message error ++ 10 ∷ [])
 
 -- the text is UTF-8, and this is said of the first reason why it is refused
 pub record IsSaidOfFirst {X : Type 0} (of_reason : Refusal MetricType → X) (text : List ℕ) (said : X) : Type 0 where

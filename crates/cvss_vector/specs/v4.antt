@@ -3,5 +3,7 @@ pub mod Nomenclature
 pub mod Overriding
 pub mod Parts
 pub mod Table
+pub mod Triage
+pub mod TriageFaults
 pub mod Vector
 pub mod private

@@ -1,9 +1,11 @@
 //! The vectors of each version, and of any version: read, printed and scored by the rules of the
-//! version that a text says.
+//! version that a text says; and the answer to a text, the line of its vector or of why there is none.
 #![tactic(auto)]
 
+mod answering;
 mod bytes_error;
 mod complete;
+mod lines;
 mod message;
 mod metric_type;
 mod metrics;
@@ -12,6 +14,7 @@ mod published;
 mod publishing;
 mod reading;
 mod refusal;
+mod score_lines;
 mod segment;
 mod setting;
 pub mod v2;
@@ -19,6 +22,7 @@ pub mod v3;
 pub mod v4;
 mod vector;
 
+pub use answering::{Vectors, answer_score, write_canonical, write_error, write_vector};
 pub use bytes_error::BytesError;
 pub use cvss_text::buffer::TextBuffer;
 pub use message::Message;
@@ -26,7 +30,6 @@ pub use metric_type::MetricType;
 pub use metrics::Metrics;
 pub use one_version::Versioned;
 pub use published::{Bounds, Published};
-pub use publishing::Publishing;
 pub use refusal::{ReadError, Refusal};
 pub use segment::Segment;
 pub use setting::{SetError, Version};

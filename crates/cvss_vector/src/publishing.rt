@@ -1,19 +1,18 @@
-//! How a text is published: its vector's canonical text with the score, or why it is rejected, goes where
-//! the caller writes both.
+//! How a text is published: the line of its vector's canonical text and score is appended to others, or
+//! that of why it is rejected.
 
-ghost use Rattle.std.specs.Prelude.{◌≡◌, ◌≤◌, ◌++◌, ℕ, Bool, List, IfOk, IfSome, OnOk};
+ghost use Rattle.std.specs.Prelude.{◌≡◌, Bool, IfOk, IfSome};
 ghost use Rattle.cvss_base.specs.Text.{pieces};
 ghost use Rattle.cvss_text.specs.Route.{route_of};
 ghost use Rattle.cvss_text.specs.private.Routing.{IsAfterVersion, as_route};
 ghost use Rattle.cvss_vector.specs.Complete.{IsPublishedBy, IsPublishedOfComplete, IsPublishedTo};
-ghost use Rattle.cvss_vector.specs.declared.published.Published.{Published};
-ghost use Rattle.cvss_vector.specs.declared.refusal.ReadError.{ReadError};
 ghost use Rattle.cvss_vector.specs.private.{IsRouted, IsUnpublished};
 
+use crate::lines::{push_error, push_line};
 use crate::one_version::OneVersion;
 use crate::published::Published;
 use crate::reading::{read_error_of, unread};
-use crate::refusal::{ReadError, Refusal};
+use crate::refusal::Refusal;
 use crate::vector::Cvss;
 use crate::{v2, v3, v4};
 use cvss_text::buffer::TextBuffer;
@@ -22,55 +21,36 @@ use cvss_text::route::{Route, route_at_once, route_of_text};
 use cvss_text::walk::read_text;
 use std::alloc::AllocError;
 
-/// What is written of a text that is published, and of one that is rejected.
-pub trait Publishing {
-    ghost accepted: { List ℕ → Published → List ℕ };
-
-    ghost rejected: { ReadError → List ℕ };
-
-    /// Appends a canonical text and what is published of its vector.
-    ///
-    /// # Errors
-    ///
-    /// Out of memory. A beginning may be appended then, here and in `reject`.
-    fn accept(text: &[u8], published: Published, out: &mut Vec<u8>) -> Result<(), AllocError>
-        requires { published.tenths ≤ 100 }
-        ensures { OnOk result (out.new.items ≡ out.old.items ++ accepted text.now published) };
-
-    /// Appends why a text is rejected.
-    fn reject(error: ReadError<'_>, out: &mut Vec<u8>) -> Result<(), AllocError>
-        ensures { OnOk result (out.new.items ≡ out.old.items ++ rejected error.entry) };
-}
-
 impl Cvss {
-    /// Publishes the vector that a text denotes, or else why there is none or, unless it is allowed,
-    /// that it lacks base metrics of CVSS v3, the first of them. Says whether a vector is published.
+    /// Appends the line of the vector that a text denotes, its canonical text, its score and its rating;
+    /// or else that of why there is none or, unless it is allowed, that it lacks base metrics of CVSS v3,
+    /// the first of them. Says whether it is a vector's.
     ///
     /// # Errors
     ///
-    /// Out of memory.
+    /// Out of memory. A beginning of the line may be appended then.
     #[inline(always)]
-    pub fn publish<P: Publishing>(
+    pub fn publish(
         text: &[u8],
         allow_incomplete: bool,
         out: &mut Vec<u8>,
     ) -> Result<bool, AllocError>
-        ensures { IfOk result (λ is. IsPublishedTo P.accepted P.rejected allow_incomplete text.now
+        ensures { IfOk result (λ is. IsPublishedTo allow_incomplete text.now
             out.old.items is out.new.items) }
     {
         let route = route_of_text(text);
         // The text is copied at one place for all versions, so that the compiler can inline it.
         if let Some(published) = published_by(text, &route) {
-            P::accept(text, published, out)?;
+            push_line(text, published, out)?;
             return Ok(true);
         }
         match route {
-            Route::V20 => publish_rest::<v2::Vector, P>(text, text, 0, allow_incomplete, out),
-            Route::V30(left) => publish_rest::<v3::Vector, P>(text, left, 0, allow_incomplete, out),
-            Route::V31(left) => publish_rest::<v3::Vector, P>(text, left, 1, allow_incomplete, out),
-            Route::V40(left) => publish_rest::<v4::Vector, P>(text, left, 0, allow_incomplete, out),
+            Route::V20 => publish_rest::<v2::Vector>(text, text, 0, allow_incomplete, out),
+            Route::V30(left) => publish_rest::<v3::Vector>(text, left, 0, allow_incomplete, out),
+            Route::V31(left) => publish_rest::<v3::Vector>(text, left, 1, allow_incomplete, out),
+            Route::V40(left) => publish_rest::<v4::Vector>(text, left, 0, allow_incomplete, out),
             Route::Unversioned(why) => {
-                reject::<P>(text, allow_incomplete, Refusal::of(unread(text, why)), out)
+                reject(text, allow_incomplete, Refusal::of(unread(text, why)), out)
             }
         }
     }
@@ -126,7 +106,7 @@ fn published_whole<V: OneVersion>(
 /// Publishes what a text denotes that is not seen to be canonical.
 // A call of its own keeps the buffer out of the frame of a canonical text.
 #[inline(never)]
-fn publish_rest<V: OneVersion, P: Publishing>(
+fn publish_rest<V: OneVersion>(
     text: &[u8],
     components: &[u8],
     minor_version: usize,
@@ -134,34 +114,34 @@ fn publish_rest<V: OneVersion, P: Publishing>(
     out: &mut Vec<u8>,
 ) -> Result<bool, AllocError>
     requires { IsRouted V.has_minor V.route V.front text.now components.now minor_version }
-    ensures { IfOk result (λ is. IsPublishedTo P.accepted P.rejected allow_incomplete text.now
+    ensures { IfOk result (λ is. IsPublishedTo allow_incomplete text.now
         out.old.items is out.new.items) }
 {
     let mut vector = V::without_metrics(minor_version);
     V::reads_by_its_rules(text, components, minor_version, vector);
     if let Err(fault) = read_text(components, &mut vector) {
-        return reject::<P>(text, allow_incomplete, Refusal::of(V::reported(fault)), out);
+        return reject(text, allow_incomplete, Refusal::of(V::reported(fault)), out);
     }
     if let Some(metric) = vector.join(minor_version).missing_by(allow_incomplete) {
-        return reject::<P>(text, allow_incomplete, Refusal::Missing(metric), out);
+        return reject(text, allow_incomplete, Refusal::Missing(metric), out);
     }
     let mut buffer = TextBuffer::new();
     let canonical = vector.canonical(minor_version, &mut buffer);
-    P::accept(canonical, vector.join(minor_version).published(), out)?;
+    push_line(canonical, vector.join(minor_version).published(), out)?;
     Ok(true)
 }
 
 /// Publishes why a text is rejected.
-fn reject<P: Publishing>(
+fn reject(
     text: &[u8],
     allow_incomplete: bool,
     refusal: Refusal<'_>,
     out: &mut Vec<u8>,
 ) -> Result<bool, AllocError>
     requires { IsUnpublished allow_incomplete text.now refusal }
-    ensures { IfOk result (λ is. IsPublishedTo P.accepted P.rejected allow_incomplete text.now
+    ensures { IfOk result (λ is. IsPublishedTo allow_incomplete text.now
         out.old.items is out.new.items) }
 {
-    P::reject(read_error_of(text, refusal), out)?;
+    push_error(read_error_of(text, refusal), out)?;
     Ok(false)
 }

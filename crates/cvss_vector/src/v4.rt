@@ -2,6 +2,7 @@
 
 pub mod laws;
 pub mod overrides;
+pub mod triage;
 mod vector;
 
 pub use cvss_score::v4::scoring::explanation::Explanation;

@@ -1,8 +1,8 @@
 //! Triage.
 
 use crate::shown::print_error;
-use cvss_ranking::{Row, apply};
 use cvss_vector::v4::Vector;
+use cvss_vector::v4::triage::{Row, apply};
 use std::io;
 
 /// The rows of the texts, which follow `=`, with the overrides, which follow `+`.

@@ -1,6 +1,6 @@
 -- What answers a line that is one vector and nothing else.
 use Rattle.std.specs.Prelude.{◌≡◌, ℕ, ◌++◌, Bool, List, [], ◌∷◌}
-use Rattle.cvss_answer.specs.Answers.{score_rule}
+use Rattle.cvss_vector.specs.Lines.{score_rule}
 use Rattle.cvss_find.specs.Answers.{place_text}
 use Rattle.cvss_lines.specs.Answers.{Answer, is_accepted, texts_of}
 

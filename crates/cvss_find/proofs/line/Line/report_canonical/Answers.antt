@@ -1,5 +1,5 @@
 use Rattle.std.proofs.Common.{subst, sym, true}
-use Rattle.cvss_answer.proofs.ScoringLemmas.{complete_written}
+use Rattle.cvss_vector.proofs.AnsweringLemmas.{complete_written}
 use Rattle.cvss_find.proofs.ReportingLemmas.{canonical_reported}
 use Rattle.cvss_find.specs.private.Reporting.{AnswersLine}
 use Rattle.cvss_find.proofs.line.Line.report_canonical.Goals as goal

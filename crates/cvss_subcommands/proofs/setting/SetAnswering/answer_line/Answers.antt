@@ -1,4 +1,4 @@
-use Rattle.cvss_answer.proofs.ScoringLemmas.{error_written}
+use Rattle.cvss_vector.proofs.AnsweringLemmas.{error_written}
 use Rattle.cvss_subcommands.specs.Setting.{IsSetError, IsSetWhole}
 use Rattle.cvss_subcommands.proofs.setting.SetAnswering.answer_line.Goals as goal
 

@@ -1,9 +1,0 @@
-use Rattle.std.specs.Prelude.{map, take}
-use Rattle.cvss_ranking.specs.Faults.{HasNoRefusalBefore}
-use Rattle.cvss_ranking.specs.Triage.{AreRows}
-use Rattle.cvss_ranking.proofs.rank.rows_of.Given as goal
-
-abbrev pub invariant-loop-index : goal.invariant-loop-index
-invariant-loop-index l =
-    AreRows l.fn.overrides (take l.index (map (λ text. text.now) l.fn.texts)) l.rows.items
-    × HasNoRefusalBefore (map (λ text. text.now) l.fn.texts) l.index

@@ -1,0 +1,35 @@
+-- Texts whose rows are made one after another; and the order of rows, which is one.
+use Rattle.std.proofs.Common.{◌≡◌, inl, inr, ℕ, ◌+◌, List, [], ◌∷◌, ◌++◌, below_more, string_bytes}
+use Rattle.std.proofs.lemmas.Bool.{cases_order}
+use Rattle.std.proofs.lemmas.Cmp.{then_total, back_total, on_total, int_cmp_total, nat_list_cmp_total}
+use Rattle.std.specs.Cmp.{IsTotalOrder}
+use Rattle.cvss_base.specs.declared.v4.MetricType.{MetricType}
+use Rattle.cvss_base.specs.Refusal.{Refusal, piece_at, IsFirstRefusalAfter}
+use Rattle.cvss_vector.specs.declared.v4.vector.Vector.{Vector}
+use Rattle.cvss_vector.specs.v4.Vector.{v4}
+use Rattle.cvss_vector.specs.v4.TriageFaults.{HasNoRefusalBefore, IsFirstRefused}
+use Rattle.cvss_vector.specs.v4.Triage.{IsRow, AreRows, row_order}
+use Rattle.cvss_vector.specs.declared.v4.triage.row.Row.{Row}
+
+-- one row more
+pub AreRows-push : (overrides : Vector) (texts : List (List ℕ)) (rows : List Row) (text : List ℕ) (row : Row) → AreRows overrides texts rows → IsRow overrides text row → AreRows overrides (texts ++ text ∷ []) (rows ++ row ∷ [])
+AreRows-push overrides [] [] text row are is = (is, tt)
+AreRows-push overrides [] (first ∷ rows) text row are is = absurd are
+AreRows-push overrides (first ∷ texts) [] text row are is = absurd are
+AreRows-push overrides (first ∷ texts) (other ∷ rows) text row are is =
+    (are.0, AreRows-push overrides texts rows text row are.1 is)
+
+-- one text more that is not refused
+pub HasNoRefusalBefore-more : (texts : List (List ℕ)) (place : ℕ) → HasNoRefusalBefore texts place → ((reason : Refusal MetricType) → IsFirstRefusalAfter v4 (piece_at texts place) reason → ⊥) → HasNoRefusalBefore texts (place + 1)
+HasNoRefusalBefore-more texts place before none = record {
+  none = λ earlier reason below. below_more (λ each. (other : Refusal MetricType) → IsFirstRefusalAfter v4 (piece_at texts each) other → ⊥) place (λ each inside other. before.none each other inside) none earlier below reason;
+}
+
+-- the first text that is refused is at one place
+pub first_place_same : (texts : List (List ℕ)) (p q : ℕ) (one other : Refusal MetricType) → IsFirstRefused texts p one → IsFirstRefused texts q other → p ≡ q
+first_place_same texts p q one other first second =
+    elim (cases_order p q) [ inl same ↦ same | inr apart ↦ elim apart [ inl before ↦ absurd (second.earlier.none p one before first.is) | inr after ↦ absurd (first.earlier.none q other after second.is) ] ]
+
+-- the order of rows
+pub row_order_total : IsTotalOrder row_order
+row_order_total = then_total (back_total (on_total (λ (row : Row). row.score) int_cmp_total)) (on_total (λ (row : Row). string_bytes row.text) nat_list_cmp_total)

@@ -1,0 +1,59 @@
+//! What triage says of one text.
+
+ghost use Rattle.std.specs.Prelude.{◌≡◌, IfOk, IsPermutation, IsSorted};
+ghost use Rattle.cvss_base.specs.Rating.{rating_of_score};
+ghost use Rattle.cvss_vector.specs.v4.Vector.{v4};
+ghost use Rattle.cvss_base.specs.Version.{IsComplete};
+ghost use Rattle.cvss_vector.specs.v4.Triage.{row_order};
+
+use crate::v4::{Nomenclature, Score, Vector};
+use cvss_base::Severity;
+use std::alloc::{AllocError, Global};
+
+/// A text, and what its vector is with the overrides in place.
+#[derive(Debug, Drop, PartialEq, Eq)]
+pub struct Row {
+    /// The text as it was given.
+    pub text: String,
+    /// The canonical text of the vector with the overrides in place.
+    pub scored: String,
+    /// The score of that vector, a count of 10^-24 of a score point.
+    pub score: i128,
+}
+
+impl Row {
+    ghost use Rattle.cvss_vector.specs.v4.Triage.{IsRowOf};
+
+    /// The row of a text and of the vector that it is scored as.
+    pub(crate) fn of(alloc: Global, text: &str, vector: &Vector) -> Result<Row, AllocError>
+        requires { IsComplete v4 vector.now }
+        ensures { IfOk result (IsRowOf text.now vector.now) }
+    {
+        Ok(Row {
+            text: String::from_str(alloc, text)?,
+            scored: vector.to_string(alloc)?,
+            score: vector.score().value(),
+        })
+    }
+
+    /// The rating of the score (v4.0 specification, section 6).
+    pub fn severity(&self) -> Severity
+        ensures { result ≡ rating_of_score self.now.score }
+    {
+        Score::new(self.score, Nomenclature::CvssBE).severity()
+    }
+}
+
+/// Puts rows into falling order of score, and those of one score into the order of their texts'
+/// bytes.
+pub(crate) fn sort(rows: &mut Vec<Row>)
+    ensures permutation { IsPermutation rows.old.items rows.new.items }
+    ensures sorted { IsSorted row_order rows.new.items }
+{
+    rows.sort_unstable_by(|row, other| {
+        other
+            .score
+            .cmp(&row.score)
+            .then_with(|| row.text.cmp(&other.text))
+    });
+}
