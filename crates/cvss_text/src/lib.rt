@@ -1,6 +1,5 @@
 //! How the text of a vector is read and printed, once for all versions: pieces, the walk over them,
-//! which version a text says, printing, listing, setting metrics, recognising a canonical text, and
-//! the errors that say why a text is no vector.
+//! which version a text says, printing, listing, setting metrics, and recognising a canonical text.
 #![tactic(auto)]
 
 mod beginning;
@@ -13,7 +12,6 @@ pub mod in_order;
 pub mod metrics;
 pub mod pieces;
 pub mod print;
-pub mod refusing;
 pub mod route;
 pub mod setting;
 pub mod texts;

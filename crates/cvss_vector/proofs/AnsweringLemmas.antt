@@ -4,13 +4,14 @@ use Rattle.cvss_base.specs.declared.severity.Severity.{Severity}
 use Rattle.cvss_lines.specs.Answers.{WritesAnswer, written_text}
 use Rattle.cvss_lines.proofs.TextsLemmas.{accepted_by, refused_by}
 use Rattle.cvss_vector.specs.Answers.{IsScoreOf, rating_text, score_of_tenths, text_of, vector_answer}
-use Rattle.cvss_vector.specs.Complete.{IsPublishedOfComplete, IsPublishedTo, IsReadErrorBy}
+use Rattle.cvss_vector.specs.Complete.{IsPublishedOfComplete, IsReadErrorBy}
 use Rattle.cvss_vector.specs.Lines.{IsVectorOf, score_rule, vector_rule}
 use Rattle.cvss_vector.specs.Published.{IsPublished, score_line}
 use Rattle.cvss_vector.specs.Reasons.{error_line, error_message}
 use Rattle.cvss_vector.specs.declared.published.Published.{Published}
 use Rattle.cvss_vector.specs.declared.refusal.ReadError.{ReadError}
 use Rattle.cvss_vector.specs.declared.vector.Cvss.{Cvss}
+use Rattle.cvss_vector.specs.private.{IsPublishedTo}
 
 -- a vector's text and the line of its score, one after the other, are the vector's answer
 pub answer_written : (vector : Cvss) (published : Published) → IsPublished vector published → (old half new line : List ℕ) → half ≡ old ++ text_of vector

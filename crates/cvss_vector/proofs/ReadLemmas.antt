@@ -1,6 +1,6 @@
 -- A text that denotes a vector is read by the rules of its version. It denotes at most one vector and has at most one first
 -- refusal; what reading it answers follows from what the rules of its version read. And a vector has one score.
-use Rattle.std.proofs.Common.{◌≡◌, ◌≢◌, ◌<◌, Bool, false, None, ℕ, zero, suc, List, [], ◌∷◌, ◌++◌, Result, Ok, Err, codes, length, map, refl, sym, ap, ◌∙◌, subst, arith, lit<, Contains, IsUtf8}
+use Rattle.std.proofs.Common.{◌≡◌, ◌≢◌, ◌<◌, Bool, false, None, ℕ, zero, suc, List, [], ◌∷◌, ◌++◌, Ok, Err, codes, length, map, refl, sym, ap, ◌∙◌, subst, arith, lit<, Contains, IsUtf8}
 use Rattle.std.specs.Prelude.{⊤}
 use Rattle.std.proofs.lemmas.List.{length-map}
 use Rattle.std.proofs.lemmas.List.Elements.{All-nil}
@@ -25,8 +25,7 @@ use Rattle.cvss_text.proofs.FrontLemmas.{IsDecided, Denotes-pieces, IsUtf8-left,
 use Rattle.cvss_text.proofs.NumeralLemmas.{numeral-injective, numeral-plain}
 use Rattle.cvss_text.proofs.TextLemmas.{IsPart}
 use Rattle.cvss_text.specs.Route.{Route, ToV20, ToV30, ToV31, ToV40, ToNoVersion, route_of, route_of_pieces}
-use Rattle.cvss_text.specs.declared.walk.Fault.{Fault}
-use Rattle.cvss_text.specs.private.Walk.{FrontLaws, IsFirstOfPieces, IsPrintable, IsReadLeft, VersionLaws, reason_of}
+use Rattle.cvss_text.specs.private.Walk.{FrontLaws, IsFirstOfPieces, VersionLaws, reason_of}
 use Rattle.cvss_metric.specs.v2.private.TableLaws.{undotted_spelling}
 use Rattle.cvss_vector.specs.v2.Vector.{v2}
 use Rattle.cvss_vector.specs.v2.Weights.{weights_of}
@@ -41,14 +40,14 @@ use Rattle.cvss_vector.specs.Answers.{HasScore, IsScoreOf, text_of}
 use Rattle.cvss_vector.specs.Complete.{IsPublishedBy, missing_by}
 use Rattle.cvss_vector.specs.Dispatch.{DenotesCvss, DenotesV2, DenotesV3, DenotesV4, IsFirstReasonAt, IsFirstRefusalCvss, IsReasonOf, wrapped}
 use Rattle.cvss_vector.specs.Published.{IsPublished}
+use Rattle.cvss_vector.specs.Refusals.{refusal_of}
 use Rattle.cvss_vector.specs.declared.metric_type.MetricType.{MetricType}
 use Rattle.cvss_vector.specs.declared.metric_type.MetricType.TheVariants.{V2, V3, V4}
 use Rattle.cvss_vector.specs.declared.published.Published.{Published}
-use Rattle.cvss_vector.specs.declared.reading.ReadFault.{ReadFault}
-use Rattle.cvss_vector.specs.declared.reading.ReadFault.TheVariants as reported
+use Rattle.cvss_vector.specs.declared.refusal.Refusal as declared
 use Rattle.cvss_vector.specs.declared.vector.Cvss.{Cvss}
 use Rattle.cvss_vector.specs.declared.vector.Cvss.TheVariants.{CvssV20, CvssV30, CvssV31, CvssV40}
-use Rattle.cvss_vector.specs.private.{IsPrintableFault, IsRead, IsRouted, IsRoutedV3, front_of, read_as, reason_read, route_v3, wrapped_v3}
+use Rattle.cvss_vector.specs.private.{IsRead, IsReadByRules, IsReportable, IsRouted, IsRoutedV3, front_of, route_v3, wrapped_v3}
 
 -- two pieces, the first of which says a version
 two_pieces : (reported : List ℕ) (parts : List (List ℕ)) (to : Route) → parts ≢ [] → ((next : List ℕ) (more : List (List ℕ)) → route_of_pieces (version_piece reported ∷ next ∷ more) ≡ to) → route_of_pieces (version_piece reported ∷ parts) ≡ to
@@ -197,62 +196,62 @@ module _ (text : List ℕ) where
     utf8 = (decided cvss denotes).0;
     refused = tt;
     refuses = λ reason first. absurd (none cvss denotes reason first);
-    printable = λ is. tt;
+    reportable = λ is. tt;
   }
 
-  pub read_err : (fault : ReadFault) → IsFirstRefusalCvss text (reason_read fault) → (IsUtf8 text → IsPrintableFault fault) → IsRead text (Err fault)
-  read_err fault first printable = record {
+  pub read_err : (refusal : declared.Refusal) → IsFirstRefusalCvss text (refusal_of refusal) → (IsUtf8 text → IsReportable refusal) → IsRead text (Err refusal)
+  read_err refusal first reportable = record {
     denoted = tt;
-    accepts = λ cvss denotes. absurd (none cvss denotes (reason_read fault) first);
+    accepts = λ cvss denotes. absurd (none cvss denotes (refusal_of refusal) first);
     scored = tt;
     utf8 = tt;
     refused = first;
-    refuses = λ reason other. one_refusal text (reason_read fault) reason first other;
-    printable = printable;
+    refuses = λ reason other. one_refusal text (refusal_of refusal) reason first other;
+    reportable = reportable;
   }
 
   pub reason_at : (to : Route) → route_of text ≡ to → (reason : Refusal _) → IsFirstReasonAt to text reason → IsFirstRefusalCvss text reason
   reason_at to route reason = subst (λ each. IsFirstReasonAt each text reason) (sym route)
 
   -- what the rules of a version read of the components
-  module _ {V K : Type 0} (version : Version V K) (wrap : V → Cvss) (reported : Fault K → ReadFault) (to : Route) (front : List (List ℕ)) (components : List ℕ) where
+  module _ {V K : Type 0} (version : Version V K) (join : V → Cvss) (wrap : K → MetricType) (to : Route) (front : List (List ℕ)) (components : List ℕ) where
     pub read_any : route_of text ≡ to → pieces text ≡ front ++ pieces components
-        → ((v : V) → Denotes version text v → version.front v ≡ front → IsComplete version v → DenotesCvss text (wrap v))
-        → ((fault : Fault K) → IsFirstOfPieces version (pieces components) (reason_of version fault) → IsFirstReasonAt to text (reason_read (reported fault)))
-        → ((fault : Fault K) → IsPrintable version fault → IsPrintableFault (reported fault))
-        → (empty : V) → version.front empty ≡ front → (answer : Result (Unit {0}) (Fault K)) (v : V) → IsReadLeft version (pieces components) empty answer v → IsRead text (read_as wrap reported answer v)
-    read_any routed cut denotes reasons printable empty is (Ok _) v read =
-        let same = read.front ∙ is in
-        read_ok (wrap v) (denotes v (Denotes-pieces version text front (pieces components) cut v same read.components) same read.complete)
-    read_any routed cut denotes reasons printable empty is (Err fault) v read =
-        read_err (reported fault) (reason_at to routed (reason_read (reported fault)) (reasons fault read.refused)) (λ utf8. printable fault (read.printable (IsUtf8-left text front (pieces components) cut utf8)))
+        → ((v : V) → Denotes version text v → version.front v ≡ front → IsComplete version v → DenotesCvss text (join v))
+        → ((own : Refusal K) → IsFirstOfPieces version (pieces components) own → IsFirstReasonAt to text (wrapped wrap own))
+        → (empty : V) → version.front empty ≡ front → IsReadByRules version join wrap text components empty
+    read_any routed cut denotes reasons empty is = record {
+      accepted = λ done v read.
+          let same = read.front ∙ is in
+          read_ok (join v) (denotes v (Denotes-pieces version text front (pieces components) cut v same read.components) same read.complete);
+      refused = λ fault v refusal read for.
+          read_err refusal (reason_at to routed (refusal_of refusal) (rw for.is (reasons (reason_of version fault) read.refused)))
+          (λ utf8. for.reportable (read.printable (IsUtf8-left text front (pieces components) cut utf8)));
+    }
 
   -- those of each version
   module _ (components : List ℕ) where
-    pub read_v2 : (minor : ℕ) → IsRouted (λ _. ⊤) (λ _. ToV20) (λ _. []) text components minor → (empty : _) → v2.front empty ≡ [] → (answer : Result (Unit {0}) (Fault _)) (v : _) → IsReadLeft v2 (pieces components) empty answer v → IsRead text (read_as CvssV20 reported.V2 answer v)
-    read_v2 minor is = read_any v2 CvssV20 reported.V2 ToV20 [] components is.routed is.cut
+    pub read_v2 : (minor : ℕ) → IsRouted (λ _. ⊤) (λ _. ToV20) (λ _. []) text components minor → (empty : _) → v2.front empty ≡ [] → IsReadByRules v2 CvssV20 V2 text components empty
+    read_v2 minor is = read_any v2 CvssV20 V2 ToV20 [] components is.routed is.cut
         (λ v denotes _ complete. record { denoted = denotes; complete = complete })
-        (λ fault first. record { own = reason_of v2 fault; first = subst (λ parts. IsFirstOfPieces v2 parts (reason_of v2 fault)) (sym is.cut) first; is = refl })
-        (λ fault printable. printable)
+        (λ own first. record { own = own; first = subst (λ parts. IsFirstOfPieces v2 parts own) (sym is.cut) first; is = refl })
 
     denoted_v3 : (minor : ℕ) → IsRoutedV3 text components minor → (v : _) → Denotes v3 text v → v3.front v ≡ front_of (codes "3.") minor → IsComplete v3 v → DenotesCvss text (wrapped_v3 minor v)
     denoted_v3 zero is v denotes front complete = v3_denoted text components 0 v is denotes (record { complete = complete; supported = record { reported = codes "3.0"; front_is = front; supported = (0, lit< tt, refl) } }) (λ no. cc)
     denoted_v3 (suc zero) is v denotes front complete = v3_denoted text components 1 v is denotes (record { complete = complete; supported = record { reported = codes "3.1"; front_is = front; supported = (1, lit< tt, refl) } }) (λ no. cc)
     denoted_v3 (suc (suc minor)) is v denotes front complete = absurd (omega (arith, is.known))
 
-    reason_v3 : (minor : ℕ) → IsRoutedV3 text components minor → (fault : Fault _) → IsFirstOfPieces v3 (pieces components) (reason_of v3 fault) → IsFirstReasonAt (route_v3 minor) text (reason_read (reported.V3 fault))
-    reason_v3 zero is fault first = record { own = reason_of v3 fault; first = reason_after v3 v3_laws v3_front_laws text (codes "3.0") (0, lit< tt, refl) (pieces components) is.cut (reason_of v3 fault) first; is = refl }
-    reason_v3 (suc zero) is fault first = record { own = reason_of v3 fault; first = reason_after v3 v3_laws v3_front_laws text (codes "3.1") (1, lit< tt, refl) (pieces components) is.cut (reason_of v3 fault) first; is = refl }
-    reason_v3 (suc (suc minor)) is fault first = absurd (omega (arith, is.known))
+    reason_v3 : (minor : ℕ) → IsRoutedV3 text components minor → (own : Refusal _) → IsFirstOfPieces v3 (pieces components) own → IsFirstReasonAt (route_v3 minor) text (wrapped V3 own)
+    reason_v3 zero is own first = record { own = own; first = reason_after v3 v3_laws v3_front_laws text (codes "3.0") (0, lit< tt, refl) (pieces components) is.cut own first; is = refl }
+    reason_v3 (suc zero) is own first = record { own = own; first = reason_after v3 v3_laws v3_front_laws text (codes "3.1") (1, lit< tt, refl) (pieces components) is.cut own first; is = refl }
+    reason_v3 (suc (suc minor)) is own first = absurd (omega (arith, is.known))
 
-    pub read_v3 : (minor : ℕ) → IsRoutedV3 text components minor → (empty : _) → v3.front empty ≡ front_of (codes "3.") minor → (answer : Result (Unit {0}) (Fault _)) (v : _) → IsReadLeft v3 (pieces components) empty answer v → IsRead text (read_as (wrapped_v3 minor) reported.V3 answer v)
-    read_v3 minor is = read_any v3 (wrapped_v3 minor) reported.V3 (route_v3 minor) (front_of (codes "3.") minor) components is.routed is.cut (denoted_v3 minor is) (reason_v3 minor is) (λ fault printable. printable)
+    pub read_v3 : (minor : ℕ) → IsRoutedV3 text components minor → (empty : _) → v3.front empty ≡ front_of (codes "3.") minor → IsReadByRules v3 (wrapped_v3 minor) V3 text components empty
+    read_v3 minor is = read_any v3 (wrapped_v3 minor) V3 (route_v3 minor) (front_of (codes "3.") minor) components is.routed is.cut (denoted_v3 minor is) (reason_v3 minor is)
 
-    pub read_v4 : (minor : ℕ) → IsRouted (λ minor. minor ≡ 0) (λ _. ToV40) (front_of (codes "4.")) text components minor → (empty : _) → v4.front empty ≡ front_of (codes "4.") minor → (answer : Result (Unit {0}) (Fault _)) (v : _) → IsReadLeft v4 (pieces components) empty answer v → IsRead text (read_as CvssV40 reported.V4 answer v)
-    read_v4 zero is = read_any v4 CvssV40 reported.V4 ToV40 (front_of (codes "4.") 0) components is.routed is.cut
+    pub read_v4 : (minor : ℕ) → IsRouted (λ minor. minor ≡ 0) (λ _. ToV40) (front_of (codes "4.")) text components minor → (empty : _) → v4.front empty ≡ front_of (codes "4.") minor → IsReadByRules v4 CvssV40 V4 text components empty
+    read_v4 zero is = read_any v4 CvssV40 V4 ToV40 (front_of (codes "4.") 0) components is.routed is.cut
         (λ v denotes front complete. record { denoted = denotes; well_formed = record { complete = complete; supported = record { reported = codes "4.0"; front_is = front; supported = (0, lit< tt, refl) } } })
-        (λ fault first. record { own = reason_of v4 fault; first = reason_after v4 v4_laws v4_front_laws text (codes "4.0") (0, lit< tt, refl) (pieces components) is.cut (reason_of v4 fault) first; is = refl })
-        (λ fault printable. printable)
+        (λ own first. record { own = own; first = reason_after v4 v4_laws v4_front_laws text (codes "4.0") (0, lit< tt, refl) (pieces components) is.cut own first; is = refl })
     read_v4 (suc minor) is = absurd (omega (arith, is.known))
 
 -- what is published of a vector that was read, whose canonical text is given; it lacks no base metric, unless it may

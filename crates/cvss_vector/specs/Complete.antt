@@ -1,12 +1,11 @@
 -- The base metrics that a vector lacks. Only CVSS v3 has texts that lack some.
-use Rattle.std.specs.Prelude.{◌≡◌, ◌⊎◌, ℕ, Bool, true, false, List, ◌++◌, Option, Some, None}
+use Rattle.std.specs.Prelude.{◌≡◌, ◌⊎◌, ℕ, Bool, true, false, List, Option, Some, None}
 use Rattle.std.specs.Option.{option_map}
 use Rattle.std.specs.Str.{IsUtf8}
 use Rattle.cvss_base.specs.Refusal.{Missing}
 use Rattle.cvss_vector.specs.v3.Complete.{first_missing_base}
 use Rattle.cvss_vector.specs.Dispatch.{DenotesCvss}
-use Rattle.cvss_vector.specs.Published.{IsPublishedAs, vector_line}
-use Rattle.cvss_vector.specs.Reasons.{error_line}
+use Rattle.cvss_vector.specs.Published.{IsPublishedAs}
 use Rattle.cvss_vector.specs.Refusals.{IsReadError, IsReadErrorFor}
 use Rattle.cvss_vector.specs.declared.metric_type.MetricType.{MetricType}
 use Rattle.cvss_vector.specs.declared.metric_type.MetricType.TheVariants.{V3}
@@ -48,11 +47,3 @@ pub record IsMissingError (allow_incomplete : Bool) (text : List ℕ) (error : R
 -- the error is right: the bytes are the text of no vector for this reason, or of one that lacks base metrics and may not
 abbrev pub IsReadErrorBy : Bool → List ℕ → ReadError → Type 0
 IsReadErrorBy allow_incomplete text error = IsReadError text error ⊎ IsMissingError allow_incomplete text error
-
--- what is appended: the line of the vector that the text denotes, or that of an error that is right
-abbrev pub IsPublishedTo : Bool → List ℕ → List ℕ → Bool → List ℕ → Type 0
-IsPublishedTo allow_incomplete text old true new =
-    (canonical : List ℕ) × (published : Published) × IsPublishedBy allow_incomplete text canonical published
-    × (new ≡ old ++ vector_line canonical published)
-IsPublishedTo allow_incomplete text old false new =
-    (error : ReadError) × IsReadErrorBy allow_incomplete text error × (new ≡ old ++ error_line error)

@@ -1,11 +1,11 @@
 -- What the private code of the front door does, and the versions as it has them: CVSS v3.0 and v3.1 are one, with two
 -- minor versions.
-use Rattle.std.specs.Prelude.{◌≡◌, ◌≤◌, ◌⊎◌, ℕ, zero, suc, Bool, List, [], ◌∷◌, ◌++◌, codes, Option, IfSome, Result, Ok, Err, OnOk, IfOk, IfErr, IsErrAnd}
+use Rattle.std.specs.Prelude.{◌≡◌, ◌≤◌, ◌⊎◌, ℕ, zero, suc, Bool, true, false, List, [], ◌∷◌, ◌++◌, codes, Option, IfSome, Result, Ok, Err, OnOk, IfOk, IfErr, IsErrAnd, ⊤}
 use Rattle.std.specs.Str.{IsUtf8}
 use Rattle.cvss_base.specs.Refusal.{Refusal}
 use Rattle.cvss_base.specs.Text.{pieces}
 use Rattle.cvss_base.specs.V4Types.{most_metrics}
-use Rattle.cvss_base.specs.Version.{numeral, version_piece}
+use Rattle.cvss_base.specs.Version.{Version, numeral, version_piece}
 use Rattle.cvss_text.specs.Route.{Route, ToV30, ToV31, route_of}
 use Rattle.cvss_text.specs.declared.walk.Fault.{Fault}
 use Rattle.cvss_text.specs.private.Walk as walk
@@ -14,18 +14,22 @@ use Rattle.cvss_vector.specs.v3.Vector.{v3}
 use Rattle.cvss_vector.specs.declared.v3.vector.Vector as vector_v3
 use Rattle.cvss_vector.specs.v4.Vector.{v4}
 use Rattle.cvss_vector.specs.Answers.{HasScore}
-use Rattle.cvss_vector.specs.Complete.{IsMissingError}
+use Rattle.cvss_vector.specs.Complete.{IsMissingError, IsPublishedBy, IsReadErrorBy}
 use Rattle.cvss_vector.specs.Dispatch as spec
+use Rattle.cvss_vector.specs.Published.{vector_line}
+use Rattle.cvss_vector.specs.Reasons.{error_line}
 use Rattle.cvss_vector.specs.Refusals.{IsReadErrorFor, refusal_of}
 use Rattle.cvss_vector.specs.declared.metric_type.MetricType.{MetricType}
 use Rattle.cvss_vector.specs.declared.metric_type.MetricType.TheVariants.{V2, V3, V4}
-use Rattle.cvss_vector.specs.declared.reading.ReadFault.{ReadFault}
-use Rattle.cvss_vector.specs.declared.reading.ReadFault.TheVariants as reported
+use Rattle.cvss_vector.specs.declared.published.Published.{Published}
 use Rattle.cvss_vector.specs.declared.refusal.ReadError.{ReadError}
 use Rattle.cvss_vector.specs.declared.refusal.Refusal as declared
+use Rattle.cvss_vector.specs.declared.refusal.Refusal.TheVariants as named
 use Rattle.cvss_vector.specs.declared.setting.SetError.{SetError}
 use Rattle.cvss_vector.specs.declared.vector.Cvss.{Cvss}
 use Rattle.cvss_vector.specs.declared.vector.Cvss.TheVariants.{CvssV30, CvssV31}
+use Rattle.cvss_vector.specs.private.ErrorLaws.{HasMissingError}
+pub mod ErrorLaws
 
 -- the front of a vector, from the major version with its dot, and the minor version
 abbrev pub front_of : List ℕ → ℕ → List (List ℕ)
@@ -52,32 +56,35 @@ pub record IsRouted (has_minor : ℕ → Type 0) (route : ℕ → Route) (front 
 abbrev pub IsRoutedV3 : List ℕ → List ℕ → ℕ → Type 0
 IsRoutedV3 = IsRouted (λ minor. minor ≤ 1) route_v3 (front_of (codes "3."))
 
--- the reason that a fault stands for, whatever version found it
-abbrev pub reason_read : ReadFault → Refusal MetricType
-reason_read (reported.V2 fault) = spec.wrapped V2 (walk.reason_of v2 fault)
-reason_read (reported.V3 fault) = spec.wrapped V3 (walk.reason_of v3 fault)
-reason_read (reported.V4 fault) = spec.wrapped V4 (walk.reason_of v4 fault)
-
--- and it can be reported
-abbrev pub IsPrintableFault : ReadFault → Type 0
-IsPrintableFault (reported.V2 fault) = walk.IsPrintable v2 fault
-IsPrintableFault (reported.V3 fault) = walk.IsPrintable v3 fault
-IsPrintableFault (reported.V4 fault) = walk.IsPrintable v4 fault
+-- an error can say the reason: its text is UTF-8, and of CVSS v3 no metric is missing
+abbrev pub IsReportable : declared.Refusal → Type 0
+IsReportable (named.BadComponent component) = IsUtf8 component.bytes.now
+IsReportable (named.WrongPrefix prefix) = IsUtf8 prefix.bytes.now
+IsReportable (named.WrongVersion version) = IsUtf8 version.bytes.now
+IsReportable (named.UnknownName name) = IsUtf8 name.bytes.now
+IsReportable (named.BadValue metric value) = IsUtf8 value.bytes.now
+IsReportable (named.Repeated metric) = ⊤
+IsReportable (named.Missing metric) = HasMissingError metric
 
 -- what reading a text answers: the vector that it denotes, or the first reason why there is none
-pub record IsRead (text : List ℕ) (answer : Result Cvss ReadFault) : Type 0 where
+pub record IsRead (text : List ℕ) (answer : Result Cvss declared.Refusal) : Type 0 where
   pub denoted : IfOk answer (λ cvss. spec.DenotesCvss text cvss)
   pub accepts : (cvss : Cvss) → spec.DenotesCvss text cvss → answer ≡ Ok cvss
   pub scored : IfOk answer (λ cvss. HasScore cvss)
   pub utf8 : OnOk answer (IsUtf8 text)
-  pub refused : IfErr answer (λ fault. spec.IsFirstRefusalCvss text (reason_read fault))
-  pub refuses : (reason : Refusal MetricType) → spec.IsFirstRefusalCvss text reason → IsErrAnd answer (λ fault. reason_read fault ≡ reason)
-  pub printable : IsUtf8 text → IfErr answer IsPrintableFault
+  pub refused : IfErr answer (λ refusal. spec.IsFirstRefusalCvss text (refusal_of refusal))
+  pub refuses : (reason : Refusal MetricType) → spec.IsFirstRefusalCvss text reason → IsErrAnd answer (λ refusal. refusal_of refusal ≡ reason)
+  pub reportable : IsUtf8 text → IfErr answer IsReportable
 
--- what reading a text into a vector of its version answers, as a vector of any version, or as the fault of one
-abbrev pub read_as : {V K : Type 0} → (V → Cvss) → (Fault K → ReadFault) → Result (Unit {0}) (Fault K) → V → Result Cvss ReadFault
-read_as wrap reported (Ok _) v = Ok (wrap v)
-read_as wrap reported (Err fault) v = Err (reported fault)
+-- the reason stands for a fault that a version found, and an error can say it if the fault can be reported
+pub record IsReasonFor {V K : Type 0} (version : Version V K) (wrap : K → MetricType) (fault : Fault K) (refusal : declared.Refusal) : Type 0 where
+  pub is : refusal_of refusal ≡ spec.wrapped wrap (walk.reason_of version fault)
+  pub reportable : walk.IsPrintable version fault → IsReportable refusal
+
+-- what the rules of a version read of a text's components is what the text denotes, or why it is refused
+pub record IsReadByRules {V K : Type 0} (version : Version V K) (join : V → Cvss) (wrap : K → MetricType) (text components : List ℕ) (empty : V) : Type 0 where
+  pub accepted : (done : Unit {0}) (v : V) → walk.IsReadLeft version (pieces components) empty (Ok done) v → IsRead text (Ok (join v))
+  pub refused : (fault : Fault K) (v : V) (refusal : declared.Refusal) → walk.IsReadLeft version (pieces components) empty (Err fault) v → IsReasonFor version wrap fault refusal → IsRead text (Err refusal)
 
 -- why nothing is published of a text: it is refused, or each error of this reason says a base metric that its vector lacks
 -- and may not
@@ -85,6 +92,14 @@ abbrev pub IsUnpublished : Bool → List ℕ → declared.Refusal → Type 0
 IsUnpublished allow_incomplete text refusal =
     spec.IsFirstRefusalCvss text (refusal_of refusal)
     ⊎ ((error : ReadError) → IsReadErrorFor text (refusal_of refusal) error → IsMissingError allow_incomplete text error)
+
+-- what is written in answer to a text: the line of the vector that the text denotes, or that of an error that is right
+abbrev pub IsPublishedTo : Bool → List ℕ → List ℕ → Bool → List ℕ → Type 0
+IsPublishedTo allow_incomplete text old true new =
+    (canonical : List ℕ) × (published : Published) × IsPublishedBy allow_incomplete text canonical published
+    × (new ≡ old ++ vector_line canonical published)
+IsPublishedTo allow_incomplete text old false new =
+    (error : ReadError) × IsReadErrorBy allow_incomplete text error × (new ≡ old ++ error_line error)
 
 -- what is answered where these are the vectors and these the reasons: no other vector, and no other reason
 pub record IsAnsweredBy (IsIt : Cvss → Type 0) (IsReason : Option ℕ → Refusal MetricType → Type 0) (answer : Result Cvss SetError) : Type 0 where

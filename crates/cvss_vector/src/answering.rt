@@ -1,20 +1,21 @@
-//! The answer to one line.
+//! The answer to one line that is the text of a vector.
 
-ghost use Rattle.std.specs.Prelude.{◌≡◌, ℕ, ◌++◌, ◌≤◌, IfOk, OnOk};
-ghost use Rattle.cvss_lines.specs.Answers.{WritesAnswer, written_text};
-ghost use Rattle.cvss_vector.specs.Answers.{text_of, vector_answer};
+ghost use Rattle.std.specs.Prelude.{ℕ, IfOk};
+ghost use Rattle.cvss_lines.specs.Answers.{WritesAnswer};
 ghost use Rattle.cvss_vector.specs.Lines.{IsAnswer, score_rule};
-ghost use Rattle.cvss_vector.specs.Published.{IsPublished, vector_line};
-ghost use Rattle.cvss_vector.specs.Reasons.{error_line};
+ghost use Rattle.cvss_vector.specs.private.{IsPublishedTo, IsRouted, IsUnpublished};
 
-use crate::lines::{push_error, push_line};
-use crate::published::Published;
-use crate::refusal::ReadError;
-use crate::score_lines::score_line;
-use crate::vector::Cvss;
+use crate::lines::{write_canonical, write_error};
+use crate::one_version::OneVersion;
+use crate::publishing::published_by;
+use crate::reading::{read_error_of, unread};
+use crate::refusal::Refusal;
+use crate::{v2, v3, v4};
 use cvss_lines::{Answering, OutputBuffer};
+use cvss_text::buffer::TextBuffer;
+use cvss_text::route::{Route, route_of_text};
+use cvss_text::walk::read_text;
 use std::alloc::{AllocError, Global};
-use std::fmt::{self, Write};
 
 /// Lines that are texts of vectors, each answered by the vector or by why there is none.
 pub struct Vectors {}
@@ -38,7 +39,7 @@ impl Answering for Vectors {
 ///
 /// # Errors
 ///
-/// Out of memory.
+/// Out of memory. A beginning of the answer may be written then.
 #[inline(always)]
 #[tactic(auto, using(crate::proofs::AnsweringLemmas::published_written))]
 pub fn answer_score(
@@ -49,64 +50,65 @@ pub fn answer_score(
     ensures { (number : ℕ) → IfOk result (WritesAnswer (score_rule allow_incomplete) number line.now
         answers.old.bytes.items answers.new.bytes.items) }
 {
-    Cvss::publish(line, allow_incomplete, &mut answers.bytes)
-}
-
-/// Writes why a line is no vector, and a byte 10.
-///
-/// # Errors
-///
-/// Out of memory. A beginning of the answer may be written then.
-pub fn write_error(error: ReadError<'_>, answers: &mut OutputBuffer) -> Result<(), AllocError>
-    ensures { OnOk result (answers.new.bytes.items
-        ≡ answers.old.bytes.items ++ error_line error.entry) }
-{
-    push_error(error, &mut answers.bytes)
-}
-
-/// Writes a canonical text with what is published of its vector, and a byte 10: the answer to it.
-///
-/// # Errors
-///
-/// If memory runs out, whereupon a beginning of the answer may be written.
-#[inline(always)]
-pub fn write_canonical(
-    text: &[u8],
-    published: Published,
-    answers: &mut OutputBuffer,
-) -> Result<(), AllocError>
-    requires { published.tenths ≤ 100 }
-    ensures { OnOk result (answers.new.bytes.items
-        ≡ answers.old.bytes.items ++ vector_line text.now published) }
-{
-    push_line(text, published, &mut answers.bytes)
-}
-
-/// Writes a vector's text with what is published of it, and a byte 10: the vector's answer.
-///
-/// # Errors
-///
-/// Out of memory. A beginning of the answer may be written then.
-pub fn write_vector(
-    vector: &Cvss,
-    published: Published,
-    answers: &mut OutputBuffer,
-) -> Result<(), AllocError>
-    requires { IsPublished vector.now published }
-    ensures { OnOk result (answers.new.bytes.items ≡ answers.old.bytes.items
-        ++ written_text (vector_answer vector.now published.tenths)) }
-{
-    match write_text(vector, answers) {
-        Ok(()) => answers.push(score_line(published).as_bytes()),
-        Err(_) => Err(AllocError),
+    let route = route_of_text(line);
+    // The text is copied at one place for all versions, so that the compiler can inline it.
+    if let Some(published) = published_by(line, &route) {
+        write_canonical(line, published, answers)?;
+        return Ok(true);
+    }
+    match route {
+        Route::V20 => answer_rest::<v2::Vector>(line, line, 0, allow_incomplete, answers),
+        Route::V30(left) => answer_rest::<v3::Vector>(line, left, 0, allow_incomplete, answers),
+        Route::V31(left) => answer_rest::<v3::Vector>(line, left, 1, allow_incomplete, answers),
+        Route::V40(left) => answer_rest::<v4::Vector>(line, left, 0, allow_incomplete, answers),
+        Route::Unversioned(why) => { reject(line, allow_incomplete, unread(line, why), answers) }
     }
 }
 
-/// Writes a vector's text.
-#[tactic(auto, using(cvss_lines::proofs::TextsLemmas::appended))]
-fn write_text(vector: &Cvss, answers: &mut OutputBuffer) -> fmt::Result
-    ensures { OnOk result
-        (answers.new.bytes.items ≡ answers.old.bytes.items ++ text_of vector.now) }
+/// Answers a line that is not seen to be canonical.
+// A call of its own keeps the buffer out of the frame of a canonical text.
+#[inline(never)]
+fn answer_rest<V: OneVersion>(
+    line: &[u8],
+    components: &[u8],
+    minor_version: usize,
+    allow_incomplete: bool,
+    answers: &mut OutputBuffer,
+) -> Result<bool, AllocError>
+    requires { IsRouted V.has_minor V.route V.front line.now components.now minor_version }
+    ensures { IfOk result (λ is. IsPublishedTo allow_incomplete line.now
+        answers.old.bytes.items is answers.new.bytes.items) }
 {
-    write!(answers, "{vector}")
+    let mut vector = V::without_metrics(minor_version);
+    V::reads_by_its_rules(line, components, minor_version, vector);
+    if let Err(fault) = read_text(components, &mut vector) {
+        return reject(
+            line,
+            allow_incomplete,
+            Refusal::of_version::<V>(fault),
+            answers,
+        );
+    }
+    if let Some(metric) = vector.join(minor_version).missing_by(allow_incomplete) {
+        return reject(line, allow_incomplete, Refusal::Missing(metric), answers);
+    }
+    let mut buffer = TextBuffer::new();
+    let canonical = vector.canonical(minor_version, &mut buffer);
+    write_canonical(canonical, vector.join(minor_version).published(), answers)?;
+    Ok(true)
+}
+
+/// Answers a line by why it is rejected.
+fn reject(
+    line: &[u8],
+    allow_incomplete: bool,
+    refusal: Refusal<'_>,
+    answers: &mut OutputBuffer,
+) -> Result<bool, AllocError>
+    requires { IsUnpublished allow_incomplete line.now refusal }
+    ensures { IfOk result (λ is. IsPublishedTo allow_incomplete line.now
+        answers.old.bytes.items is answers.new.bytes.items) }
+{
+    write_error(read_error_of(line, refusal), answers)?;
+    Ok(false)
 }

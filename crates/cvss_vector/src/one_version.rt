@@ -1,29 +1,28 @@
 //! What each version brings to a vector of any version. CVSS v3.0 and v3.1 are one version here, with
 //! two minor versions.
 
-ghost use Rattle.std.specs.Prelude.{◌≡◌, ◌≤◌, [], ℕ, Bool, List, None, Result, codes, ⊤};
-ghost use Rattle.cvss_base.specs.Text.{pieces};
+ghost use Rattle.std.specs.Prelude.{◌≡◌, ◌≤◌, [], ℕ, Bool, List, None, Option, codes, ⊤};
+ghost use Rattle.cvss_base.specs.Refusal.{Refusal};
+ghost use Rattle.cvss_base.specs.V2Types.{v2_reason};
+ghost use Rattle.cvss_base.specs.V3Types.{v3_reason};
+ghost use Rattle.cvss_base.specs.V4Types.{v4_reason};
 ghost use Rattle.cvss_base.specs.Version.{canonical_text};
+ghost use Rattle.cvss_base.specs.declared.error.Error.{Error};
 ghost use Rattle.cvss_text.specs.Route.{Route, ToV20, ToV40};
-ghost use Rattle.cvss_text.specs.declared.walk.Fault.{Fault};
-ghost use Rattle.cvss_text.specs.private.Walk.{IsReadLeft};
 ghost use Rattle.cvss_vector.specs.Answers.{text_of};
 ghost use Rattle.cvss_vector.specs.Complete.{missing_by};
 ghost use Rattle.cvss_vector.specs.declared.metric_type.MetricType.{MetricType};
 ghost use Rattle.cvss_vector.specs.declared.metric_type.MetricType.TheVariants as of;
-ghost use Rattle.cvss_vector.specs.declared.reading.ReadFault.{ReadFault};
-ghost use Rattle.cvss_vector.specs.declared.reading.ReadFault.TheVariants as read;
 ghost use Rattle.cvss_vector.specs.declared.vector.Cvss.{Cvss};
 ghost use Rattle.cvss_vector.specs.declared.vector.Cvss.TheVariants as wrapped;
-ghost use Rattle.cvss_vector.specs.private.{IsRead, IsRouted, front_of, read_as, route_v3, wrapped_v3};
+ghost use Rattle.cvss_vector.specs.private.{IsReadByRules, IsRouted, front_of, route_v3, wrapped_v3};
+ghost use Rattle.cvss_vector.specs.private.ErrorLaws.{ErrorLaws, v2_errors, v3_errors, v4_errors};
 
 use crate::metric_type::MetricType;
-use crate::reading::ReadFault;
 use crate::vector::Cvss;
 use crate::{v2, v3, v4};
 use cvss_text::buffer::TextBuffer;
 use cvss_text::print::{Printed, text_after};
-use cvss_text::walk::Fault;
 
 /// A vector of some version, which has minor versions. CVSS v2 has one.
 pub trait Versioned: Printed {
@@ -45,7 +44,7 @@ pub(crate) trait OneVersion: Versioned {
 
     ghost has_minor: { ℕ → Type 0 };
 
-    ghost reported: { Fault Self.Kind → ReadFault };
+    ghost reason: { Error → Option (Refusal Self.Kind) };
 
     /// The metric as one of any version.
     fn of_any(kind: Self::Kind) -> MetricType
@@ -55,18 +54,13 @@ pub(crate) trait OneVersion: Versioned {
     fn join(self, minor_version: usize) -> Cvss
         ensures { result ≡ joined minor_version self };
 
-    /// The fault as one that any version may have found.
-    fn reported<'a>(fault: Fault<'a, Self::Kind>) -> ReadFault<'a>
-        ensures { result ≡ reported fault.entry };
-
     /// What the rules of this version read of the components of a text that says it, is what the text
     /// denotes. A law: it does nothing.
     fn reads_by_its_rules(text: &[u8], components: &[u8], minor_version: usize, empty: Self)
         requires routed { IsRouted has_minor route Self.front text.now components.now minor_version }
         requires front { Self.version.front empty ≡ Self.front minor_version }
-        ensures read { (answer : Result (Unit {0}) (Fault Self.Kind)) (v : Self)
-            → IsReadLeft Self.version (pieces components.now) empty answer v
-            → IsRead text.now (read_as (joined minor_version) reported answer v) }
+        ensures read { IsReadByRules Self.version (joined minor_version) wrap text.now
+            components.now empty }
         ensures text { (v : Self) → text_of (joined minor_version v) ≡ canonical_text Self.version v }
         ensures complete { (allow_incomplete : Bool) (v : Self) → Self.has_base v
             → missing_by allow_incomplete (joined minor_version v) ≡ None };
@@ -77,6 +71,8 @@ pub(crate) trait OneVersion: Versioned {
         requires front { Self.version.front self.now ≡ Self.front minor_version }
         requires empty { buffer.old ≡ [] }
         ensures { result.now ≡ canonical_text Self.version self.now };
+
+    ghost error_laws: { ErrorLaws Self.Components.version wrap reason };
 }
 
 impl Versioned for v2::Vector {
@@ -97,7 +93,9 @@ impl OneVersion for v2::Vector {
 
     ghost has_minor = { λ _. ⊤ };
 
-    ghost reported = { read.V2 };
+    ghost reason = { v2_reason };
+
+    ghost error_laws = { v2_errors };
 
     fn of_any(kind: cvss_base::v2::MetricType) -> MetricType {
         MetricType::V2(kind)
@@ -106,13 +104,6 @@ impl OneVersion for v2::Vector {
     #[inline(always)]
     fn join(self, _minor_version: usize) -> Cvss {
         Cvss::CvssV20(self)
-    }
-
-    #[inline(always)]
-    fn reported<'a>(fault: Fault<'a, cvss_base::v2::MetricType>) -> ReadFault<'a>
-        ensures { result ≡ read.V2 fault.entry }
-    {
-        ReadFault::V2(fault)
     }
 
     #[inline(always)]
@@ -144,7 +135,9 @@ impl OneVersion for v3::Vector {
 
     ghost has_minor = { λ minor. minor ≤ 1 };
 
-    ghost reported = { read.V3 };
+    ghost reason = { v3_reason };
+
+    ghost error_laws = { v3_errors };
 
     fn of_any(kind: cvss_base::v3::MetricType) -> MetricType {
         MetricType::V3(kind)
@@ -156,13 +149,6 @@ impl OneVersion for v3::Vector {
             0 => Cvss::CvssV30(self),
             _ => Cvss::CvssV31(self),
         }
-    }
-
-    #[inline(always)]
-    fn reported<'a>(fault: Fault<'a, cvss_base::v3::MetricType>) -> ReadFault<'a>
-        ensures { result ≡ read.V3 fault.entry }
-    {
-        ReadFault::V3(fault)
     }
 
     #[inline(always)]
@@ -197,7 +183,9 @@ impl OneVersion for v4::Vector {
 
     ghost has_minor = { λ minor. minor ≡ 0 };
 
-    ghost reported = { read.V4 };
+    ghost reason = { v4_reason };
+
+    ghost error_laws = { v4_errors };
 
     fn of_any(kind: cvss_base::v4::MetricType) -> MetricType {
         MetricType::V4(kind)
@@ -206,13 +194,6 @@ impl OneVersion for v4::Vector {
     #[inline(always)]
     fn join(self, _minor_version: usize) -> Cvss {
         Cvss::CvssV40(self)
-    }
-
-    #[inline(always)]
-    fn reported<'a>(fault: Fault<'a, cvss_base::v4::MetricType>) -> ReadFault<'a>
-        ensures { result ≡ read.V4 fault.entry }
-    {
-        ReadFault::V4(fault)
     }
 
     #[inline(always)]

@@ -1,38 +1,26 @@
-//! How a text is read by the rules of the version that it says. It takes no memory: a fault borrows
+//! How a text is read by the rules of the version that it says. It takes no memory: a reason borrows
 //! the part of the text that it names.
 
 ghost use Rattle.std.specs.Prelude.{◌≡◌, ◌↔◌, IsTrue, IsUtf8, Err};
-ghost use Rattle.cvss_base.specs.Reported.{Reports};
 ghost use Rattle.cvss_text.specs.Route.{ToNoVersion, route_of};
 ghost use Rattle.cvss_text.specs.private.Routing as is_reported;
 ghost use Rattle.cvss_text.specs.private.Routing.{why_of};
 ghost use Rattle.cvss_vector.specs.Bytes.{IsRefusedAs};
-ghost use Rattle.cvss_vector.specs.Dispatch.{cvss_reason, without_version};
 ghost use Rattle.cvss_vector.specs.Refusals.{IsReadErrorFor, refusal_of};
-ghost use Rattle.cvss_vector.specs.private.{IsPrintableFault, IsRead, IsRouted, reason_read};
+ghost use Rattle.cvss_vector.specs.private.{IsRead, IsReportable, IsRouted};
 
 use crate::bytes_error::BytesError;
 use crate::one_version::OneVersion;
 use crate::refusal::{ReadError, Refusal};
+use crate::refusing::error_of;
 use crate::vector::Cvss;
 use crate::{v2, v3, v4};
-use cvss_base::Error;
-use cvss_text::refusing;
 use cvss_text::route::{NoVersion, Route, route_of_text};
-use cvss_text::walk::{Fault, read_text};
+use cvss_text::walk::read_text;
 use std::alloc::Global;
 
-/// Why a text denotes no vector, as the version found by whose rules it was read. That a text says
-/// no version is said as CVSS v2 says it.
-#[derive(Drop)]
-pub(crate) enum ReadFault<'a> {
-    V2(Fault<'a, cvss_base::v2::MetricType>),
-    V3(Fault<'a, cvss_base::v3::MetricType>),
-    V4(Fault<'a, cvss_base::v4::MetricType>),
-}
-
 /// The vector that a text denotes, or the first reason why there is none.
-pub(crate) fn read(text: &[u8]) -> Result<Cvss, ReadFault<'_>>
+pub(crate) fn read(text: &[u8]) -> Result<Cvss, Refusal<'_>>
     ensures { IsRead text.now result }
 {
     match route_of_text(text) {
@@ -52,7 +40,7 @@ fn read_version<'a, V: OneVersion>(
     text: &'a [u8],
     components: &'a [u8],
     minor_version: usize,
-) -> Result<Cvss, ReadFault<'a>>
+) -> Result<Cvss, Refusal<'a>>
     requires { IsRouted V.has_minor V.route V.front text.now components.now minor_version }
     ensures { IsRead text.now result }
 {
@@ -60,50 +48,26 @@ fn read_version<'a, V: OneVersion>(
     V::reads_by_its_rules(text, components, minor_version, vector);
     match read_text(components, &mut vector) {
         Ok(()) => Ok(vector.join(minor_version)),
-        Err(fault) => Err(V::reported(fault)),
+        Err(fault) => Err(Refusal::of_version::<V>(fault)),
     }
 }
 
-/// The fault of a text that says no version.
-pub(crate) fn unread<'a>(text: &'a [u8], why: NoVersion<'a>) -> ReadFault<'a>
+/// Why a text that says no version is rejected.
+pub(crate) fn unread<'a>(text: &'a [u8], why: NoVersion<'a>) -> Refusal<'a>
     requires route { route_of text.now ≡ ToNoVersion (why_of why) }
     requires printable { IsUtf8 text.now → is_reported.IsPrintable why }
     ensures { IsRead text.now (Err result) }
 {
-    fault_of(why)
+    Refusal::without_version(why)
 }
 
-/// The fault that a text says no version.
-fn fault_of<'a>(why: NoVersion<'a>) -> ReadFault<'a>
-    ensures reason { reason_read result ≡ without_version (why_of why.entry) }
-    ensures printable { is_reported.IsPrintable why.entry → IsPrintableFault result }
-{
-    ReadFault::V2(match why {
-        NoVersion::InvalidComponent(piece) => Fault::InvalidComponent(piece),
-        NoVersion::InvalidPrefix(prefix) => Fault::InvalidPrefix(prefix),
-        NoVersion::UnsupportedVersion(version) => Fault::UnsupportedVersion(version),
-    })
-}
-
-/// The error that says a fault, or that there is no memory for the text that the fault names.
-pub(crate) fn error_of(alloc: Global, fault: ReadFault<'_>) -> Error
-    requires { IsPrintableFault fault }
-    ensures { Reports cvss_reason (reason_read fault.entry) result }
-{
-    match fault {
-        ReadFault::V2(fault) => refusing::error_of::<v2::Vector>(alloc, fault),
-        ReadFault::V3(fault) => refusing::error_of::<v3::Vector>(alloc, fault),
-        ReadFault::V4(fault) => refusing::error_of::<v4::Vector>(alloc, fault),
-    }
-}
-
-/// The error of bytes in which a fault was found: that they are no text, or that of the fault.
-pub(crate) fn bytes_error_of(alloc: Global, text: &[u8], fault: ReadFault<'_>) -> BytesError
-    requires { IsUtf8 text.now → IsPrintableFault fault }
-    ensures { IsRefusedAs text.now (reason_read fault.entry) result }
+/// The error of bytes that are refused so: that they are no text, or that of the reason.
+pub(crate) fn bytes_error_of(alloc: Global, text: &[u8], refusal: Refusal<'_>) -> BytesError
+    requires { IsUtf8 text.now → IsReportable refusal }
+    ensures { IsRefusedAs text.now (refusal_of refusal.entry) result }
 {
     match str::from_utf8(text) {
-        Ok(_) => BytesError::Invalid(error_of(alloc, fault)),
+        Ok(_) => BytesError::Invalid(error_of(alloc, refusal)),
         Err(_) => BytesError::NotUtf8,
     }
 }

@@ -2,17 +2,18 @@
 
 ghost use Rattle.std.specs.Prelude.{◌≡◌};
 ghost use Rattle.cvss_text.specs.private.Walk.{reason_of};
-ghost use Rattle.cvss_vector.specs.Dispatch.{wrapped};
+ghost use Rattle.cvss_text.specs.private.Routing.{IsPrintable, why_of};
+ghost use Rattle.cvss_vector.specs.Dispatch.{without_version, wrapped};
 ghost use Rattle.cvss_vector.specs.Refusals.{refusal_of};
 ghost use Rattle.cvss_vector.specs.declared.metric_type.MetricType.TheVariants as of;
-ghost use Rattle.cvss_vector.specs.private.{reason_read};
+ghost use Rattle.cvss_vector.specs.private.{IsReasonFor, IsReportable};
 ghost use Rattle.cvss_vector.specs.v4.Vector.{v4};
 
 use crate::metric_type::MetricType;
 use crate::one_version::OneVersion;
-use crate::reading::ReadFault;
 use crate::segment::Segment;
-use crate::{v2, v3, v4};
+use crate::v4;
+use cvss_text::route::NoVersion;
 use cvss_text::walk::Fault;
 
 /// The first reason why a text is refused, with the part of the text or the metric that it names.
@@ -52,20 +53,23 @@ impl<'a> From<Fault<'a, cvss_base::v4::MetricType>> for Refusal<'a> {
 }
 
 impl<'a> Refusal<'a> {
-    /// The reason of a fault, whatever version found it.
-    pub(crate) fn of(fault: ReadFault<'a>) -> Refusal<'a>
-        ensures { refusal_of result ≡ reason_read fault.entry }
+    /// The reason why a text says no version.
+    pub(crate) fn without_version(why: NoVersion<'a>) -> Refusal<'a>
+        ensures reason { refusal_of result ≡ without_version (why_of why.entry) }
+        ensures reportable { IsPrintable why.entry → IsReportable result }
     {
-        match fault {
-            ReadFault::V2(fault) => Refusal::of_version::<v2::Vector>(fault),
-            ReadFault::V3(fault) => Refusal::of_version::<v3::Vector>(fault),
-            ReadFault::V4(fault) => Refusal::from(fault),
+        match why {
+            NoVersion::InvalidComponent(piece) => Refusal::BadComponent(Segment::given(piece)),
+            NoVersion::InvalidPrefix(prefix) => Refusal::WrongPrefix(Segment::given(prefix)),
+            NoVersion::UnsupportedVersion(version) => Refusal::WrongVersion(Segment::given(
+                version,
+            )),
         }
     }
 
     /// The reason of a fault that one version found.
     pub(crate) fn of_version<V: OneVersion>(fault: Fault<'a, V::Kind>) -> Refusal<'a>
-        ensures { refusal_of result ≡ wrapped V.wrap (reason_of V.version fault.entry) }
+        ensures { IsReasonFor V.version V.wrap fault.entry result }
     {
         match fault {
             Fault::InvalidComponent(piece) => Refusal::BadComponent(Segment::given(piece)),

@@ -5,8 +5,9 @@ ghost use Rattle.cvss_vector.specs.Answers.{text_of};
 
 use crate::bytes_error::BytesError;
 use crate::metrics::Metrics;
-use crate::reading::{bytes_error_of, error_of, read, read_error_of};
-use crate::refusal::{ReadError, Refusal as BorrowedRefusal};
+use crate::reading::{bytes_error_of, read, read_error_of};
+use crate::refusal::ReadError;
+use crate::refusing::error_of;
 use crate::{v2, v3, v4};
 use cvss_base::tenths::text_of as text_of_tenths;
 use cvss_base::{Error, Severity, TENTH, severity_of_score};
@@ -64,7 +65,7 @@ impl Cvss {
     {
         match read(text.as_bytes()) {
             Ok(cvss) => Ok(cvss),
-            Err(fault) => Err(error_of(alloc, fault)),
+            Err(refusal) => Err(error_of(alloc, refusal)),
         }
     }
 
@@ -91,7 +92,7 @@ impl Cvss {
     {
         match read(text) {
             Ok(cvss) => Ok(cvss),
-            Err(fault) => Err(bytes_error_of(alloc, text, fault)),
+            Err(refusal) => Err(bytes_error_of(alloc, text, refusal)),
         }
     }
 
@@ -117,7 +118,7 @@ impl Cvss {
     {
         match read(text) {
             Ok(cvss) => Ok(cvss),
-            Err(fault) => Err(read_error_of(text, BorrowedRefusal::of(fault))),
+            Err(refusal) => Err(read_error_of(text, refusal)),
         }
     }
 

@@ -9,6 +9,7 @@ mod reading;
 mod scores;
 mod weighing;
 
+use crate::refusing::error_of_version;
 use crate::v2::laws::vectors_are_their_values;
 use cvss_base::Error;
 use cvss_metric::v2::base::{
@@ -20,7 +21,6 @@ use cvss_metric::v2::environmental::{
     IntegrityRequirement, TargetDistribution,
 };
 use cvss_metric::v2::temporal::{Exploitability, RemediationLevel, ReportConfidence};
-use cvss_text::refusing::vector_of;
 use cvss_text::walk::read_vector;
 pub use printing::Metrics;
 use std::alloc::Global;
@@ -101,7 +101,10 @@ impl Vector {
         ensures refuses { (reason : Refusal MetricType) → IsFirstRefusal v2 text.now reason
             → IsErrAnd result (Reports v2_reason reason) }
     {
-        vector_of(alloc, text, Vector::empty())
+        match read_vector(text.as_bytes(), Vector::empty()) {
+            Ok(vector) => Ok(vector),
+            Err(fault) => Err(error_of_version::<Vector>(alloc, fault)),
+        }
     }
 
     /// The vector that a text denotes, if there is one. It takes no memory.

@@ -8,6 +8,7 @@ mod reading;
 mod scores;
 mod weighing;
 
+use crate::refusing::vector_after;
 use crate::v3::laws::vectors_are_their_values;
 use cvss_base::Error;
 use cvss_metric::v3::base::{
@@ -20,7 +21,6 @@ use cvss_metric::v3::environmental::{
 };
 use cvss_metric::v3::temporal::{ExploitCodeMaturity, RemediationLevel, ReportConfidence};
 use cvss_text::front::read_after;
-use cvss_text::refusing::vector_after;
 pub use printing::Metrics;
 use std::alloc::Global;
 

@@ -10,11 +10,11 @@ mod printing;
 mod reading;
 mod scores;
 
+use crate::refusing::vector_after;
 use crate::v4::laws::vectors_are_their_values;
 use cvss_base::Error;
 use cvss_metric::v4::{base, environmental, supplemental, threat};
 use cvss_text::front::read_after;
-use cvss_text::refusing::vector_after;
 use cvss_text::walk::Components;
 pub use overriding::OverrideError;
 pub use printing::Metrics;

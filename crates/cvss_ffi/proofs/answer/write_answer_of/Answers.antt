@@ -44,12 +44,12 @@ joined own tenths rating end = simp (append_assoc, append-nil) refl
 
 pub write_segments-length-requires : goal.write_segments-length-requires
 write_segments-length-requires c =
-    simp length-append (omega (arith, c.requires.bound, c.requires.short, ap length c.words.ensures, ap length c.words-2.ensures, ap length c.words-3.ensures, ap length c.words-4.ensures, ap length c.given.ensures, ap length c.text_of.ensures, ap length c.rating_of.ensures, score_short c.tenths-tenths.result c.tenths-tenths.ensures.bound, severity_short (rating_by c.args.cvss.now (score_of_tenths c.tenths-tenths.result))))
+    simp length-append (omega (arith, c.requires.bound, c.requires.short, ap length c.words.ensures, ap length c.words-2.ensures, ap length c.words-3.ensures, ap length c.words-4.ensures, ap length c.given.ensures.text, ap length c.text_of.ensures, ap length c.rating_of.ensures, score_short c.tenths-tenths.result c.tenths-tenths.ensures.bound, severity_short (rating_by c.args.cvss.now (score_of_tenths c.tenths-tenths.result))))
 
 pub returns-then-length-buffer : goal.returns-then-length-buffer
 returns-then-length-buffer c =
     let tenths = c.tenths-tenths.result in
-    let at = rw (c.words.ensures, c.words-2.ensures, c.words-3.ensures, c.words-4.ensures, c.given.ensures, c.text_of.ensures, c.rating_of.ensures) at c.write_segments-length.ensures in (
+    let at = rw (c.words.ensures, c.words-2.ensures, c.words-3.ensures, c.words-4.ensures, c.given.ensures.text, c.text_of.ensures, c.rating_of.ensures) at c.write_segments-length.ensures in (
       vector_answer c.args.cvss.now tenths,
       record { tenths = tenths; scored = c.tenths-tenths.ensures.value; is = refl },
       subst (λ text. IsWritten text c.args.buffer.now c.write_canonical.new.buffer c.write_segments-length.result) (joined _ (tenths_text tenths) _ c.args.end.now)
@@ -59,7 +59,7 @@ returns-then-length-buffer c =
 pub returns-else-length-buffer : goal.returns-else-length-buffer
 returns-else-length-buffer c =
     let tenths = c.tenths-tenths.result in
-    let at = rw (c.words.ensures, c.words-2.ensures, c.words-3.ensures, c.words-4.ensures, c.given.ensures, c.text_of.ensures, c.rating_of.ensures) at c.write_segments-length.ensures in (
+    let at = rw (c.words.ensures, c.words-2.ensures, c.words-3.ensures, c.words-4.ensures, c.given.ensures.text, c.text_of.ensures, c.rating_of.ensures) at c.write_segments-length.ensures in (
       vector_answer c.args.cvss.now tenths,
       record { tenths = tenths; scored = c.tenths-tenths.ensures.value; is = refl },
       subst (λ text. IsWritten text c.args.buffer.now c.write_segments-length.new.buffer c.write_segments-length.result) (joined _ (tenths_text tenths) _ c.args.end.now)

@@ -5,5 +5,5 @@ use Rattle.cvss_vector.proofs.reading.unread.Goals as goal
 
 pub returns : goal.returns
 returns c =
-    read_err c.args.text.now c.fault_of.result (reason_at c.args.text.now (ToNoVersion (why_of c.args.why)) c.requires.route _ c.fault_of.ensures.reason)
-    (λ utf8. c.fault_of.ensures.printable (c.requires.printable utf8))
+    read_err c.args.text.now c.without_version.result (reason_at c.args.text.now (ToNoVersion (why_of c.args.why)) c.requires.route _ c.without_version.ensures.reason)
+    (λ utf8. c.without_version.ensures.reportable (c.requires.printable utf8))

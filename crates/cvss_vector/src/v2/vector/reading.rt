@@ -1,7 +1,7 @@
-//! How a vector is read from a text, and the errors that say why a text is none.
+//! How a vector is read from a text.
 
 ghost use Rattle.std.specs.Prelude.{false, ⊤, ◌≡◌};
-ghost use Rattle.cvss_base.specs.V2Types.{name_of, v2_reason};
+ghost use Rattle.cvss_base.specs.V2Types.{name_of};
 ghost use Rattle.cvss_base.specs.Version.{read, reading};
 ghost use Rattle.cvss_text.specs.private.Walk.{IsFilled, IsPut};
 ghost use Rattle.cvss_metric.specs.v2.Table.{spelling_of};
@@ -12,10 +12,8 @@ use super::cutting::cut_named;
 use super::in_order::put_value;
 use crate::each_v2_metric;
 use crate::v2::vector::Vector;
-use cvss_base::Error;
 use cvss_metric::v2::{MetricType, MetricValue};
 use cvss_text::fast_path::after_three;
-use cvss_text::refusing::Refused;
 use cvss_text::values::{Spells, component_in_order, letter_in_order, two_in_order};
 use cvss_text::walk::{ComponentError, Components};
 use cvss_text::{fill_at, kinds};
@@ -108,22 +106,6 @@ impl Components for Vector {
             Vector { a: None, .. } => Some(MetricType::A),
             _ => None,
         }
-    }
-}
-
-impl Refused for Vector {
-    ghost reason = { v2_reason };
-
-    fn invalid_metric(metric_type: MetricType, value: String) -> Error {
-        Error::InvalidMetricV2 { metric_type, value }
-    }
-
-    fn duplicate_metric(metric_type: MetricType) -> Error {
-        Error::DuplicateMetricV2 { metric_type }
-    }
-
-    fn missing_metric(metric_type: MetricType) -> Option<Error> {
-        Some(Error::MissingMandatoryMetricV2 { metric_type })
     }
 }
 

@@ -1,7 +1,7 @@
-//! How a vector is read from a text, and the errors that say why a text is none.
+//! How a vector is read from a text.
 
 ghost use Rattle.std.specs.Prelude.{◌≡◌, None, true};
-ghost use Rattle.cvss_base.specs.V3Types.{name_of, v3_reason};
+ghost use Rattle.cvss_base.specs.V3Types.{name_of};
 ghost use Rattle.cvss_text.specs.private.Walk.{HasNoValue, IsFilled, IsPut};
 ghost use Rattle.cvss_base.specs.Version.{read, reading};
 ghost use Rattle.cvss_metric.specs.v3.Table.{spelling_of};
@@ -12,11 +12,9 @@ ghost use Rattle.cvss_vector.specs.v3.private.VectorLaws.{with_value, v3_laws, v
 use super::cutting::{named_by_one, named_by_three, named_by_two};
 use crate::each_v3_metric;
 use crate::v3::vector::Vector;
-use cvss_base::Error;
 use cvss_metric::v3::{MetricType, MetricValue, reported_kind};
 use cvss_text::fast_path::after_three;
 use cvss_text::front::Prefixed;
-use cvss_text::refusing::Refused;
 use cvss_text::values::{Spells, component_in_order, letter_in_order, two_in_order};
 use cvss_text::walk::{ComponentError, Components};
 use cvss_text::{fill_at, kinds, put_each};
@@ -116,23 +114,6 @@ impl Prefixed for Vector {
         } else {
             None
         }
-    }
-}
-
-impl Refused for Vector {
-    ghost reason = { v3_reason };
-
-    fn invalid_metric(metric_type: MetricType, value: String) -> Error {
-        Error::InvalidMetricV3 { metric_type, value }
-    }
-
-    fn duplicate_metric(metric_type: MetricType) -> Error {
-        Error::DuplicateMetricV3 { metric_type }
-    }
-
-    /// None: no metric of v3 is mandatory.
-    fn missing_metric(_: MetricType) -> Option<Error> {
-        None
     }
 }
 

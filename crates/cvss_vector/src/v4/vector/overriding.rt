@@ -4,10 +4,10 @@ ghost use Rattle.std.specs.Prelude.{◌≡◌, Some, IfOk, IfErr, OnOk, IsOk, Is
 ghost use Rattle.cvss_vector.specs.v4.Overriding.{AreOverrides, Objection, HasNoObjectionBefore, IsFirstObjection, ReportsObjection, ReportsFirstObjection, override_error_text};
 ghost use Rattle.cvss_vector.specs.v4.private.OverridingSteps.{IsPrintableFault, objection_of};
 
+use crate::refusing::error_of_version;
 use crate::v4::overrides::{OverrideFault, read_overrides};
 use crate::v4::vector::Vector;
 use cvss_base::Error;
-use cvss_text::refusing::error_of;
 use std::alloc::Global;
 use std::fmt;
 
@@ -80,7 +80,7 @@ fn reported(alloc: Global, index: usize, fault: OverrideFault<'_>) -> OverrideEr
         OverrideFault::OtherGroup => OverrideError::NotEnvironmental { index },
         OverrideFault::Component(fault) => OverrideError::Refused {
             index,
-            error: error_of::<Vector>(alloc, fault),
+            error: error_of_version::<Vector>(alloc, fault),
         },
     }
 }

@@ -1,8 +1,8 @@
-//! How a vector is read from a text, and the errors that say why a text is none.
+//! How a vector is read from a text.
 
 ghost use Rattle.std.specs.Prelude.{◌≡◌, ◌∷◌, ◌++◌, IfSome, true, ⊤};
 ghost use Rattle.cvss_base.specs.Text.{slash};
-ghost use Rattle.cvss_base.specs.V4Types.{name_of, v4_reason};
+ghost use Rattle.cvss_base.specs.V4Types.{name_of};
 ghost use Rattle.cvss_base.specs.declared.v4.MetricType.TheVariants.{U};
 ghost use Rattle.cvss_text.specs.private.Walk.{HasNoValue, IsFilled, IsPut};
 ghost use Rattle.cvss_base.specs.Version.{read, reading};
@@ -17,12 +17,10 @@ use super::cutting::{named_by_one, named_by_three, named_by_two};
 use crate::each_v4_metric;
 use crate::v4::laws::vectors_are_their_values;
 use crate::v4::vector::Vector;
-use cvss_base::Error;
 use cvss_metric::v4::supplemental::ProviderUrgency;
 use cvss_metric::v4::{MetricType, MetricValue};
 use cvss_text::fast_path::{after_three, put_read};
 use cvss_text::front::Prefixed;
-use cvss_text::refusing::Refused;
 use cvss_text::values::{Spells, letter_in_order, two_in_order};
 use cvss_text::walk::{ComponentError, Components};
 use cvss_text::{fill_at, kinds, put_each};
@@ -140,22 +138,6 @@ impl Prefixed for Vector {
         } else {
             None
         }
-    }
-}
-
-impl Refused for Vector {
-    ghost reason = { v4_reason };
-
-    fn invalid_metric(metric_type: MetricType, value: String) -> Error {
-        Error::InvalidMetricV4 { metric_type, value }
-    }
-
-    fn duplicate_metric(metric_type: MetricType) -> Error {
-        Error::DuplicateMetricV4 { metric_type }
-    }
-
-    fn missing_metric(metric_type: MetricType) -> Option<Error> {
-        Some(Error::MissingMandatoryMetricV4 { metric_type })
     }
 }
 

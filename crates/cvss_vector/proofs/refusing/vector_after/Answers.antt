@@ -1,6 +1,6 @@
 use Rattle.std.proofs.Common.{subst}
 use Rattle.cvss_base.specs.Reported.{Reports}
-use Rattle.cvss_text.proofs.refusing.vector_after.Goals as goal
+use Rattle.cvss_vector.proofs.refusing.vector_after.Goals as goal
 
 pub returns-in-Ok-clause-denoted : goal.returns-in-Ok-clause-denoted
 returns-in-Ok-clause-denoted g c = rw c.as_bytes.ensures.value at c.in-Ok.ensures.denoted
@@ -18,8 +18,8 @@ pub returns-in-Err-clause-accepts : goal.returns-in-Err-clause-accepts
 returns-in-Err-clause-accepts g c = λ v denotes formed. let same = (rw c.as_bytes.ensures.value at c.in-Err.ensures.accepts) v denotes formed in cc
 
 pub returns-in-Err-clause-refused : goal.returns-in-Err-clause-refused
-returns-in-Err-clause-refused g c = record { reason = _; first = rw c.as_bytes.ensures.value at c.in-Err.ensures.refused; reported = c.error_of.ensures }
+returns-in-Err-clause-refused g c = record { reason = _; first = rw c.as_bytes.ensures.value at c.in-Err.ensures.refused; reported = c.error_of_version.ensures }
 
 pub returns-in-Err-clause-refuses : goal.returns-in-Err-clause-refuses
 returns-in-Err-clause-refuses g c = λ reason first.
-    subst (λ other. Reports g.V.Refused.reason other c.error_of.result) ((rw c.as_bytes.ensures.value at c.in-Err.ensures.refuses) reason first) c.error_of.ensures
+    subst (λ other. Reports g.V.OneVersion.reason other c.error_of_version.result) ((rw c.as_bytes.ensures.value at c.in-Err.ensures.refuses) reason first) c.error_of_version.ensures

@@ -1,7 +1,7 @@
 use Rattle.std.proofs.Common.{◌∙◌}
 use Rattle.std.proofs.lemmas.Result.{on_ok_weaker}
 use Rattle.cvss_vector.proofs.AnsweringLemmas.{answer_written}
-use Rattle.cvss_vector.proofs.answering.write_vector.Goals as goal
+use Rattle.cvss_vector.proofs.lines.write_vector.Goals as goal
 
 pub returns-in-Ok : goal.returns-in-Ok
 returns-in-Ok c =
