@@ -18,7 +18,7 @@ from check_shelves import ROOT, WITHOUT_PROMISES, signatures, sources
 SCORING = "cvss_score/src/v4/scoring"
 
 DERIVED = re.compile(r"^#\[derive\(([^)]*)\)\]\n(?:#\[[^\n]*\n)*pub (?:struct|enum) (\w+)", re.M)
-LAW = re.compile(r"⟦<(?:\w+::)?(\w+)(?:<'static>)? as (?:PartialEq|Clone)>⟧\.(eq|is_clone|is_infallible)")
+LAW = re.compile(r"⟦<(?:\w+::)?(\w+)(?:<'static>|<NUMBER>)? as (?:PartialEq|Clone)>⟧\.(eq|is_clone|is_infallible)")
 METRIC = re.compile(r"^impl(?:<[^>]*>)? MetricEnum for (\w+)", re.M)
 CALL = re.compile(r"^    (?:final )?fn (\w+)(.*?)(?=^    [{}]|;$|{$)", re.M | re.S)
 
@@ -31,7 +31,7 @@ def crates():
 def laws_for(path):
     """Which words of which types the laws cite that are in the crate of a file, or in its part of `cvss_laws`."""
     crate, _, *inside = path.relative_to(ROOT / "crates").parts
-    part = inside[0].removesuffix(".rt") if crate in ("cvss_score", "cvss_vector") else crate.removeprefix("cvss_")
+    part = inside[0].removesuffix(".rt") if crate in ("cvss_metric", "cvss_score", "cvss_vector") else crate.removeprefix("cvss_")
     if crate == "cvss_vector" and not re.fullmatch(r"v\d", part):
         part = "any"
     above = [folder / "laws.rt" for folder in path.parents if "src" in folder.parts]
@@ -40,11 +40,11 @@ def laws_for(path):
 
 
 def metrics_with_law(path):
-    """The metrics that implement `MetricEnum` in `cvss`, of the version of a file of `cvss_metric`."""
+    """The metrics that implement `MetricEnum` in `cvss`, of the version of a file there or in `cvss_metric`."""
     crate, _, *inside = path.relative_to(ROOT / "crates").parts
-    if crate != "cvss_metric":
+    if crate not in ("cvss", "cvss_metric"):
         return set()
-    impls = (ROOT / "crates/cvss/src" / inside[0].removesuffix(".rt") / "metric").glob("*.rt")
+    impls = (ROOT / "crates/cvss/src" / inside[0].removesuffix(".rt") / "metric").rglob("*.rt")
     return {name for impl in impls for name in METRIC.findall(impl.read_text(encoding="utf-8"))}
 
 

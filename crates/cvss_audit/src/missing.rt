@@ -58,7 +58,7 @@ fn push_missing<'a>(
         ≡ map tree_view missing.old.items ++ option_to_list (missing_at vector.now kind)) }
 {
     match kind.group() {
-        MetricGroup::Base if vector.with_slash(kind).is_none() => {
+        MetricGroup::Base if vector.spelling(kind).is_none() => {
             missing.push(Tree::Text(kind.name()))?;
             Ok(())
         }

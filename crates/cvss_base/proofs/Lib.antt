@@ -3,6 +3,5 @@ pub mod EqualityLemmas
 pub mod ExactLemmas
 pub mod FindLemmas
 pub mod RoundingLemmas
-pub mod WithSlashLemmas
 pub mod TenthsLemmas
 pub mod TestLemmas

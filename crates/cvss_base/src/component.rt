@@ -1,23 +1,23 @@
 //! Components as texts: how one is written, and compared with a name or a spelling.
 
-ghost use Rattle.std.specs.Prelude.{◌≡◌, ◌↔◌, IsTrue, drop};
+ghost use Rattle.std.specs.Prelude.{◌≡◌, ◌↔◌, IsTrue};
 ghost use Rattle.std.specs.Fmt.{WritesOnOk, WritesStyledOnOk};
-ghost use Rattle.cvss_base.specs.Text.{uppercased};
-ghost use Rattle.cvss_base.specs.private.Component.{StartsWithSlash};
+ghost use Rattle.cvss_base.specs.Text.{component, uppercased};
 
 use std::fmt;
 
-/// Writes a component that has a slash before it, without the slash, and the same under any options.
-#[tactic(auto, using(crate::proofs::WithSlashLemmas::after_slash))]
+/// Writes a name, a colon and a spelling, and the same under any options.
 pub fn write_component<W: fmt::Write>(
-    with_slash: &'static str,
+    name: &str,
+    spelling: &str,
     f: &mut fmt::Formatter<W>,
 ) -> fmt::Result
-    requires { StartsWithSlash with_slash.now }
-    ensures plain { WritesOnOk W.write_str_gives f.old result (drop 1 with_slash.now) f.new }
-    ensures styled { WritesStyledOnOk W.write_str_gives f.old result (drop 1 with_slash.now) f.new }
+    ensures plain { WritesOnOk W.write_str_gives f.old result (component name.now spelling.now) f.new }
+    ensures styled { WritesStyledOnOk W.write_str_gives f.old result (component name.now spelling.now) f.new }
 {
-    f.write_str(&with_slash[1..])
+    f.write_str(name)?;
+    f.write_str(":")?;
+    f.write_str(spelling)
 }
 
 /// Whether a text is this name once its ASCII letters are in upper case.

@@ -30,8 +30,8 @@ impl MetricValue for Participation {
 
     fn row(self) -> (&'static str, Option<u64>) {
         match self {
-            Self::Needed => ("/UI:R", Some(62)),
-            Self::Unneeded => ("/UI:N", Some(85)),
+            Self::Needed => ("R", Some(62)),
+            Self::Unneeded => ("N", Some(85)),
         }
     }
 

@@ -4,9 +4,17 @@ use Rattle.cvss_json_write.specs.Json.{Member, string_text}
 use Rattle.cvss_base.specs.declared.v4.MetricType.{MetricType}
 use Rattle.cvss_base.specs.declared.v4.MetricType.TheVariants.{AC, AR, AT, AV, CR, E, IR, PR, SA, SC, SI, UI, VA, VC, VI}
 use Rattle.cvss_base.specs.V4Types.{name_of}
-use Rattle.cvss_metric.specs.v4.Table as place
-use Rattle.cvss_metric.specs.v4.Table.{spelling_at}
 use Rattle.cvss_score.specs.declared.v4.scoring.effective.Effective.{Effective}
+use Rattle.cvss_score.specs.declared.v4.scoring.effective.AttackVector.{AttackVector}
+use Rattle.cvss_score.specs.declared.v4.scoring.effective.AttackVector.TheVariants as attack_vector
+use Rattle.cvss_score.specs.declared.v4.scoring.effective.AttackComplexity.{AttackComplexity}
+use Rattle.cvss_score.specs.declared.v4.scoring.effective.AttackComplexity.TheVariants as attack_complexity
+use Rattle.cvss_score.specs.declared.v4.scoring.effective.AttackRequirements.{AttackRequirements}
+use Rattle.cvss_score.specs.declared.v4.scoring.effective.AttackRequirements.TheVariants as attack_requirements
+use Rattle.cvss_score.specs.declared.v4.scoring.effective.PrivilegesRequired.{PrivilegesRequired}
+use Rattle.cvss_score.specs.declared.v4.scoring.effective.PrivilegesRequired.TheVariants as privileges_required
+use Rattle.cvss_score.specs.declared.v4.scoring.effective.UserInteraction.{UserInteraction}
+use Rattle.cvss_score.specs.declared.v4.scoring.effective.UserInteraction.TheVariants as user_interaction
 use Rattle.cvss_score.specs.declared.v4.scoring.effective.VulnerableImpact.{VulnerableImpact}
 use Rattle.cvss_score.specs.declared.v4.scoring.effective.VulnerableImpact.TheVariants as vulnerable_impact
 use Rattle.cvss_score.specs.declared.v4.scoring.effective.SubsequentImpact.{SubsequentImpact}
@@ -17,6 +25,26 @@ use Rattle.cvss_score.specs.declared.v4.scoring.effective.Requirement.{Requireme
 use Rattle.cvss_score.specs.declared.v4.scoring.effective.Requirement.TheVariants as requirement
 use Rattle.cvss_score.specs.declared.v4.scoring.effective.ExploitMaturity.{ExploitMaturity}
 use Rattle.cvss_score.specs.declared.v4.scoring.effective.ExploitMaturity.TheVariants as exploit_maturity
+
+-- AV
+abbrev pub attack_vector_letter : AttackVector → List ℕ
+attack_vector_letter = elim [ attack_vector.Network ↦ codes "N" | attack_vector.Adjacent ↦ codes "A" | attack_vector.Local ↦ codes "L" | attack_vector.Physical ↦ codes "P" ]
+
+-- AC
+abbrev pub attack_complexity_letter : AttackComplexity → List ℕ
+attack_complexity_letter = elim [ attack_complexity.Low ↦ codes "L" | attack_complexity.High ↦ codes "H" ]
+
+-- AT
+abbrev pub attack_requirements_letter : AttackRequirements → List ℕ
+attack_requirements_letter = elim [ attack_requirements.None ↦ codes "N" | attack_requirements.Present ↦ codes "P" ]
+
+-- PR
+abbrev pub privileges_required_letter : PrivilegesRequired → List ℕ
+privileges_required_letter = elim [ privileges_required.None ↦ codes "N" | privileges_required.Low ↦ codes "L" | privileges_required.High ↦ codes "H" ]
+
+-- UI
+abbrev pub user_interaction_letter : UserInteraction → List ℕ
+user_interaction_letter = elim [ user_interaction.None ↦ codes "N" | user_interaction.Passive ↦ codes "P" | user_interaction.Active ↦ codes "A" ]
 
 -- VC, VI and VA
 abbrev pub vulnerable_impact_letter : VulnerableImpact → List ℕ
@@ -38,13 +66,13 @@ requirement_letter = elim [ requirement.High ↦ codes "H" | requirement.Medium 
 abbrev pub exploit_maturity_letter : ExploitMaturity → List ℕ
 exploit_maturity_letter = elim [ exploit_maturity.Attacked ↦ codes "A" | exploit_maturity.ProofOfConcept ↦ codes "P" | exploit_maturity.Unreported ↦ codes "U" ]
 
--- the letter of a metric's effective value; AV, PR, UI, AC and AT are spelled as in a vector
+-- the letter of a metric's effective value
 abbrev pub letter_at : Effective → MetricType → List ℕ
-letter_at v AV = spelling_at AV (place.AV v.av)
-letter_at v AC = spelling_at AC (place.AC v.ac)
-letter_at v AT = spelling_at AT (place.AT v.at)
-letter_at v PR = spelling_at PR (place.PR v.pr)
-letter_at v UI = spelling_at UI (place.UI v.ui)
+letter_at v AV = attack_vector_letter v.av
+letter_at v AC = attack_complexity_letter v.ac
+letter_at v AT = attack_requirements_letter v.at
+letter_at v PR = privileges_required_letter v.pr
+letter_at v UI = user_interaction_letter v.ui
 letter_at v VC = vulnerable_impact_letter v.vc
 letter_at v VI = vulnerable_impact_letter v.vi
 letter_at v VA = vulnerable_impact_letter v.va

@@ -63,7 +63,7 @@ impl Group {
         ensures { result ≡ has_group (CvssV20 vector.now) self }
     {
         v2::Vector::printed().iter().any(|kind| self.is_given_by(kind.group())
-            && vector.with_slash(*kind).is_some())
+            && vector.spelling(*kind).is_some())
     }
 
     /// Whether a vector of CVSS v3 has an optional metric of the group.
@@ -71,7 +71,7 @@ impl Group {
         ensures { result ≡ has_group (CvssV30 vector.now) self }
     {
         v3::Vector::printed().iter().any(|kind| self.is_given_by(kind.group())
-            && vector.with_slash(*kind).is_some())
+            && vector.spelling(*kind).is_some())
     }
 
     /// Whether an optional metric of a vector gives it the group, by the group of the metric.

@@ -47,7 +47,5 @@ fn put_prefixed<V: Printed>(page: &mut Page, prefix: &str, minor: usize, vector:
 pub fn spelled<V: Printed>(vector: &V, kind: V::Kind) -> Option<&'static [u8]>
     ensures { option_copied result ≡ held V.version vector.now kind }
 {
-    let component = vector.with_slash(kind)?;
-    // after a slash, the name and a colon
-    Some(&component.as_bytes()[V::name(kind).len() + 2..])
+    Some(vector.spelling(kind)?.as_bytes())
 }

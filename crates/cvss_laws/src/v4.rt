@@ -33,10 +33,28 @@ ghost use Rattle.cvss_laws.specs.v4.OverridingLaws.{AreAlike};
 ghost use Rattle.cvss_laws.specs.v4.ScoreLaws.{IsFromTenthToTen};
 ghost use Rattle.cvss_laws.specs.v4.TriageLaws.{ReportTheSame};
 
+use cvss_metric::v4::place::{OneOfFive, OneOfFour, OneOfThree, OneOfTwo};
 use cvss_score::v4::scoring::explanation::{Explanation, GroupExplanation, GroupExplanations};
 use cvss_vector::v4::laws::vectors_are_their_values;
 use cvss_vector::v4::triage::{Row, TriageError};
 use cvss_vector::v4::{Nomenclature, OverrideError, Score, Vector};
+
+/// Two places of values are equal exactly if they are one, and a clone is that place and takes no memory,
+/// so it is never refused.
+pub fn places_are_their_values<const NUMBER: usize>()
+    ensures two { EqualsByValue ⟦<OneOfTwo<NUMBER> as PartialEq>⟧.eq }
+    ensures three { EqualsByValue ⟦<OneOfThree<NUMBER> as PartialEq>⟧.eq }
+    ensures four { EqualsByValue ⟦<OneOfFour<NUMBER> as PartialEq>⟧.eq }
+    ensures five { EqualsByValue ⟦<OneOfFive<NUMBER> as PartialEq>⟧.eq }
+    ensures two_clone { ClonesByValue ⟦<OneOfTwo<NUMBER> as Clone>⟧.is_clone }
+    ensures three_clone { ClonesByValue ⟦<OneOfThree<NUMBER> as Clone>⟧.is_clone }
+    ensures four_clone { ClonesByValue ⟦<OneOfFour<NUMBER> as Clone>⟧.is_clone }
+    ensures five_clone { ClonesByValue ⟦<OneOfFive<NUMBER> as Clone>⟧.is_clone }
+    ensures two_memory { ClonesAlways ⟦<OneOfTwo<NUMBER> as Clone>⟧.is_infallible }
+    ensures three_memory { ClonesAlways ⟦<OneOfThree<NUMBER> as Clone>⟧.is_infallible }
+    ensures four_memory { ClonesAlways ⟦<OneOfFour<NUMBER> as Clone>⟧.is_infallible }
+    ensures five_memory { ClonesAlways ⟦<OneOfFive<NUMBER> as Clone>⟧.is_infallible }
+{}
 
 /// Two vectors, scores or nomenclatures are equal exactly if they are one value, two rows of triage
 /// exactly if their texts and scores are, and two errors of overrides or of triage exactly if they are of

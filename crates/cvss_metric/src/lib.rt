@@ -1,4 +1,4 @@
-//! The metrics of each version of CVSS, each an enum of its values.
+//! The metrics of each version of CVSS: the enums of their values, and of v4.0 the places of values.
 #![tactic(auto)]
 
 pub mod v2;

@@ -1,9 +1,8 @@
-//! The metrics of CVSS v4.0, each an enum of its values, and what they have in common.
+//! The values of the metrics of CVSS v4.0: how they are spelled, and read from their spelling.
 
-pub mod base;
-pub mod environmental;
 mod metric;
-pub mod supplemental;
-pub mod threat;
+pub mod place;
+mod spelling;
+pub mod table;
 
 pub use metric::{MetricType, MetricValue};

@@ -7,7 +7,6 @@ ghost use Rattle.cvss_rank.specs.Overall.{IsOverallScore, IsScoreOfV2, IsScoreOf
 
 use crate::{v2, v3};
 use cvss_base::MetricGroup;
-use cvss_text::metrics::spelled;
 use cvss_text::print::Printed;
 use cvss_text::walk::Components;
 use cvss_vector::Cvss;
@@ -93,7 +92,7 @@ fn defines_v3(group: MetricGroup, vector: &v3::Vector) -> bool
 fn is_defined<V: Printed>(vector: &V, kind: V::Kind) -> bool
     ensures { result ≡ is_defined (held V.version vector.now kind) }
 {
-    match spelled(vector, kind) {
+    match vector.spelling(kind) {
         Some(value) => !is_undefined(value),
         None => false,
     }

@@ -1,18 +1,15 @@
 -- What a version's laws say of its names and of its printing order.
-use Rattle.std.proofs.Common.{◌≡◌, ◌≢◌, ℕ, suc, ◌+◌, ◌-◌, ◌<◌, true, false, List, ◌∷◌, ◌++◌, length, get_or, take, drop, map, find, Some, None, sym, ap, ◌∙◌, arith, option_map, bytes_eq, drop-cons, Option, IsUtf8, IsCharBoundary}
-use Rattle.std.proofs.Math.Seq.{drop-append_seam}
+use Rattle.std.proofs.Common.{◌≡◌, ◌≢◌, ℕ, suc, ◌+◌, ◌-◌, ◌<◌, true, false, List, ◌∷◌, ◌++◌, length, get_or, take, drop, map, find, Some, None, sym, ap, ◌∙◌, arith, option_map, bytes_eq, drop-cons}
 use Rattle.std.specs.List.{slice_get, position_or_len, range_with_len, All}
-use Rattle.std.proofs.lemmas.List.{take-append-drop, drop-drop, drop_more, get_or-take, get_or-drop, get_or-map, get_or_past, length-take-le, length-drop, take_all}
+use Rattle.std.proofs.lemmas.List.{take-append-drop, drop_more, get_or-take, get_or-drop, get_or-map, get_or_past, length-take-le, length-drop, take_all}
 use Rattle.std.proofs.lemmas.List.FromFn.{get_or-range_with_len, fill_by_all}
 use Rattle.std.proofs.lemmas.Option.{slice_get-map, slice_get_within, get_or_from_slice_get, same_Some}
 use Rattle.std.proofs.lemmas.Slice.Eq.{bytes_eq-Decides}
-use Rattle.cvss_base.specs.Text.{slash, colon, component, name_part, value_part}
+use Rattle.cvss_base.specs.Text.{colon, component, name_part, value_part}
 use Rattle.cvss_base.specs.Version.{Version, read}
 use Rattle.cvss_base.specs.private.Component.{delimiter_bytes}
 use Rattle.cvss_text.specs.private.Walk.{VersionLaws, IsCut, place_of}
-use Rattle.cvss_text.specs.private.Printing.{with_slash}
 use Rattle.cvss_base.proofs.FindLemmas.{found_passes, not_found}
-use Rattle.cvss_base.proofs.WithSlashLemmas.{after_colon}
 use Rattle.cvss_text.proofs.TextLemmas.{read-component, delimiter_bytes-read, name_part-component, value_part-component}
 
 -- the printing order, cut at one metric, which is nowhere else
@@ -100,19 +97,3 @@ module _ {V K : Type 0} (version : Version V K) (version_laws : VersionLaws vers
       let is_cut : piece ≡ take n piece ++ (58 ∷ take (length piece - suc n) rest) =
       sym (take-append-drop n piece) ∙ ap (λ l. take n piece ++ l) (drop-cons piece n 0 within ∙ (λ at. colon at ∷ sym value_is at)) in
       IsCut_named piece (take n piece) (take (length piece - suc n) rest) kind is_cut (named ∙ ap (read version) (sym name_is))
-
--- a printed component is a slash, the name, a colon and the spelling
-module _ (name : List ℕ) where
-  pub spelled_after : (held : Option (List ℕ)) (text : List ℕ) → Some text ≡ with_slash (option_map (component name) held) → Some (drop (length name + 2) text) ≡ held
-  spelled_after None text is = absurd (let no : Some text ≡ None = is in cc)
-  spelled_after (Some spelling) text is =
-      let text_is : text ≡ (slash ∷ name) ++ (colon ∷ spelling) = cc in
-      let place : length name + 2 ≡ length (slash ∷ name) + 1 = omega arith in
-      rw (text_is, place)
-      (ap Some (sym (drop-drop 1 (length (slash ∷ name)) ((slash ∷ name) ++ (colon ∷ spelling))) ∙ ap (drop 1) (drop-append_seam (slash ∷ name) (colon ∷ spelling))))
-
-  pub spelling_boundary : (held : Option (List ℕ)) (text : List ℕ) → Some text ≡ with_slash (option_map (component name) held) → IsUtf8 text → IsCharBoundary text (length name + 2)
-  spelling_boundary None text is = absurd (let no : Some text ≡ None = is in cc)
-  spelling_boundary (Some spelling) text is = after_colon text name spelling (cc)
-
-pub ruleset spellings = (spelled_after, spelling_boundary)

@@ -1,6 +1,7 @@
 //! The text of a vector, put together on the stack.
 
-ghost use Rattle.std.specs.Prelude.{◌≡◌, ◌≤◌, ◌+◌, ◌++◌, [], drop, length};
+ghost use Rattle.std.specs.Prelude.{◌≡◌, ◌≤◌, ◌+◌, ◌++◌, ◌∷◌, [], drop, length};
+ghost use Rattle.cvss_base.specs.Text.{colon, component, slash};
 
 use std::marker::Model;
 
@@ -67,23 +68,59 @@ impl TextBuffer {
         self.length = end;
     }
 
-    /// Appends a component with a slash before it.
+    /// Appends a slash, the name of a metric, a colon and the spelling of a value.
     #[inline(always)]
-    pub fn push_component(&mut self, with_slash: &'static str)
-        requires least { 3 ≤ length with_slash.now }
-        requires most { length with_slash.now ≤ 8 }
+    pub fn push_component(&mut self, name: &'static str, spelling: &'static str)
+        requires least { 1 ≤ length name.now }
+        requires most { length name.now ≤ 3 }
+        requires both { length name.now + length spelling.now ≤ 6 }
         requires room { length self.old ≤ 200 }
-        ensures text { self.new ≡ self.old ++ with_slash.now }
+        ensures text { self.new ≡ self.old ++ slash ∷ component name.now spelling.now }
         ensures room { length self.new ≤ length self.old + 8 }
     {
-        let text = with_slash.as_bytes();
-        match text.len() {
-            3 => self.push_whole::<3>(text),
-            4 => self.push_whole::<4>(text),
-            5 => self.push_whole::<5>(text),
-            6 => self.push_whole::<6>(text),
-            7 => self.push_whole::<7>(text),
-            8 => self.push_whole::<8>(text),
+        match (name.as_bytes(), spelling.as_bytes()) {
+            // Most values are spelled by a letter, and all of their component is stored at once.
+            ([only], [letter]) => self.push([b'/', *only, b':', *letter]),
+            ([first, second], [letter]) => self.push([b'/', *first, *second, b':', *letter]),
+            ([first, second, third], [letter]) => {
+                self.push([b'/', *first, *second, *third, b':', *letter]);
+            }
+            (name, spelling) => {
+                self.push_name(name);
+                self.push_spelling(spelling);
+            }
+        }
+    }
+
+    /// Appends a slash, a name and a colon.
+    #[inline(always)]
+    fn push_name(&mut self, name: &[u8])
+        requires least { 1 ≤ length name.now }
+        requires most { length name.now ≤ 3 }
+        requires room { length self.old ≤ 203 }
+        ensures { self.new ≡ self.old ++ slash ∷ name.now ++ colon ∷ [] }
+    {
+        match name {
+            [only] => self.push([b'/', *only, b':']),
+            [first, second] => self.push([b'/', *first, *second, b':']),
+            [first, second, third] => self.push([b'/', *first, *second, *third, b':']),
+            _ => {}
+        }
+    }
+
+    /// Appends a spelling.
+    #[inline(always)]
+    fn push_spelling(&mut self, spelling: &[u8])
+        requires most { length spelling.now ≤ 5 }
+        requires room { length self.old + length spelling.now ≤ 208 }
+        ensures { self.new ≡ self.old ++ spelling.now }
+    {
+        match spelling.len() {
+            1 => self.push_whole::<1>(spelling),
+            2 => self.push_whole::<2>(spelling),
+            3 => self.push_whole::<3>(spelling),
+            4 => self.push_whole::<4>(spelling),
+            5 => self.push_whole::<5>(spelling),
             _ => {}
         }
     }

@@ -1,8 +1,7 @@
 //! The metrics that a vector has, once for all versions.
 
-ghost use Rattle.std.specs.Prelude.{◌≡◌, List, option_copied};
+ghost use Rattle.std.specs.Prelude.{◌≡◌, List};
 ghost use Rattle.std.specs.Iterator.{YieldsFirstBy, item_count};
-ghost use Rattle.cvss_base.specs.Version.{held};
 ghost use Rattle.cvss_text.specs.Listing.{listed_metrics, metrics_left, as_listed};
 
 use crate::print::Printed;
@@ -46,20 +45,10 @@ impl<V: Listed> Iterator for Metrics<V> {
     fn next(&mut self) -> Option<(V::Kind, &'static str)> {
         while let Some(kind) = V::listed().get(self.place) {
             self.place += 1;
-            if let Some(spelling) = spelled(&self.vector, *kind) {
+            if let Some(spelling) = self.vector.spelling(*kind) {
                 return Some((*kind, spelling));
             }
         }
         None
     }
-}
-
-/// How the vector's value for a metric is spelled.
-#[tactic(auto, using(crate::proofs::LawLemmas::spellings))]
-pub fn spelled<V: Printed>(vector: &V, kind: V::Kind) -> Option<&'static str>
-    ensures { option_copied result ≡ held V.version vector.now kind }
-{
-    let component = vector.with_slash(kind)?;
-    // after a slash, the name and a colon
-    Some(&component[V::name(kind).len() + 2..])
 }

@@ -2,8 +2,8 @@
 
 ghost use Rattle.std.specs.Prelude.{◌≡◌, ◌≤◌, ◌++◌, ◌∷◌, [], length, option_copied};
 ghost use Rattle.std.specs.Fmt.{WritesOnOk};
-ghost use Rattle.cvss_base.specs.Version.{component_of, canonical_text};
-ghost use Rattle.cvss_text.specs.private.Printing.{with_slash, texts_with_slash, with_texts};
+ghost use Rattle.cvss_base.specs.Version.{canonical_text, held};
+ghost use Rattle.cvss_text.specs.private.Printing.{texts_with_slash, with_texts};
 
 use crate::buffer::TextBuffer;
 use crate::walk::Components;
@@ -11,9 +11,9 @@ use std::fmt;
 
 /// A vector of some version, as it is printed.
 pub trait Printed: Components {
-    /// A slash and the vector's component for a metric.
-    fn with_slash(&self, kind: Self::Kind) -> Option<&'static str>
-        ensures { option_copied result ≡ with_slash (component_of Self.version self.now kind) };
+    /// How the vector's value for a metric is spelled.
+    fn spelling(&self, kind: Self::Kind) -> Option<&'static str>
+        ensures { option_copied result ≡ held Self.version self.now kind };
 
     /// Appends one component after another in printing order, each with a slash before it.
     fn write_each(&self, buffer: &mut TextBuffer)

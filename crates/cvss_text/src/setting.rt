@@ -9,7 +9,6 @@ ghost use Rattle.cvss_text.specs.private.SettingSteps.{IsAnswered, IsCopied, IsW
 ghost use Rattle.cvss_text.specs.private.Walk.{Adds, HasNoValue, IsPrintable, reason_of};
 ghost use Rattle.std.specs.Option.{option_copied, option_or};
 
-use crate::metrics::spelled;
 use crate::pieces::{is_component, pieces_of};
 use crate::print::Printed;
 use crate::texts::{Texts, components_of};
@@ -113,9 +112,9 @@ fn copy_value<V: Printed>(own: &V, kind: V::Kind, left_out: Option<&[u8]>, vecto
     ensures { IsCopied V.version kind (kept V.version (option_copied left_out.entry) own.now kind)
         vector.old vector.new }
 {
-    match spelled(own, kind) {
+    match own.spelling(kind) {
         Some(spelling)
-            if Some(spelling.as_bytes()) != left_out && spelled(vector, kind).is_none() => {
+            if Some(spelling.as_bytes()) != left_out && vector.spelling(kind).is_none() => {
             // The metric has this value, and the vector has none.
             let _ = vector.put(kind, spelling.as_bytes());
         }

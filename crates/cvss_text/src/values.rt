@@ -22,14 +22,15 @@ pub trait Spells<M: Copy> {
 
     /// The metric's name.
     fn metric() -> &'static str
-        ensures { result.now ≡ metric };
+        ensures name { result.now ≡ metric }
+        ensures least { 1 ≤ length result.now }
+        ensures most { length result.now ≤ 3 };
 
-    /// A slash and the component that stands for the value in a vector.
-    fn shown(value: M) -> &'static str
-        ensures text { result.now ≡ slash ∷ component metric (spelling value) }
-        ensures least { 3 ≤ length result.now }
-        ensures most { length result.now ≤ 8 }
-        ensures width { length result.now ≤ width };
+    /// How the value is spelled in a vector.
+    fn spelling(value: M) -> &'static str
+        ensures text { result.now ≡ spelling value }
+        ensures most { length metric + length result.now ≤ 6 }
+        ensures width { length metric + length result.now + 2 ≤ width };
 
     /// The value with this spelling, as the version reads it.
     fn spelled(text: &[u8]) -> Option<M>
@@ -114,6 +115,6 @@ pub fn write_value<V: Spells<M>, M: Copy>(value: Option<M>, buffer: &mut TextBuf
     ensures width { length buffer.new ≤ length buffer.old + V.width }
 {
     if let Some(value) = value {
-        buffer.push_component(V::shown(value));
+        buffer.push_component(V::metric(), V::spelling(value));
     }
 }

@@ -46,11 +46,10 @@ pub trait Metric: MetricEnum {
     ghost typed: { TYPE ≡ Self.KIND };
 
     /// How the value is spelled in a vector.
-    #[tactic(auto, using(cvss_base::proofs::WithSlashLemmas::after_colon))]
     final fn as_str(self) -> &'static str
         ensures { result.now ≡ spelling_of Self.KIND (Self.value self) }
     {
-        &self.with_slash()[Self::KIND.name().len() + 2..]
+        self.spelling()
     }
 
     /// The value with this spelling.

@@ -54,11 +54,10 @@ pub trait Metric: MetricEnum {
     ghost reported: { FAULT_TYPE ≡ reported_kind Self.KIND };
 
     /// How the value is spelled in a vector.
-    #[tactic(auto, using(cvss_base::proofs::WithSlashLemmas::after_colon))]
     final fn as_str(self) -> &'static str
         ensures { result.now ≡ spelling_of Self.KIND (Self.value self) }
     {
-        &self.with_slash()[Self::KIND.name().len() + 2..]
+        self.spelling()
     }
 
     /// The value with this spelling, in any ASCII case.

@@ -11,11 +11,14 @@ ghost use Rattle.cvss_metric.specs.v4.Table.{spelling_at};
 ghost use Rattle.cvss.specs.MetricsV4.{IsMetric};
 ghost use Rattle.cvss.specs.ReadingV4.{IsReading};
 
-mod enums;
+pub mod base;
+pub mod environmental;
+pub mod supplemental;
+pub mod threat;
 
 use cvss_base::Error;
 use cvss_base::component::is_uppercased_as;
-pub use cvss_metric::v4::{MetricType, MetricValue, base, environmental, supplemental, threat};
+pub use cvss_metric::v4::{MetricType, MetricValue};
 use std::alloc::Global;
 use std::fmt;
 
@@ -45,11 +48,10 @@ pub trait Metric: MetricEnum {
     ghost typed: { TYPE ≡ Self.KIND };
 
     /// How the value is spelled in a vector.
-    #[tactic(auto, using(cvss_base::proofs::WithSlashLemmas::after_colon))]
     final fn as_str(self) -> &'static str
         ensures { result.now ≡ spelling_at Self.KIND (Self.rank self) }
     {
-        &self.with_slash()[Self::KIND.name().len() + 2..]
+        self.spelling()
     }
 
     /// The value that `read` gives for the text in upper case.

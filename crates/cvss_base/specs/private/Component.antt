@@ -1,5 +1,5 @@
 -- How components are written and compared.
-use Rattle.std.specs.Prelude.{◌≡◌, ℕ, Bool, nat_lt, ◌||◌, List, ◌∷◌, count_by, ◌==◌}
+use Rattle.std.specs.Prelude.{ℕ, Bool, nat_lt, ◌||◌, List, count_by, ◌==◌}
 use Rattle.cvss_base.specs.Text.{slash, colon}
 
 -- a byte that no name and no spelling has: it divides, or is not ASCII
@@ -9,8 +9,3 @@ is_delimiter byte = byte == slash || byte == colon || nat_lt 127 byte
 -- how many bytes of the text are such
 abbrev pub delimiter_bytes : List ℕ → ℕ
 delimiter_bytes text = count_by is_delimiter text
-
--- the text is a slash and some more
-pub record StartsWithSlash (text : List ℕ) : Type 0 where
-  pub after : List ℕ
-  pub is : text ≡ slash ∷ after

@@ -1,15 +1,15 @@
 //! The letters of effective values.
 
 ghost use Rattle.std.specs.Prelude.{◌≡◌, ◌≤◌, Some, length};
-ghost use Rattle.cvss_metric.specs.v4.Table.{spelling_at};
 ghost use Rattle.cvss_explain.specs.LettersV4.{safety_impact_letter, requirement_letter, letter_at, letter_member};
 
 use MetricType::*;
 use cvss_base::v4::MetricType;
 use cvss_json_write::{Members, Page, Scalar, put_member};
-use cvss_metric::v4::MetricValue;
 use cvss_score::v4::scoring::effective::{
-    Effective, ExploitMaturity, Requirement, SafetyImpact, SubsequentImpact, VulnerableImpact,
+    AttackComplexity, AttackRequirements, AttackVector, Effective, ExploitMaturity,
+    PrivilegesRequired, Requirement, SafetyImpact, SubsequentImpact, UserInteraction,
+    VulnerableImpact,
 };
 
 /// The metrics that have an effective value, in the order of their names.
@@ -39,40 +39,37 @@ impl Members<MetricType> for Letters<'_> {
     }
 }
 
-/// The letter of an impact, by one table for two types.
-macro_rules! impact {
-    ($value:expr, $value_type:ident) => {
+/// The letter of an effective value, by those of its type.
+macro_rules! letter {
+    ($value:expr, $value_type:ident[$($name:ident $letter:literal),*]) => {
         match $value {
-            $value_type::High => "H",
-            $value_type::Low => "L",
-            $value_type::None => "N",
+            $($value_type::$name => $letter,)*
         }
     };
 }
 
 /// The letter of the effective value of a metric, and none where it has no such value.
-#[tactic(auto, using(crate::proofs::ShortLemmas::letters))]
 fn letter(effective: &Effective, kind: MetricType) -> &'static str
     ensures text { result.now ≡ letter_at effective.now kind }
     ensures short { length result.now ≤ 1 }
 {
     match kind {
-        MetricType::AV => spelling(effective.av),
-        MetricType::AC => spelling(effective.ac),
-        MetricType::AT => spelling(effective.at),
-        MetricType::PR => spelling(effective.pr),
-        MetricType::UI => spelling(effective.ui),
-        MetricType::VC => impact!(effective.vc, VulnerableImpact),
-        MetricType::VI => impact!(effective.vi, VulnerableImpact),
-        MetricType::VA => impact!(effective.va, VulnerableImpact),
-        MetricType::SC => impact!(effective.sc, SubsequentImpact),
+        MetricType::AV => {
+            letter!(effective.av, AttackVector[Network "N", Adjacent "A", Local "L", Physical "P"])
+        }
+        MetricType::AC => letter!(effective.ac, AttackComplexity[Low "L", High "H"]),
+        MetricType::AT => letter!(effective.at, AttackRequirements[None "N", Present "P"]),
+        MetricType::PR => letter!(effective.pr, PrivilegesRequired[None "N", Low "L", High "H"]),
+        MetricType::UI => letter!(effective.ui, UserInteraction[None "N", Passive "P", Active "A"]),
+        MetricType::VC => letter!(effective.vc, VulnerableImpact[High "H", Low "L", None "N"]),
+        MetricType::VI => letter!(effective.vi, VulnerableImpact[High "H", Low "L", None "N"]),
+        MetricType::VA => letter!(effective.va, VulnerableImpact[High "H", Low "L", None "N"]),
+        MetricType::SC => letter!(effective.sc, SubsequentImpact[High "H", Low "L", None "N"]),
         MetricType::SI => safety_impact(effective.si),
         MetricType::SA => safety_impact(effective.sa),
-        MetricType::E => match effective.e {
-            ExploitMaturity::Attacked => "A",
-            ExploitMaturity::ProofOfConcept => "P",
-            ExploitMaturity::Unreported => "U",
-        },
+        MetricType::E => {
+            letter!(effective.e, ExploitMaturity[Attacked "A", ProofOfConcept "P", Unreported "U"])
+        }
         MetricType::CR => requirement(effective.cr),
         MetricType::IR => requirement(effective.ir),
         MetricType::AR => requirement(effective.ar),
@@ -80,25 +77,12 @@ fn letter(effective: &Effective, kind: MetricType) -> &'static str
     }
 }
 
-/// How a value of a metric is spelled in a vector.
-#[tactic(auto, using(cvss_base::proofs::WithSlashLemmas::after_colon))]
-fn spelling<M: MetricValue>(value: M) -> &'static str
-    ensures { result.now ≡ spelling_at M.KIND (M.rank value) }
-{
-    &value.with_slash()[M::KIND.name().len() + 2..]
-}
-
 /// The letter of SI or SA.
 fn safety_impact(value: SafetyImpact) -> &'static str
     ensures text { result.now ≡ safety_impact_letter value }
     ensures short { length result.now ≤ 1 }
 {
-    match value {
-        SafetyImpact::Safety => "S",
-        SafetyImpact::High => "H",
-        SafetyImpact::Low => "L",
-        SafetyImpact::None => "N",
-    }
+    letter!(value, SafetyImpact[Safety "S", High "H", Low "L", None "N"])
 }
 
 /// The letter of CR, IR or AR.
@@ -106,9 +90,5 @@ fn requirement(value: Requirement) -> &'static str
     ensures text { result.now ≡ requirement_letter value }
     ensures short { length result.now ≤ 1 }
 {
-    match value {
-        Requirement::High => "H",
-        Requirement::Medium => "M",
-        Requirement::Low => "L",
-    }
+    letter!(value, Requirement[High "H", Medium "M", Low "L"])
 }

@@ -3,15 +3,15 @@ use Rattle.std.proofs.Common.{◌≡◌, ◌⊎◌, inl, inr, ℕ, List, ◌++�
 use Rattle.cvss_base.specs.V4Types.{name_of}
 use Rattle.cvss_base.specs.declared.v4.MetricType.{MetricType}
 use Rattle.cvss_base.specs.declared.v4.MetricType.TheVariants.{AV, MAV}
-use Rattle.cvss_metric.specs.declared.v4.base.attack.AttackVector.TheVariants as attack_vector
-use Rattle.cvss_metric.specs.declared.v4.environmental.attack.ModifiedAttackVector.TheVariants as modified_attack_vector
+use Rattle.cvss_metric.specs.declared.v4.place.OneOfFour.TheVariants as four
+use Rattle.cvss_metric.specs.declared.v4.place.OneOfFive.TheVariants as five
 use Rattle.cvss_vector.specs.v4.Merging.{letter_at}
 use Rattle.cvss_laws.specs.v4.MergingLaws.{IsWrittenAsBase, IsKept, HasModifiedAsBase}
 use Rattle.cvss_vector.specs.declared.v4.vector.Vector.{Vector}
 
--- the vector with AV:L and without MAV
+-- the vector with AV:L, the second of the four values, and without MAV
 abbrev local : Vector → Vector
-local v = record v { av = Some attack_vector.Local; mav = None }
+local v = record v { av = Some four.Second; mav = None }
 
 -- a metric that with an M before its name has another name than MAV and MMAV is as it was
 kept : (v : Vector) (name : List ℕ) → bytes_eq (codes "MAV") name ≡ false → bytes_eq (codes "MMAV") name ≡ false
@@ -23,7 +23,7 @@ kept v name not_av not_mav = elim [
 ]
 
 -- a modified metric and its base metric are MAV and AV, or neither is one of these
-each_pair : (v : Vector) → v.mav ≡ Some modified_attack_vector.Local → (modified base : MetricType) → name_of modified ≡ codes "M" ++ name_of base
+each_pair : (v : Vector) → v.mav ≡ Some five.Second → (modified base : MetricType) → name_of modified ≡ codes "M" ++ name_of base
     → IsWrittenAsBase v (local v) modified base ⊎ IsKept v (local v) modified base
 each_pair v is = elim [
   | MAV ↦ elim [
@@ -35,5 +35,5 @@ each_pair v is = elim [
 ]
 
 -- MAV:L may be written as AV:L whatever the other metrics are
-pub local_written : (v : Vector) → v.mav ≡ Some modified_attack_vector.Local → HasModifiedAsBase v (local v)
+pub local_written : (v : Vector) → v.mav ≡ Some five.Second → HasModifiedAsBase v (local v)
 local_written v is = record { each = each_pair v is; e = refl; cr = refl; ir = refl; ar = refl }

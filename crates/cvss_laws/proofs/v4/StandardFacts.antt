@@ -6,11 +6,11 @@ use Rattle.cvss_score.specs.v4.Gap.{eq3_eq6_group, eq3_eq6_next, next_lower}
 use Rattle.cvss_score.specs.v4.Scores.{number, IsScore}
 use Rattle.cvss_score.specs.v4.Values.{rows, listed_value}
 use Rattle.cvss_score.specs.declared.v4.scoring.effective.Effective.{Effective}
-use Rattle.cvss_metric.specs.declared.v4.base.attack.AttackVector.TheVariants as attack_vector
-use Rattle.cvss_metric.specs.declared.v4.base.attack.PrivilegesRequired.TheVariants as privileges
-use Rattle.cvss_metric.specs.declared.v4.base.attack.UserInteraction.TheVariants as interaction
-use Rattle.cvss_metric.specs.declared.v4.base.attack.AttackComplexity.TheVariants as complexity
-use Rattle.cvss_metric.specs.declared.v4.base.attack.AttackRequirements.TheVariants as conditions
+use Rattle.cvss_score.specs.declared.v4.scoring.effective.AttackVector.TheVariants as attack_vector
+use Rattle.cvss_score.specs.declared.v4.scoring.effective.PrivilegesRequired.TheVariants as privileges
+use Rattle.cvss_score.specs.declared.v4.scoring.effective.UserInteraction.TheVariants as interaction
+use Rattle.cvss_score.specs.declared.v4.scoring.effective.AttackComplexity.TheVariants as complexity
+use Rattle.cvss_score.specs.declared.v4.scoring.effective.AttackRequirements.TheVariants as conditions
 use Rattle.cvss_score.specs.declared.v4.scoring.effective.VulnerableImpact.TheVariants as impact
 use Rattle.cvss_score.specs.declared.v4.scoring.effective.SubsequentImpact.TheVariants as subsequent
 use Rattle.cvss_score.specs.declared.v4.scoring.effective.SafetyImpact.TheVariants as safety

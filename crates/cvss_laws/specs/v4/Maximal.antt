@@ -3,11 +3,11 @@
 use Rattle.std.specs.Prelude.{ℕ, zero, suc, List, [], ◌∷◌}
 use Rattle.cvss_score.specs.v4.Classes.{Eq1Values, Eq2Values, Eq3Eq6Values, Eq4Values}
 use Rattle.cvss_score.specs.v4.Levels.{attack_vector_level, privileges_level, interaction_level, complexity_level, requirements_level, vulnerable_level, subsequent_level, safety_level, requirement_level}
-use Rattle.cvss_metric.specs.declared.v4.base.attack.AttackVector.TheVariants.{Network, Adjacent, Physical}
-use Rattle.cvss_metric.specs.declared.v4.base.attack.PrivilegesRequired.TheVariants as pr
-use Rattle.cvss_metric.specs.declared.v4.base.attack.UserInteraction.TheVariants as ui
-use Rattle.cvss_metric.specs.declared.v4.base.attack.AttackComplexity.TheVariants as ac
-use Rattle.cvss_metric.specs.declared.v4.base.attack.AttackRequirements.TheVariants as at
+use Rattle.cvss_score.specs.declared.v4.scoring.effective.AttackVector.TheVariants.{Network, Adjacent, Physical}
+use Rattle.cvss_score.specs.declared.v4.scoring.effective.PrivilegesRequired.TheVariants as pr
+use Rattle.cvss_score.specs.declared.v4.scoring.effective.UserInteraction.TheVariants as ui
+use Rattle.cvss_score.specs.declared.v4.scoring.effective.AttackComplexity.TheVariants as ac
+use Rattle.cvss_score.specs.declared.v4.scoring.effective.AttackRequirements.TheVariants as at
 use Rattle.cvss_score.specs.declared.v4.scoring.effective.VulnerableImpact.TheVariants as impact
 use Rattle.cvss_score.specs.declared.v4.scoring.effective.SubsequentImpact.TheVariants as sc
 use Rattle.cvss_score.specs.declared.v4.scoring.effective.SafetyImpact.TheVariants as safety

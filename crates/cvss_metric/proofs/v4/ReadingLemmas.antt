@@ -1,16 +1,16 @@
 -- Which texts are read alike.
-use Rattle.std.proofs.Common.{◌≡◌, ◌∷◌, [], ℕ, List, Option, None, Some, IfSome, find, refl, ap, sym, ◌∙◌, true, arith}
+use Rattle.std.proofs.Common.{◌≡◌, ◌<◌, ◌∷◌, [], ℕ, List, Some, length, refl, ap, sym, ◌∙◌, true, arith}
+use Rattle.std.specs.List.{position_from}
 use Rattle.std.proofs.lemmas.Bool.Decides.{nat_tests}
 use Rattle.std.proofs.lemmas.Str.Ascii.{lowercase-uppercase}
 use Rattle.std.specs.Char.{to_ascii_uppercase, to_ascii_lowercase}
 use Rattle.std.proofs.lemmas.Slice.Eq.{bytes_eq-Decides}
 use Rattle.std.specs.Str.{str_eq_ignore_ascii_case, str_to_ascii_lowercase}
-use Rattle.cvss_base.proofs.FindLemmas.{found_passes}
 use Rattle.cvss_base.specs.Text.{uppercased}
 use Rattle.cvss_base.specs.declared.v4.MetricType.{MetricType}
 use Rattle.cvss_base.specs.declared.v4.MetricType.TheVariants.{AC}
-use Rattle.cvss_metric.proofs.SpellingLemmas.{differ}
-use Rattle.cvss_metric.specs.v4.Table.{spellings_of}
+use Rattle.cvss_metric.proofs.SpellingLemmas.{differ, first_place, found_place}
+use Rattle.cvss_metric.specs.v4.Table.{spelling_at, spellings_of}
 
 -- no two values of a metric are spelled alike
 pub spellings_differ : (kind : MetricType) → differ (spellings_of kind) ≡ true
@@ -35,7 +35,14 @@ lowered_alike text other same = sym (lowered_uppercased text) ∙ ap str_to_asci
 uppercased_alike : (text other : List ℕ) → str_to_ascii_lowercase text ≡ str_to_ascii_lowercase other → uppercased text ≡ uppercased other
 uppercased_alike text other same = sym (uppercased_lowered text) ∙ ap uppercased same ∙ uppercased_lowered other
 
--- a value whose spelling is found to be a text in any case is read from a text alike
-pub found_alike : {A : Type 0} (spelling : A → List ℕ) (values : List A) (text : List ℕ) (result : Option A) → result ≡ find (λ x. str_eq_ignore_ascii_case (spelling x) text) values → IfSome result (λ x. uppercased (spelling x) ≡ uppercased text)
-found_alike spelling values text None is = tt
-found_alike spelling values text (Some x) is = uppercased_alike _ _ ((bytes_eq-Decides _ _).0 (found_passes (λ y. str_eq_ignore_ascii_case (spelling y) text) values x (sym is)))
+-- the place of a spelling that is read alike is found, and what is found is alike
+pub place_alike : (kind : MetricType) (place : ℕ) (text : List ℕ) → place < length (spellings_of kind) → uppercased (spelling_at kind place) ≡ uppercased text
+    → position_from (λ x. str_eq_ignore_ascii_case x text) 0 (spellings_of kind) ≡ Some place
+place_alike kind place text within same =
+    first_place (λ x. str_eq_ignore_ascii_case x text) (spellings_of kind) place (spellings_differ kind) within
+    ((bytes_eq-Decides _ _).1 (lowered_alike _ _ same)) (λ other passed. (bytes_eq-Decides _ _).0 passed ∙ sym (lowered_alike _ _ same))
+
+pub alike_at : (kind : MetricType) (place : ℕ) (text : List ℕ) → Some place ≡ position_from (λ x. str_eq_ignore_ascii_case x text) 0 (spellings_of kind)
+    → uppercased (spelling_at kind place) ≡ uppercased text
+alike_at kind place text found =
+    uppercased_alike _ _ ((bytes_eq-Decides _ _).0 (found_place (λ x. str_eq_ignore_ascii_case x text) (spellings_of kind) place found))

@@ -1,48 +1,12 @@
 -- The metrics of CVSS v4.0 with the spellings of their values, as they are compared, the least first: v4.0
 -- specification, sections 2 (base), 3 (threat), 4 (environmental) and 5 (supplemental).
-use Rattle.std.specs.Prelude.{ℕ, List, [], ◌∷◌, ◌++◌, codes, slice_get, unwrap_or}
+use Rattle.std.specs.Prelude.{ℕ, List, [], ◌∷◌, ◌++◌, codes, get_or, slice_get, unwrap_or}
 use Rattle.cvss_base.specs.Text.{component}
 use Rattle.cvss_base.specs.Groups.{in_group}
 use Rattle.cvss_base.specs.V4Types.{name_of, group_of, declared}
 use Rattle.cvss_base.specs.declared.group.MetricGroup.TheVariants.{Base}
 use Rattle.cvss_base.specs.declared.v4.MetricType.{MetricType}
 use Rattle.cvss_base.specs.declared.v4.MetricType.TheVariants as metric
-use Rattle.cvss_metric.specs.declared.v4.base as base
-use Rattle.cvss_metric.specs.declared.v4.threat as threat
-use Rattle.cvss_metric.specs.declared.v4.environmental as environmental
-use Rattle.cvss_metric.specs.declared.v4.supplemental as supplemental
-use Rattle.cvss_metric.specs.declared.v4.base.attack.AttackVector.TheVariants as attack_vector
-use Rattle.cvss_metric.specs.declared.v4.base.attack.AttackComplexity.TheVariants as attack_complexity
-use Rattle.cvss_metric.specs.declared.v4.base.attack.AttackRequirements.TheVariants as attack_requirements
-use Rattle.cvss_metric.specs.declared.v4.base.attack.PrivilegesRequired.TheVariants as privileges_required
-use Rattle.cvss_metric.specs.declared.v4.base.attack.UserInteraction.TheVariants as user_interaction
-use Rattle.cvss_metric.specs.declared.v4.base.vulnerable.ConfidentialityImpactToTheVulnerableSystem.TheVariants as confidentiality_impact_to_the_vulnerable_system
-use Rattle.cvss_metric.specs.declared.v4.base.vulnerable.IntegrityImpactToTheVulnerableSystem.TheVariants as integrity_impact_to_the_vulnerable_system
-use Rattle.cvss_metric.specs.declared.v4.base.vulnerable.AvailabilityImpactToTheVulnerableSystem.TheVariants as availability_impact_to_the_vulnerable_system
-use Rattle.cvss_metric.specs.declared.v4.base.subsequent.ConfidentialityImpactToTheSubsequentSystem.TheVariants as confidentiality_impact_to_the_subsequent_system
-use Rattle.cvss_metric.specs.declared.v4.base.subsequent.IntegrityImpactToTheSubsequentSystem.TheVariants as integrity_impact_to_the_subsequent_system
-use Rattle.cvss_metric.specs.declared.v4.base.subsequent.AvailabilityImpactToTheSubsequentSystem.TheVariants as availability_impact_to_the_subsequent_system
-use Rattle.cvss_metric.specs.declared.v4.threat.ExploitMaturity.TheVariants as exploit_maturity
-use Rattle.cvss_metric.specs.declared.v4.environmental.requirement.ConfidentialityRequirements.TheVariants as confidentiality_requirements
-use Rattle.cvss_metric.specs.declared.v4.environmental.requirement.IntegrityRequirements.TheVariants as integrity_requirements
-use Rattle.cvss_metric.specs.declared.v4.environmental.requirement.AvailabilityRequirements.TheVariants as availability_requirements
-use Rattle.cvss_metric.specs.declared.v4.environmental.attack.ModifiedAttackVector.TheVariants as modified_attack_vector
-use Rattle.cvss_metric.specs.declared.v4.environmental.attack.ModifiedAttackComplexity.TheVariants as modified_attack_complexity
-use Rattle.cvss_metric.specs.declared.v4.environmental.attack.ModifiedAttackRequirements.TheVariants as modified_attack_requirements
-use Rattle.cvss_metric.specs.declared.v4.environmental.attack.ModifiedPrivilegesRequired.TheVariants as modified_privileges_required
-use Rattle.cvss_metric.specs.declared.v4.environmental.attack.ModifiedUserInteraction.TheVariants as modified_user_interaction
-use Rattle.cvss_metric.specs.declared.v4.environmental.vulnerable.ModifiedConfidentialityImpactToTheVulnerableSystem.TheVariants as modified_confidentiality_impact_to_the_vulnerable_system
-use Rattle.cvss_metric.specs.declared.v4.environmental.vulnerable.ModifiedIntegrityImpactToTheVulnerableSystem.TheVariants as modified_integrity_impact_to_the_vulnerable_system
-use Rattle.cvss_metric.specs.declared.v4.environmental.vulnerable.ModifiedAvailabilityImpactToTheVulnerableSystem.TheVariants as modified_availability_impact_to_the_vulnerable_system
-use Rattle.cvss_metric.specs.declared.v4.environmental.subsequent.ModifiedConfidentialityImpactToTheSubsequentSystem.TheVariants as modified_confidentiality_impact_to_the_subsequent_system
-use Rattle.cvss_metric.specs.declared.v4.environmental.subsequent.ModifiedIntegrityImpactToTheSubsequentSystem.TheVariants as modified_integrity_impact_to_the_subsequent_system
-use Rattle.cvss_metric.specs.declared.v4.environmental.subsequent.ModifiedAvailabilityImpactToTheSubsequentSystem.TheVariants as modified_availability_impact_to_the_subsequent_system
-use Rattle.cvss_metric.specs.declared.v4.supplemental.consequence.Safety.TheVariants as safety
-use Rattle.cvss_metric.specs.declared.v4.supplemental.consequence.Automatable.TheVariants as automatable
-use Rattle.cvss_metric.specs.declared.v4.supplemental.consequence.Recovery.TheVariants as recovery
-use Rattle.cvss_metric.specs.declared.v4.supplemental.consequence.ValueDensity.TheVariants as value_density
-use Rattle.cvss_metric.specs.declared.v4.supplemental.VulnerabilityResponseEffort.TheVariants as vulnerability_response_effort
-use Rattle.cvss_metric.specs.declared.v4.supplemental.ProviderUrgency.TheVariants as provider_urgency
 
 -- how the values of an impact are spelled
 abbrev impacts : List (List ℕ)
@@ -125,104 +89,30 @@ printed = metric.AV ∷ metric.AC ∷ metric.AT ∷ metric.PR ∷ metric.UI ∷ 
 abbrev pub mandatory : List MetricType
 mandatory = in_group group_of Base declared
 
--- the place of each value among those of its metric, by the metric's abbreviation: section 2.1, exploitability
-abbrev pub AV : base.attack.AttackVector.AttackVector → ℕ
-AV = elim [ attack_vector.Physical ↦ 0 | attack_vector.Local ↦ 1 | attack_vector.Adjacent ↦ 2 | attack_vector.Network ↦ 3 ]
+-- the metrics with two values, in printing order, and each by its number there
+abbrev pub with_two : List MetricType
+with_two = metric.AC ∷ metric.AT ∷ []
 
-abbrev pub AC : base.attack.AttackComplexity.AttackComplexity → ℕ
-AC = elim [ attack_complexity.High ↦ 0 | attack_complexity.Low ↦ 1 ]
+abbrev pub two_kind : ℕ → MetricType
+two_kind number = get_or with_two number metric.AT
 
-abbrev pub AT : base.attack.AttackRequirements.AttackRequirements → ℕ
-AT = elim [ attack_requirements.Present ↦ 0 | attack_requirements.None ↦ 1 ]
+-- the metrics with three values, in printing order, and each by its number there
+abbrev pub with_three : List MetricType
+with_three = metric.PR ∷ metric.UI ∷ metric.VC ∷ metric.VI ∷ metric.VA ∷ metric.SC ∷ metric.SI ∷ metric.SA ∷ metric.MAC ∷ metric.MAT ∷ metric.S ∷ metric.AU ∷ metric.V ∷ []
 
-abbrev pub PR : base.attack.PrivilegesRequired.PrivilegesRequired → ℕ
-PR = elim [ privileges_required.High ↦ 0 | privileges_required.Low ↦ 1 | privileges_required.None ↦ 2 ]
+abbrev pub three_kind : ℕ → MetricType
+three_kind number = get_or with_three number metric.V
 
-abbrev pub UI : base.attack.UserInteraction.UserInteraction → ℕ
-UI = elim [ user_interaction.Active ↦ 0 | user_interaction.Passive ↦ 1 | user_interaction.None ↦ 2 ]
+-- the metrics with four values, in printing order, and each by its number there
+abbrev pub with_four : List MetricType
+with_four = metric.AV ∷ metric.E ∷ metric.CR ∷ metric.IR ∷ metric.AR ∷ metric.MPR ∷ metric.MUI ∷ metric.MVC ∷ metric.MVI ∷ metric.MVA ∷ metric.MSC ∷ metric.R ∷ metric.RE ∷ []
 
--- section 2.2, impact
-abbrev pub VC : base.vulnerable.ConfidentialityImpactToTheVulnerableSystem.ConfidentialityImpactToTheVulnerableSystem → ℕ
-VC = elim [ confidentiality_impact_to_the_vulnerable_system.None ↦ 0 | confidentiality_impact_to_the_vulnerable_system.Low ↦ 1 | confidentiality_impact_to_the_vulnerable_system.High ↦ 2 ]
+abbrev pub four_kind : ℕ → MetricType
+four_kind number = get_or with_four number metric.RE
 
-abbrev pub VI : base.vulnerable.IntegrityImpactToTheVulnerableSystem.IntegrityImpactToTheVulnerableSystem → ℕ
-VI = elim [ integrity_impact_to_the_vulnerable_system.None ↦ 0 | integrity_impact_to_the_vulnerable_system.Low ↦ 1 | integrity_impact_to_the_vulnerable_system.High ↦ 2 ]
+-- the metrics with five values, in printing order, and each by its number there
+abbrev pub with_five : List MetricType
+with_five = metric.MAV ∷ metric.MSI ∷ metric.MSA ∷ metric.U ∷ []
 
-abbrev pub VA : base.vulnerable.AvailabilityImpactToTheVulnerableSystem.AvailabilityImpactToTheVulnerableSystem → ℕ
-VA = elim [ availability_impact_to_the_vulnerable_system.None ↦ 0 | availability_impact_to_the_vulnerable_system.Low ↦ 1 | availability_impact_to_the_vulnerable_system.High ↦ 2 ]
-
-abbrev pub SC : base.subsequent.ConfidentialityImpactToTheSubsequentSystem.ConfidentialityImpactToTheSubsequentSystem → ℕ
-SC = elim [ confidentiality_impact_to_the_subsequent_system.None ↦ 0 | confidentiality_impact_to_the_subsequent_system.Low ↦ 1 | confidentiality_impact_to_the_subsequent_system.High ↦ 2 ]
-
-abbrev pub SI : base.subsequent.IntegrityImpactToTheSubsequentSystem.IntegrityImpactToTheSubsequentSystem → ℕ
-SI = elim [ integrity_impact_to_the_subsequent_system.None ↦ 0 | integrity_impact_to_the_subsequent_system.Low ↦ 1 | integrity_impact_to_the_subsequent_system.High ↦ 2 ]
-
-abbrev pub SA : base.subsequent.AvailabilityImpactToTheSubsequentSystem.AvailabilityImpactToTheSubsequentSystem → ℕ
-SA = elim [ availability_impact_to_the_subsequent_system.None ↦ 0 | availability_impact_to_the_subsequent_system.Low ↦ 1 | availability_impact_to_the_subsequent_system.High ↦ 2 ]
-
--- section 3, threat
-abbrev pub E : threat.ExploitMaturity.ExploitMaturity → ℕ
-E = elim [ exploit_maturity.NotDefined ↦ 0 | exploit_maturity.Unreported ↦ 1 | exploit_maturity.ProofOfConcept ↦ 2 | exploit_maturity.Attacked ↦ 3 ]
-
--- section 4.1, security requirements
-abbrev pub CR : environmental.requirement.ConfidentialityRequirements.ConfidentialityRequirements → ℕ
-CR = elim [ confidentiality_requirements.NotDefined ↦ 0 | confidentiality_requirements.Low ↦ 1 | confidentiality_requirements.Medium ↦ 2 | confidentiality_requirements.High ↦ 3 ]
-
-abbrev pub IR : environmental.requirement.IntegrityRequirements.IntegrityRequirements → ℕ
-IR = elim [ integrity_requirements.NotDefined ↦ 0 | integrity_requirements.Low ↦ 1 | integrity_requirements.Medium ↦ 2 | integrity_requirements.High ↦ 3 ]
-
-abbrev pub AR : environmental.requirement.AvailabilityRequirements.AvailabilityRequirements → ℕ
-AR = elim [ availability_requirements.NotDefined ↦ 0 | availability_requirements.Low ↦ 1 | availability_requirements.Medium ↦ 2 | availability_requirements.High ↦ 3 ]
-
--- section 4.2, modified base metrics
-abbrev pub MAV : environmental.attack.ModifiedAttackVector.ModifiedAttackVector → ℕ
-MAV = elim [ modified_attack_vector.Physical ↦ 0 | modified_attack_vector.Local ↦ 1 | modified_attack_vector.Adjacent ↦ 2 | modified_attack_vector.Network ↦ 3 | modified_attack_vector.NotDefined ↦ 4 ]
-
-abbrev pub MAC : environmental.attack.ModifiedAttackComplexity.ModifiedAttackComplexity → ℕ
-MAC = elim [ modified_attack_complexity.NotDefined ↦ 0 | modified_attack_complexity.High ↦ 1 | modified_attack_complexity.Low ↦ 2 ]
-
-abbrev pub MAT : environmental.attack.ModifiedAttackRequirements.ModifiedAttackRequirements → ℕ
-MAT = elim [ modified_attack_requirements.NotDefined ↦ 0 | modified_attack_requirements.Present ↦ 1 | modified_attack_requirements.None ↦ 2 ]
-
-abbrev pub MPR : environmental.attack.ModifiedPrivilegesRequired.ModifiedPrivilegesRequired → ℕ
-MPR = elim [ modified_privileges_required.NotDefined ↦ 0 | modified_privileges_required.High ↦ 1 | modified_privileges_required.Low ↦ 2 | modified_privileges_required.None ↦ 3 ]
-
-abbrev pub MUI : environmental.attack.ModifiedUserInteraction.ModifiedUserInteraction → ℕ
-MUI = elim [ modified_user_interaction.NotDefined ↦ 0 | modified_user_interaction.Active ↦ 1 | modified_user_interaction.Passive ↦ 2 | modified_user_interaction.None ↦ 3 ]
-
-abbrev pub MVC : environmental.vulnerable.ModifiedConfidentialityImpactToTheVulnerableSystem.ModifiedConfidentialityImpactToTheVulnerableSystem → ℕ
-MVC = elim [ modified_confidentiality_impact_to_the_vulnerable_system.NotDefined ↦ 0 | modified_confidentiality_impact_to_the_vulnerable_system.None ↦ 1 | modified_confidentiality_impact_to_the_vulnerable_system.Low ↦ 2 | modified_confidentiality_impact_to_the_vulnerable_system.High ↦ 3 ]
-
-abbrev pub MVI : environmental.vulnerable.ModifiedIntegrityImpactToTheVulnerableSystem.ModifiedIntegrityImpactToTheVulnerableSystem → ℕ
-MVI = elim [ modified_integrity_impact_to_the_vulnerable_system.NotDefined ↦ 0 | modified_integrity_impact_to_the_vulnerable_system.None ↦ 1 | modified_integrity_impact_to_the_vulnerable_system.Low ↦ 2 | modified_integrity_impact_to_the_vulnerable_system.High ↦ 3 ]
-
-abbrev pub MVA : environmental.vulnerable.ModifiedAvailabilityImpactToTheVulnerableSystem.ModifiedAvailabilityImpactToTheVulnerableSystem → ℕ
-MVA = elim [ modified_availability_impact_to_the_vulnerable_system.NotDefined ↦ 0 | modified_availability_impact_to_the_vulnerable_system.None ↦ 1 | modified_availability_impact_to_the_vulnerable_system.Low ↦ 2 | modified_availability_impact_to_the_vulnerable_system.High ↦ 3 ]
-
-abbrev pub MSC : environmental.subsequent.ModifiedConfidentialityImpactToTheSubsequentSystem.ModifiedConfidentialityImpactToTheSubsequentSystem → ℕ
-MSC = elim [ modified_confidentiality_impact_to_the_subsequent_system.NotDefined ↦ 0 | modified_confidentiality_impact_to_the_subsequent_system.Negligible ↦ 1 | modified_confidentiality_impact_to_the_subsequent_system.Low ↦ 2 | modified_confidentiality_impact_to_the_subsequent_system.High ↦ 3 ]
-
-abbrev pub MSI : environmental.subsequent.ModifiedIntegrityImpactToTheSubsequentSystem.ModifiedIntegrityImpactToTheSubsequentSystem → ℕ
-MSI = elim [ modified_integrity_impact_to_the_subsequent_system.NotDefined ↦ 0 | modified_integrity_impact_to_the_subsequent_system.Negligible ↦ 1 | modified_integrity_impact_to_the_subsequent_system.Low ↦ 2 | modified_integrity_impact_to_the_subsequent_system.High ↦ 3 | modified_integrity_impact_to_the_subsequent_system.Safety ↦ 4 ]
-
-abbrev pub MSA : environmental.subsequent.ModifiedAvailabilityImpactToTheSubsequentSystem.ModifiedAvailabilityImpactToTheSubsequentSystem → ℕ
-MSA = elim [ modified_availability_impact_to_the_subsequent_system.NotDefined ↦ 0 | modified_availability_impact_to_the_subsequent_system.Negligible ↦ 1 | modified_availability_impact_to_the_subsequent_system.Low ↦ 2 | modified_availability_impact_to_the_subsequent_system.High ↦ 3 | modified_availability_impact_to_the_subsequent_system.Safety ↦ 4 ]
-
--- section 5, supplemental metrics
-abbrev pub S : supplemental.consequence.Safety.Safety → ℕ
-S = elim [ safety.NotDefined ↦ 0 | safety.Present ↦ 1 | safety.Negligible ↦ 2 ]
-
-abbrev pub AU : supplemental.consequence.Automatable.Automatable → ℕ
-AU = elim [ automatable.NotDefined ↦ 0 | automatable.Yes ↦ 1 | automatable.No ↦ 2 ]
-
-abbrev pub R : supplemental.consequence.Recovery.Recovery → ℕ
-R = elim [ recovery.NotDefined ↦ 0 | recovery.Automatic ↦ 1 | recovery.User ↦ 2 | recovery.Irrecoverable ↦ 3 ]
-
-abbrev pub V : supplemental.consequence.ValueDensity.ValueDensity → ℕ
-V = elim [ value_density.NotDefined ↦ 0 | value_density.Diffuse ↦ 1 | value_density.Concentrated ↦ 2 ]
-
-abbrev pub RE : supplemental.VulnerabilityResponseEffort.VulnerabilityResponseEffort → ℕ
-RE = elim [ vulnerability_response_effort.NotDefined ↦ 0 | vulnerability_response_effort.Low ↦ 1 | vulnerability_response_effort.Moderate ↦ 2 | vulnerability_response_effort.High ↦ 3 ]
-
-abbrev pub U : supplemental.ProviderUrgency.ProviderUrgency → ℕ
-U = elim [ provider_urgency.NotDefined ↦ 0 | provider_urgency.Red ↦ 1 | provider_urgency.Amber ↦ 2 | provider_urgency.Green ↦ 3 | provider_urgency.Clear ↦ 4 ]
+abbrev pub five_kind : ℕ → MetricType
+five_kind number = get_or with_five number metric.U

@@ -1,8 +1,7 @@
 //! What all metrics of CVSS v2 have in common.
 
-ghost use Rattle.std.specs.Prelude.{◌≡◌, ◌∷◌, IfSome, Some, bytes_eq, find, map};
+ghost use Rattle.std.specs.Prelude.{◌≡◌, IfSome, Some, bytes_eq, find, map};
 ghost use Rattle.std.specs.Fmt.{WritesOnOk, WritesStyledOnOk};
-ghost use Rattle.cvss_base.specs.Text.{slash};
 ghost use Rattle.cvss_base.specs.declared.v2.MetricType.{MetricType};
 ghost use Rattle.cvss_metric.specs.v2.Table.{Value, spelling_of, weight_of, metric_component, rows_of};
 
@@ -27,15 +26,14 @@ pub trait MetricValue: Copy + 'static {
         ensures first { (metric : Self) → find (λ other. bytes_eq (spelling_of KIND (value other))
             (spelling_of KIND (value metric))) result.now ≡ Some metric };
 
-    /// A slash and the component that stands for the value in a vector, and the value's weight in
-    /// thousandths (guide, section 3.2).
+    /// How the value is spelled in a vector, and its weight in thousandths (guide, section 3.2).
     fn row(self) -> (&'static str, u64)
-        ensures text { result.0.now ≡ slash ∷ metric_component KIND (value self) }
+        ensures spelling { result.0.now ≡ spelling_of KIND (value self) }
         ensures weight { result.1 ≡ weight_of KIND (value self) };
 
-    /// A slash and the component that stands for the value in a vector.
-    final fn with_slash(self) -> &'static str
-        ensures { result.now ≡ slash ∷ metric_component KIND (value self) }
+    /// How the value is spelled in a vector.
+    final fn spelling(self) -> &'static str
+        ensures { result.now ≡ spelling_of KIND (value self) }
     {
         self.row().0
     }
@@ -47,7 +45,7 @@ pub trait MetricValue: Copy + 'static {
         ensures styled { WritesStyledOnOk W.write_str_gives f.old result
             (metric_component KIND (value self)) f.new }
     {
-        write_component(self.with_slash(), f)
+        write_component(Self::KIND.name(), self.spelling(), f)
     }
 
     /// The value's weight in thousandths (guide, section 3.2).
@@ -67,20 +65,8 @@ pub trait MetricValue: Copy + 'static {
         Self::values()
             .iter()
             .copied()
-            .find(|value| are_alike(spelling(*value), text))
+            .find(|value| are_alike(value.spelling().as_bytes(), text))
     }
-}
-
-/// How a value is spelled in a vector.
-#[inline(always)]
-fn spelling<M: MetricValue>(value: M) -> &'static [u8]
-    ensures { result.now ≡ spelling_of M.KIND (M.value value) }
-{
-    value
-        .with_slash()
-        .as_bytes()
-        .get(M::KIND.name().len() + 2..)
-        .unwrap_or(&[])
 }
 
 /// Whether two texts are alike. Most are one letter.

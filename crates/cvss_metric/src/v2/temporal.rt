@@ -31,11 +31,11 @@ impl MetricValue for Exploitability {
 
     fn row(self) -> (&'static str, u64) {
         match self {
-            Self::Unproven => ("/E:U", 850),
-            Self::ProofOfConcept => ("/E:POC", 900),
-            Self::Functional => ("/E:F", 950),
-            Self::High => ("/E:H", 1000),
-            Self::NotDefined => ("/E:ND", 1000),
+            Self::Unproven => ("U", 850),
+            Self::ProofOfConcept => ("POC", 900),
+            Self::Functional => ("F", 950),
+            Self::High => ("H", 1000),
+            Self::NotDefined => ("ND", 1000),
         }
     }
 }
@@ -80,11 +80,11 @@ impl MetricValue for RemediationLevel {
 
     fn row(self) -> (&'static str, u64) {
         match self {
-            Self::OfficialFix => ("/RL:OF", 870),
-            Self::TemporaryFix => ("/RL:TF", 900),
-            Self::Workaround => ("/RL:W", 950),
-            Self::Unavailable => ("/RL:U", 1000),
-            Self::NotDefined => ("/RL:ND", 1000),
+            Self::OfficialFix => ("OF", 870),
+            Self::TemporaryFix => ("TF", 900),
+            Self::Workaround => ("W", 950),
+            Self::Unavailable => ("U", 1000),
+            Self::NotDefined => ("ND", 1000),
         }
     }
 }
@@ -122,10 +122,10 @@ impl MetricValue for ReportConfidence {
 
     fn row(self) -> (&'static str, u64) {
         match self {
-            Self::Unconfirmed => ("/RC:UC", 900),
-            Self::Uncorroborated => ("/RC:UR", 950),
-            Self::Confirmed => ("/RC:C", 1000),
-            Self::NotDefined => ("/RC:ND", 1000),
+            Self::Unconfirmed => ("UC", 900),
+            Self::Uncorroborated => ("UR", 950),
+            Self::Confirmed => ("C", 1000),
+            Self::NotDefined => ("ND", 1000),
         }
     }
 }

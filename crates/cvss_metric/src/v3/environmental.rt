@@ -2,7 +2,6 @@
 
 mod modified;
 mod requirement;
-mod texts;
 
 pub use modified::{BaseValue, Modified, ModifiedScope};
 pub use requirement::{AvailabilityRequirement, ConfidentialityRequirement, IntegrityRequirement};

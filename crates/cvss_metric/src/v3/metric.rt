@@ -4,7 +4,7 @@ ghost use Rattle.std.specs.Prelude.{◌≡◌, [], ◌∷◌, ◌*◌, ◌^◌, 
 ghost use Rattle.std.specs.Fmt.{WritesOnOk, WritesStyledOnOk};
 ghost use Rattle.cvss_base.specs.Exact.{IsWithinLimit};
 ghost use Rattle.cvss_base.specs.declared.v3.MetricType.{MetricType};
-ghost use Rattle.cvss_base.specs.Text.{slash, uppercased};
+ghost use Rattle.cvss_base.specs.Text.{uppercased};
 ghost use Rattle.cvss_metric.specs.v3.Table.{Value, spelling_of, weight_of, metric_component, reported_kind};
 
 use cvss_base::component::write_component;
@@ -24,10 +24,10 @@ pub trait MetricValue: Copy + 'static {
 
     ghost value: { Self → Value KIND };
 
-    /// A slash and the component that stands for the value in a vector, and the value's weight in
-    /// hundredths, if it has one (v3.1 specification, section 7.4).
+    /// How the value is spelled in a vector, and its weight in hundredths, if it has one (v3.1
+    /// specification, section 7.4).
     fn row(self) -> (&'static str, Option<u64>)
-        ensures text { result.0.now ≡ slash ∷ metric_component KIND (value self) }
+        ensures spelling { result.0.now ≡ spelling_of KIND (value self) }
         ensures weight { result.1 ≡ weight_of KIND (value self) };
 
     /// The value that is spelled by this letter, exactly as it is written: each value is spelled by
@@ -37,19 +37,11 @@ pub trait MetricValue: Copy + 'static {
         ensures read { (metric : Self) → spelling_of KIND (value metric) ≡ letter ∷ []
             → result ≡ Some metric };
 
-    /// A slash and the component that stands for the value in a vector.
-    final fn with_slash(self) -> &'static str
-        ensures { result.now ≡ slash ∷ metric_component KIND (value self) }
+    /// How the value is spelled in a vector.
+    final fn spelling(self) -> &'static str
+        ensures { result.now ≡ spelling_of KIND (value self) }
     {
         self.row().0
-    }
-
-    /// The letter that spells the value in a vector.
-    final fn letter(self) -> u8
-        ensures { spelling_of KIND (value self) ≡ result ∷ [] }
-    {
-        let text = self.with_slash().as_bytes();
-        text[text.len() - 1]
     }
 
     /// Writes the component that stands for the value in a vector, and the same under any options.
@@ -59,7 +51,7 @@ pub trait MetricValue: Copy + 'static {
         ensures styled { WritesStyledOnOk W.write_str_gives f.old result
             (metric_component KIND (value self)) f.new }
     {
-        write_component(self.with_slash(), f)
+        write_component(Self::KIND.name(), self.spelling(), f)
     }
 
     /// The value's weight in hundredths, if it has one (v3.1 specification, section 7.4).

@@ -26,11 +26,11 @@ impl MetricValue for ExploitCodeMaturity {
 
     fn row(self) -> (&'static str, Option<u64>) {
         match self {
-            Self::NotDefined => ("/E:X", Some(100)),
-            Self::High => ("/E:H", Some(100)),
-            Self::Functional => ("/E:F", Some(97)),
-            Self::ProofOfConcept => ("/E:P", Some(94)),
-            Self::Unproven => ("/E:U", Some(91)),
+            Self::NotDefined => ("X", Some(100)),
+            Self::High => ("H", Some(100)),
+            Self::Functional => ("F", Some(97)),
+            Self::ProofOfConcept => ("P", Some(94)),
+            Self::Unproven => ("U", Some(91)),
         }
     }
 
@@ -76,11 +76,11 @@ impl MetricValue for RemediationLevel {
 
     fn row(self) -> (&'static str, Option<u64>) {
         match self {
-            Self::NotDefined => ("/RL:X", Some(100)),
-            Self::Unavailable => ("/RL:U", Some(100)),
-            Self::Workaround => ("/RL:W", Some(97)),
-            Self::TemporaryFix => ("/RL:T", Some(96)),
-            Self::OfficialFix => ("/RL:O", Some(95)),
+            Self::NotDefined => ("X", Some(100)),
+            Self::Unavailable => ("U", Some(100)),
+            Self::Workaround => ("W", Some(97)),
+            Self::TemporaryFix => ("T", Some(96)),
+            Self::OfficialFix => ("O", Some(95)),
         }
     }
 
@@ -125,10 +125,10 @@ impl MetricValue for ReportConfidence {
 
     fn row(self) -> (&'static str, Option<u64>) {
         match self {
-            Self::NotDefined => ("/RC:X", Some(100)),
-            Self::Confirmed => ("/RC:C", Some(100)),
-            Self::Reasonable => ("/RC:R", Some(96)),
-            Self::Unknown => ("/RC:U", Some(92)),
+            Self::NotDefined => ("X", Some(100)),
+            Self::Confirmed => ("C", Some(100)),
+            Self::Reasonable => ("R", Some(96)),
+            Self::Unknown => ("U", Some(92)),
         }
     }
 

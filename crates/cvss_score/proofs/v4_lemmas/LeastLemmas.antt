@@ -3,7 +3,6 @@ use Rattle.std.proofs.Common.{◌≡◌, ℕ, ◌+◌, ◌-◌, ◌*◌, ◌/◌
 use Rattle.std.proofs.lemmas.Bool.{and_parts}
 use Rattle.std.proofs.lemmas.Bool.Decides.{nat_tests}
 use denote.Enum.Declared.{tag_of}
-use Rattle.cvss_metric.specs.contracts.v4.base.attack as attack
 use Rattle.cvss_score.specs.contracts.v4.scoring.effective as effective
 use Rattle.cvss_score.specs.declared.v4.scoring.effective.ExploitMaturity.{ExploitMaturity}
 use Rattle.cvss_score.specs.declared.v4.scoring.shares.TheConstants.{EQ1_LEAST, EQ1_PARTS, EQ2_LEAST, EQ2_PARTS, EQ3_EQ6_LEAST, EQ3_EQ6_PARTS, EQ4_LEAST, EQ4_PARTS}
@@ -101,7 +100,7 @@ eq1_scale = record {
   sum = λ v. eq1_sum v.0 v.1 v.2;
   least = eq1_least;
   depth = eq1_depth;
-  found = λ v. 3 - tag_of attack.AttackVector.the_type v.0 + (2 - tag_of attack.PrivilegesRequired.the_type v.1) + (2 - tag_of attack.UserInteraction.the_type v.2);
+  found = λ v. 3 - tag_of effective.AttackVector.the_type v.0 + (2 - tag_of effective.PrivilegesRequired.the_type v.1) + (2 - tag_of effective.UserInteraction.the_type v.2);
   constant = slice_index EQ1_LEAST;
   part = slice_index EQ1_PARTS;
 }
@@ -117,7 +116,7 @@ eq2_scale = record {
   sum = λ v. eq2_sum v.0 v.1;
   least = eq2_least;
   depth = eq2_depth;
-  found = λ v. 1 - tag_of attack.AttackComplexity.the_type v.0 + (1 - tag_of attack.AttackRequirements.the_type v.1);
+  found = λ v. 1 - tag_of effective.AttackComplexity.the_type v.0 + (1 - tag_of effective.AttackRequirements.the_type v.1);
   constant = slice_index EQ2_LEAST;
   part = slice_index EQ2_PARTS;
 }

@@ -9,7 +9,6 @@ use Rattle.std.proofs.lemmas.Option.{get_or_from_slice_get, slice_get_within}
 use Rattle.cvss_score.specs.v4.Effective.{attack_vectors, privileges, user_interactions, attack_complexities, all_attack_requirements, vulnerable_impacts, subsequent_impacts, safety_impacts, requirements, exploit_maturities, values}
 use Rattle.cvss_score.specs.v4.Levels.{attack_vector_level, privileges_level, interaction_level, complexity_level, requirements_level, vulnerable_level, subsequent_level, safety_level, requirement_level}
 use Rattle.cvss_score.specs.v4.Classes.{eq5, IsPair, Eq1Values, Eq2Values, Eq3Eq6Values, Eq4Values}
-use Rattle.cvss_metric.specs.declared.v4.base.attack as attack
 use Rattle.cvss_score.specs.declared.v4.scoring.effective as effective
 
 -- a type of few values: a test of all of them, and that it holds of each
@@ -45,20 +44,20 @@ six a b = record {
       ((three a a a).each (λ u. (three b b b).every (λ w. p (u.0, u.1, u.2, w.0, w.1, w.2))) h (v.0, v.1, v.2)) (v.3, v.4, v.5);
 }
 
-abbrev each_attack_vector : Finite attack.AttackVector.AttackVector
-each_attack_vector = listed (values attack_vectors) attack_vector_level (elim [ attack.AttackVector.TheVariants.Network ↦ refl | _ ↦ refl ])
+abbrev each_attack_vector : Finite effective.AttackVector.AttackVector
+each_attack_vector = listed (values attack_vectors) attack_vector_level (elim [ effective.AttackVector.TheVariants.Network ↦ refl | _ ↦ refl ])
 
-abbrev each_privileges_required : Finite attack.PrivilegesRequired.PrivilegesRequired
-each_privileges_required = listed (values privileges) privileges_level (elim [ attack.PrivilegesRequired.TheVariants.None ↦ refl | _ ↦ refl ])
+abbrev each_privileges_required : Finite effective.PrivilegesRequired.PrivilegesRequired
+each_privileges_required = listed (values privileges) privileges_level (elim [ effective.PrivilegesRequired.TheVariants.None ↦ refl | _ ↦ refl ])
 
-abbrev each_user_interaction : Finite attack.UserInteraction.UserInteraction
-each_user_interaction = listed (values user_interactions) interaction_level (elim [ attack.UserInteraction.TheVariants.None ↦ refl | _ ↦ refl ])
+abbrev each_user_interaction : Finite effective.UserInteraction.UserInteraction
+each_user_interaction = listed (values user_interactions) interaction_level (elim [ effective.UserInteraction.TheVariants.None ↦ refl | _ ↦ refl ])
 
-abbrev each_attack_complexity : Finite attack.AttackComplexity.AttackComplexity
-each_attack_complexity = listed (values attack_complexities) complexity_level (elim [ attack.AttackComplexity.TheVariants.Low ↦ refl | _ ↦ refl ])
+abbrev each_attack_complexity : Finite effective.AttackComplexity.AttackComplexity
+each_attack_complexity = listed (values attack_complexities) complexity_level (elim [ effective.AttackComplexity.TheVariants.Low ↦ refl | _ ↦ refl ])
 
-abbrev each_attack_requirements : Finite attack.AttackRequirements.AttackRequirements
-each_attack_requirements = listed (values all_attack_requirements) requirements_level (elim [ attack.AttackRequirements.TheVariants.None ↦ refl | _ ↦ refl ])
+abbrev each_attack_requirements : Finite effective.AttackRequirements.AttackRequirements
+each_attack_requirements = listed (values all_attack_requirements) requirements_level (elim [ effective.AttackRequirements.TheVariants.None ↦ refl | _ ↦ refl ])
 
 abbrev each_vulnerable_impact : Finite effective.VulnerableImpact.VulnerableImpact
 each_vulnerable_impact = listed (values vulnerable_impacts) vulnerable_level (elim [ effective.VulnerableImpact.TheVariants.High ↦ refl | _ ↦ refl ])

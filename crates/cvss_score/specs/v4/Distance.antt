@@ -6,11 +6,11 @@ use Rattle.cvss_score.specs.v4.Effective.{attack_vectors, privileges, user_inter
 use Rattle.cvss_score.specs.v4.Levels.{attack_vector_level, privileges_level, interaction_level, complexity_level, requirements_level, vulnerable_level, subsequent_level, safety_level, requirement_level}
 use Rattle.cvss_score.specs.v4.Classes.{eq1, eq2, eq3, eq4, eq6}
 use Rattle.cvss_score.specs.declared.v4.scoring.effective.Effective.{Effective}
-use Rattle.cvss_metric.specs.declared.v4.base.attack.AttackVector.{AttackVector}
-use Rattle.cvss_metric.specs.declared.v4.base.attack.PrivilegesRequired.{PrivilegesRequired}
-use Rattle.cvss_metric.specs.declared.v4.base.attack.UserInteraction.{UserInteraction}
-use Rattle.cvss_metric.specs.declared.v4.base.attack.AttackComplexity.{AttackComplexity}
-use Rattle.cvss_metric.specs.declared.v4.base.attack.AttackRequirements.{AttackRequirements}
+use Rattle.cvss_score.specs.declared.v4.scoring.effective.AttackVector.{AttackVector}
+use Rattle.cvss_score.specs.declared.v4.scoring.effective.PrivilegesRequired.{PrivilegesRequired}
+use Rattle.cvss_score.specs.declared.v4.scoring.effective.UserInteraction.{UserInteraction}
+use Rattle.cvss_score.specs.declared.v4.scoring.effective.AttackComplexity.{AttackComplexity}
+use Rattle.cvss_score.specs.declared.v4.scoring.effective.AttackRequirements.{AttackRequirements}
 use Rattle.cvss_score.specs.declared.v4.scoring.effective.VulnerableImpact.{VulnerableImpact}
 use Rattle.cvss_score.specs.declared.v4.scoring.effective.SubsequentImpact.{SubsequentImpact}
 use Rattle.cvss_score.specs.declared.v4.scoring.effective.SafetyImpact.{SafetyImpact}

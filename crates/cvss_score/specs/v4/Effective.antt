@@ -1,16 +1,16 @@
 -- The effective values of each metric by their letters, the most severe first: CVSS v4.0 specification, sections 2 to 4.
 use Rattle.std.specs.Prelude.{ℕ, List, [], ◌∷◌, codes, map, find, bytes_eq}
 use Rattle.std.specs.Option.{option_map_or}
-use Rattle.cvss_metric.specs.declared.v4.base.attack.AttackVector.{AttackVector}
-use Rattle.cvss_metric.specs.declared.v4.base.attack.AttackVector.TheVariants as attack_vector
-use Rattle.cvss_metric.specs.declared.v4.base.attack.PrivilegesRequired.{PrivilegesRequired}
-use Rattle.cvss_metric.specs.declared.v4.base.attack.PrivilegesRequired.TheVariants as privileges_required
-use Rattle.cvss_metric.specs.declared.v4.base.attack.UserInteraction.{UserInteraction}
-use Rattle.cvss_metric.specs.declared.v4.base.attack.UserInteraction.TheVariants as user_interaction
-use Rattle.cvss_metric.specs.declared.v4.base.attack.AttackComplexity.{AttackComplexity}
-use Rattle.cvss_metric.specs.declared.v4.base.attack.AttackComplexity.TheVariants as attack_complexity
-use Rattle.cvss_metric.specs.declared.v4.base.attack.AttackRequirements.{AttackRequirements}
-use Rattle.cvss_metric.specs.declared.v4.base.attack.AttackRequirements.TheVariants as attack_requirements
+use Rattle.cvss_score.specs.declared.v4.scoring.effective.AttackVector.{AttackVector}
+use Rattle.cvss_score.specs.declared.v4.scoring.effective.AttackVector.TheVariants as attack_vector
+use Rattle.cvss_score.specs.declared.v4.scoring.effective.PrivilegesRequired.{PrivilegesRequired}
+use Rattle.cvss_score.specs.declared.v4.scoring.effective.PrivilegesRequired.TheVariants as privileges_required
+use Rattle.cvss_score.specs.declared.v4.scoring.effective.UserInteraction.{UserInteraction}
+use Rattle.cvss_score.specs.declared.v4.scoring.effective.UserInteraction.TheVariants as user_interaction
+use Rattle.cvss_score.specs.declared.v4.scoring.effective.AttackComplexity.{AttackComplexity}
+use Rattle.cvss_score.specs.declared.v4.scoring.effective.AttackComplexity.TheVariants as attack_complexity
+use Rattle.cvss_score.specs.declared.v4.scoring.effective.AttackRequirements.{AttackRequirements}
+use Rattle.cvss_score.specs.declared.v4.scoring.effective.AttackRequirements.TheVariants as attack_requirements
 use Rattle.cvss_score.specs.declared.v4.scoring.effective.VulnerableImpact.{VulnerableImpact}
 use Rattle.cvss_score.specs.declared.v4.scoring.effective.VulnerableImpact.TheVariants as vulnerable_impact
 use Rattle.cvss_score.specs.declared.v4.scoring.effective.SubsequentImpact.{SubsequentImpact}

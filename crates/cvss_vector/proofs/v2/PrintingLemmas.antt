@@ -1,10 +1,14 @@
--- How long components are.
-use Rattle.std.proofs.Common.{◌≤◌, ◌∷◌, length, rules}
-use Rattle.cvss_base.specs.Text.{slash}
+-- How long names and spellings are.
+use Rattle.std.proofs.Common.{◌+◌, ◌≤◌, length, rules}
+use Rattle.cvss_base.specs.V2Types.{name_of}
 use Rattle.cvss_base.specs.declared.v2.MetricType.{MetricType}
 use Rattle.cvss_base.specs.declared.v2.MetricType.TheVariants.{A}
-use Rattle.cvss_metric.specs.v2.Table.{Value, metric_component}
+use Rattle.cvss_metric.specs.v2.Table.{Value, spelling_of}
 
-pub lengths : (kind : MetricType) (value : Value kind) → (3 ≤ length (slash ∷ metric_component kind value)) × (length (slash ∷ metric_component kind value) ≤ 8)
+pub name_lengths : (kind : MetricType) → (1 ≤ length (name_of kind)) × (length (name_of kind) ≤ 3)
+name_lengths A = search rules
+name_lengths _ = search rules
+
+pub lengths : (kind : MetricType) (value : Value kind) → length (name_of kind) + length (spelling_of kind value) ≤ 6
 lengths A = search rules
 lengths _ = search rules

@@ -5,13 +5,17 @@ use Rattle.std.specs.Option.{option_map_or}
 use Rattle.cvss_base.specs.declared.v4.MetricType.{MetricType}
 use Rattle.cvss_base.specs.declared.v4.MetricType.TheVariants.{AC, AT, AV, PR, SA, SC, SI, UI, VA, VC, VI, E, AR, CR, IR, MAC, MAT, MAV, MPR, MSA, MSC, MSI, MUI, MVA, MVC, MVI}
 use Rattle.cvss_score.specs.v4.Effective.{meaning, attack_vectors, privileges, user_interactions, attack_complexities, all_attack_requirements, vulnerable_impacts, subsequent_impacts, safety_impacts, requirements, exploit_maturities}
-use Rattle.cvss_vector.specs.v4.Table.{Value, spelling_of, value_at}
+use Rattle.cvss_metric.specs.v4.Table.{spelling_at}
+use Rattle.cvss_vector.specs.v4.Table.{Value, rank_of, value_at}
 use Rattle.cvss_score.specs.declared.v4.scoring.effective.Effective.{Effective}
 use Rattle.cvss_vector.specs.declared.v4.vector.Vector.{Vector}
 
--- the letter of a value, where an absent one counts as Not Defined
+-- the letter of a value by its place among those of a metric, where an absent one counts as Not Defined
+abbrev pub letter_by : {A : Type 0} → MetricType → (A → ℕ) → Option A → List ℕ
+letter_by kind rank value = option_map_or (λ each. spelling_at kind (rank each)) value (codes "X")
+
 abbrev pub letter_of : (kind : MetricType) → Option (Value kind) → List ℕ
-letter_of kind value = option_map_or (spelling_of kind) value (codes "X")
+letter_of kind value = letter_by kind (rank_of kind) value
 
 -- the letter that a vector has for a metric
 abbrev pub letter_at : Vector → MetricType → List ℕ

@@ -3,7 +3,7 @@
 use Rattle.std.specs.Prelude.{ℕ, List, Option}
 use Rattle.cvss_base.specs.declared.v4.MetricType.{MetricType}
 use Rattle.cvss_base.specs.declared.v4.MetricType.TheVariants as metric
-use Rattle.cvss_metric.specs.v4.Table as place
+use Rattle.cvss_metric.specs.v4.Places.{two_rank, three_rank, four_rank, five_rank}
 use Rattle.cvss_metric.specs.v4.Table.{spelling_at}
 use Rattle.cvss_vector.specs.declared.v4.vector.Vector.{Vector}
 
@@ -15,44 +15,44 @@ pub record Metric : Type 1 where
   pub value : Vector → Option Value
   pub with_value : Vector → Option Value → Vector
 
--- a metric whose values are an enum, by their places and the field of a vector
+-- a metric whose values are given by their places, and the field of a vector
 abbrev of : {A : Type 0} → (A → ℕ) → (Vector → Option A) → (Vector → Option A → Vector) → Metric
 of {A} rank value with_value = record { Value = A; rank = rank; value = value; with_value = with_value }
 
 -- the values of each metric
 abbrev pub values_of : MetricType → Metric
-values_of metric.AV = of place.AV (λ v. v.av) (λ v x. record v { av = x })
-values_of metric.AC = of place.AC (λ v. v.ac) (λ v x. record v { ac = x })
-values_of metric.AT = of place.AT (λ v. v.at) (λ v x. record v { at = x })
-values_of metric.PR = of place.PR (λ v. v.pr) (λ v x. record v { pr = x })
-values_of metric.UI = of place.UI (λ v. v.ui) (λ v x. record v { ui = x })
-values_of metric.VC = of place.VC (λ v. v.vc) (λ v x. record v { vc = x })
-values_of metric.VI = of place.VI (λ v. v.vi) (λ v x. record v { vi = x })
-values_of metric.VA = of place.VA (λ v. v.va) (λ v x. record v { va = x })
-values_of metric.SC = of place.SC (λ v. v.sc) (λ v x. record v { sc = x })
-values_of metric.SI = of place.SI (λ v. v.si) (λ v x. record v { si = x })
-values_of metric.SA = of place.SA (λ v. v.sa) (λ v x. record v { sa = x })
-values_of metric.E = of place.E (λ v. v.e) (λ v x. record v { e = x })
-values_of metric.CR = of place.CR (λ v. v.cr) (λ v x. record v { cr = x })
-values_of metric.IR = of place.IR (λ v. v.ir) (λ v x. record v { ir = x })
-values_of metric.AR = of place.AR (λ v. v.ar) (λ v x. record v { ar = x })
-values_of metric.MAV = of place.MAV (λ v. v.mav) (λ v x. record v { mav = x })
-values_of metric.MAC = of place.MAC (λ v. v.mac) (λ v x. record v { mac = x })
-values_of metric.MAT = of place.MAT (λ v. v.mat) (λ v x. record v { mat = x })
-values_of metric.MPR = of place.MPR (λ v. v.mpr) (λ v x. record v { mpr = x })
-values_of metric.MUI = of place.MUI (λ v. v.mui) (λ v x. record v { mui = x })
-values_of metric.MVC = of place.MVC (λ v. v.mvc) (λ v x. record v { mvc = x })
-values_of metric.MVI = of place.MVI (λ v. v.mvi) (λ v x. record v { mvi = x })
-values_of metric.MVA = of place.MVA (λ v. v.mva) (λ v x. record v { mva = x })
-values_of metric.MSC = of place.MSC (λ v. v.msc) (λ v x. record v { msc = x })
-values_of metric.MSI = of place.MSI (λ v. v.msi) (λ v x. record v { msi = x })
-values_of metric.MSA = of place.MSA (λ v. v.msa) (λ v x. record v { msa = x })
-values_of metric.S = of place.S (λ v. v.s) (λ v x. record v { s = x })
-values_of metric.AU = of place.AU (λ v. v.au) (λ v x. record v { au = x })
-values_of metric.R = of place.R (λ v. v.r) (λ v x. record v { r = x })
-values_of metric.V = of place.V (λ v. v.v) (λ v x. record v { v = x })
-values_of metric.RE = of place.RE (λ v. v.re) (λ v x. record v { re = x })
-values_of metric.U = of place.U (λ v. v.u) (λ v x. record v { u = x })
+values_of metric.AV = of four_rank (λ v. v.av) (λ v x. record v { av = x })
+values_of metric.AC = of two_rank (λ v. v.ac) (λ v x. record v { ac = x })
+values_of metric.AT = of two_rank (λ v. v.at) (λ v x. record v { at = x })
+values_of metric.PR = of three_rank (λ v. v.pr) (λ v x. record v { pr = x })
+values_of metric.UI = of three_rank (λ v. v.ui) (λ v x. record v { ui = x })
+values_of metric.VC = of three_rank (λ v. v.vc) (λ v x. record v { vc = x })
+values_of metric.VI = of three_rank (λ v. v.vi) (λ v x. record v { vi = x })
+values_of metric.VA = of three_rank (λ v. v.va) (λ v x. record v { va = x })
+values_of metric.SC = of three_rank (λ v. v.sc) (λ v x. record v { sc = x })
+values_of metric.SI = of three_rank (λ v. v.si) (λ v x. record v { si = x })
+values_of metric.SA = of three_rank (λ v. v.sa) (λ v x. record v { sa = x })
+values_of metric.E = of four_rank (λ v. v.e) (λ v x. record v { e = x })
+values_of metric.CR = of four_rank (λ v. v.cr) (λ v x. record v { cr = x })
+values_of metric.IR = of four_rank (λ v. v.ir) (λ v x. record v { ir = x })
+values_of metric.AR = of four_rank (λ v. v.ar) (λ v x. record v { ar = x })
+values_of metric.MAV = of five_rank (λ v. v.mav) (λ v x. record v { mav = x })
+values_of metric.MAC = of three_rank (λ v. v.mac) (λ v x. record v { mac = x })
+values_of metric.MAT = of three_rank (λ v. v.mat) (λ v x. record v { mat = x })
+values_of metric.MPR = of four_rank (λ v. v.mpr) (λ v x. record v { mpr = x })
+values_of metric.MUI = of four_rank (λ v. v.mui) (λ v x. record v { mui = x })
+values_of metric.MVC = of four_rank (λ v. v.mvc) (λ v x. record v { mvc = x })
+values_of metric.MVI = of four_rank (λ v. v.mvi) (λ v x. record v { mvi = x })
+values_of metric.MVA = of four_rank (λ v. v.mva) (λ v x. record v { mva = x })
+values_of metric.MSC = of four_rank (λ v. v.msc) (λ v x. record v { msc = x })
+values_of metric.MSI = of five_rank (λ v. v.msi) (λ v x. record v { msi = x })
+values_of metric.MSA = of five_rank (λ v. v.msa) (λ v x. record v { msa = x })
+values_of metric.S = of three_rank (λ v. v.s) (λ v x. record v { s = x })
+values_of metric.AU = of three_rank (λ v. v.au) (λ v x. record v { au = x })
+values_of metric.R = of four_rank (λ v. v.r) (λ v x. record v { r = x })
+values_of metric.V = of three_rank (λ v. v.v) (λ v x. record v { v = x })
+values_of metric.RE = of four_rank (λ v. v.re) (λ v x. record v { re = x })
+values_of metric.U = of five_rank (λ v. v.u) (λ v x. record v { u = x })
 
 -- the type of a metric's values
 abbrev pub Value : MetricType → Type 0

@@ -13,55 +13,56 @@ mod scores;
 use crate::refusing::vector_after;
 use crate::v4::laws::vectors_are_their_values;
 use cvss_base::Error;
-use cvss_metric::v4::{base, environmental, supplemental, threat};
+use cvss_metric::v4::table;
 use cvss_text::front::read_after;
 use cvss_text::walk::Components;
 pub use overriding::OverrideError;
 pub use printing::Metrics;
 use std::alloc::Global;
 
-/// A vector of CVSS v4.0 (v4.0 specification, section 7): at most one value for each metric.
+/// A vector of CVSS v4.0 (v4.0 specification, section 7): at most one value for each metric, by its place
+/// among those of the metric.
 ///
 /// A vector that was read from a text has minor version 0 and all eleven base metrics.
-#[derive(Clone, Copy, Debug, Default, PartialEq, Eq)]
+#[derive(Clone, Copy, Default, PartialEq, Eq)]
 pub struct Vector {
     pub minor_version: usize,
-    av: Option<base::AttackVector>,
-    ac: Option<base::AttackComplexity>,
-    at: Option<base::AttackRequirements>,
-    pr: Option<base::PrivilegesRequired>,
-    ui: Option<base::UserInteraction>,
-    vc: Option<base::ConfidentialityImpactToTheVulnerableSystem>,
-    vi: Option<base::IntegrityImpactToTheVulnerableSystem>,
-    va: Option<base::AvailabilityImpactToTheVulnerableSystem>,
-    sc: Option<base::ConfidentialityImpactToTheSubsequentSystem>,
-    si: Option<base::IntegrityImpactToTheSubsequentSystem>,
-    sa: Option<base::AvailabilityImpactToTheSubsequentSystem>,
-    e: Option<threat::ExploitMaturity>,
-    cr: Option<environmental::ConfidentialityRequirements>,
-    ir: Option<environmental::IntegrityRequirements>,
-    ar: Option<environmental::AvailabilityRequirements>,
-    mav: Option<environmental::ModifiedAttackVector>,
-    mac: Option<environmental::ModifiedAttackComplexity>,
-    mat: Option<environmental::ModifiedAttackRequirements>,
-    mpr: Option<environmental::ModifiedPrivilegesRequired>,
-    mui: Option<environmental::ModifiedUserInteraction>,
-    mvc: Option<environmental::ModifiedConfidentialityImpactToTheVulnerableSystem>,
-    mvi: Option<environmental::ModifiedIntegrityImpactToTheVulnerableSystem>,
-    mva: Option<environmental::ModifiedAvailabilityImpactToTheVulnerableSystem>,
-    msc: Option<environmental::ModifiedConfidentialityImpactToTheSubsequentSystem>,
-    msi: Option<environmental::ModifiedIntegrityImpactToTheSubsequentSystem>,
-    msa: Option<environmental::ModifiedAvailabilityImpactToTheSubsequentSystem>,
-    s: Option<supplemental::Safety>,
-    au: Option<supplemental::Automatable>,
-    r: Option<supplemental::Recovery>,
-    v: Option<supplemental::ValueDensity>,
-    re: Option<supplemental::VulnerabilityResponseEffort>,
-    u: Option<supplemental::ProviderUrgency>,
+    av: Option<table::AV>,
+    ac: Option<table::AC>,
+    at: Option<table::AT>,
+    pr: Option<table::PR>,
+    ui: Option<table::UI>,
+    vc: Option<table::VC>,
+    vi: Option<table::VI>,
+    va: Option<table::VA>,
+    sc: Option<table::SC>,
+    si: Option<table::SI>,
+    sa: Option<table::SA>,
+    e: Option<table::E>,
+    cr: Option<table::CR>,
+    ir: Option<table::IR>,
+    ar: Option<table::AR>,
+    mav: Option<table::MAV>,
+    mac: Option<table::MAC>,
+    mat: Option<table::MAT>,
+    mpr: Option<table::MPR>,
+    mui: Option<table::MUI>,
+    mvc: Option<table::MVC>,
+    mvi: Option<table::MVI>,
+    mva: Option<table::MVA>,
+    msc: Option<table::MSC>,
+    msi: Option<table::MSI>,
+    msa: Option<table::MSA>,
+    s: Option<table::S>,
+    au: Option<table::AU>,
+    r: Option<table::R>,
+    v: Option<table::V>,
+    re: Option<table::RE>,
+    u: Option<table::U>,
 }
 
 /// Calls a macro with what is given for it and, of each metric in printing order, the abbreviation,
-/// the field and the type of its values.
+/// the field and the enum of its values, by its path in `cvss::v4::metric`.
 #[macro_export]
 macro_rules! each_v4_metric {
     ($with:ident!($($given:tt)*)) => {

@@ -1,7 +1,5 @@
 -- What holds of a modified metric, by the laws of its base metric alone.
-use Rattle.std.specs.Prelude.{◌≡◌, ℕ, Bool, true, false, [], ◌∷◌, bytes_eq, is_some, IsSome, Option, Some}
-use Rattle.std.specs.List.{list_any}
-use Rattle.std.specs.Option.{option_map_or}
+use Rattle.std.specs.Prelude.{◌≡◌, Bool, true, false, is_some, IsSome, Option, Some}
 use Rattle.std.proofs.Common.{◌∙◌, ap, sym, rules}
 use Rattle.cvss_base.specs.Equality.{EqualsByValue}
 use Rattle.cvss_base.specs.declared.v3.MetricType.{MetricType}
@@ -10,7 +8,7 @@ use Rattle.cvss_metric.specs.declared.v3.environmental.modified.Modified.{Modifi
 use Rattle.cvss_metric.specs.declared.v3.environmental.modified.Modified.TheVariants.{NotDefined, Modified as Set}
 use Rattle.cvss_metric.specs.v3.BaseMetrics.{IsBaseValue}
 use Rattle.cvss_metric.specs.v3.Modified.{modified_spelling}
-use Rattle.cvss_metric.specs.v3.Table.{Value, AnyValue, rows_of, spelling_of, weight_of, modified_of, replacing, replacing_value, modified_value}
+use Rattle.cvss_metric.specs.v3.Table.{Value, AnyValue, spelling_of, weight_of, modified_of, replacing, replacing_value, modified_value}
 
 -- what holds of each metric that can be modified, checked metric by metric
 value_spelled : (kind : MetricType) → IsSome (modified_of kind) → (x : Modified (Value kind)) → spelling_of (replacing kind) (replacing_value kind x) ≡ modified_spelling (spelling_of kind) x
@@ -24,10 +22,6 @@ undefined_weight _ = search rules
 set_weight : (kind : MetricType) → IsSome (modified_of kind) → (x : Value kind) → IsSome (weight_of kind x) → Some 0 ≡ weight_of (replacing kind) (replacing_value kind (Set x))
 set_weight availability = search rules
 set_weight _ = search rules
-
--- the letters that spell the values of the metric that replaces a metric
-abbrev pub is_modified_letter : MetricType → ℕ → Bool
-is_modified_letter kind letter = option_map_or (λ modified. list_any (λ row. bytes_eq row.0 (letter ∷ [])) (rows_of modified)) (modified_of kind) false
 
 module _ {A : Type 0} {kind modified_kind : MetricType} {value : A → Value kind} {own : Modified A → Option AnyValue} (base : IsBaseValue kind modified_kind value own) where
   some : IsSome (modified_of kind)

@@ -1,11 +1,11 @@
 -- What holds of each value in the table of CVSS v3, checked value by value.
-use Rattle.std.specs.Prelude.{◌≡◌, ℕ, ◌-◌, ◌<◌, List, [], ◌∷◌, length, get_or}
+use Rattle.std.specs.Prelude.{◌≡◌}
 use Rattle.std.proofs.Common.{rules}
-use Rattle.cvss_base.specs.Text.{uppercased, slash}
+use Rattle.cvss_base.specs.Text.{uppercased}
 use Rattle.cvss_base.specs.private.Component.{delimiter_bytes}
 use Rattle.cvss_base.specs.declared.v3.MetricType.{MetricType}
 use Rattle.cvss_base.specs.declared.v3.MetricType.TheVariants.{A}
-use Rattle.cvss_metric.specs.v3.Table.{Value, spelling_of, metric_component}
+use Rattle.cvss_metric.specs.v3.Table.{Value, spelling_of}
 
 -- a spelling is its own text in upper case
 pub uppercased_spelling : (kind : MetricType) (value : Value kind) → uppercased (spelling_of kind value) ≡ spelling_of kind value
@@ -21,10 +21,3 @@ plain_spelling _ = search rules
 pub one_value : (kind : MetricType) (x y : Value kind) → uppercased (spelling_of kind x) ≡ uppercased (spelling_of kind y) → x ≡ y
 one_value A = search rules
 one_value _ = search rules
-
--- a component ends in the one letter that spells its value
-pub ends_in_letter : (kind : MetricType) (value : Value kind) (text : List ℕ) → text ≡ slash ∷ metric_component kind value → (0 < length text) × (spelling_of kind value ≡ get_or text (length text - 1) 0 ∷ [])
-ends_in_letter kind value text is = rw is (ended kind value) where
-  ended : (kind : MetricType) (value : Value kind) → (0 < length (slash ∷ metric_component kind value)) × (spelling_of kind value ≡ get_or (slash ∷ metric_component kind value) (length (slash ∷ metric_component kind value) - 1) 0 ∷ [])
-  ended A = search rules
-  ended _ = search rules

@@ -28,9 +28,9 @@ impl MetricValue for AccessVector {
 
     fn row(self) -> (&'static str, u64) {
         match self {
-            Self::Local => ("/AV:L", 395),
-            Self::AdjacentNetwork => ("/AV:A", 646),
-            Self::Network => ("/AV:N", 1000),
+            Self::Local => ("L", 395),
+            Self::AdjacentNetwork => ("A", 646),
+            Self::Network => ("N", 1000),
         }
     }
 }
@@ -66,9 +66,9 @@ impl MetricValue for AccessComplexity {
 
     fn row(self) -> (&'static str, u64) {
         match self {
-            Self::High => ("/AC:H", 350),
-            Self::Medium => ("/AC:M", 610),
-            Self::Low => ("/AC:L", 710),
+            Self::High => ("H", 350),
+            Self::Medium => ("M", 610),
+            Self::Low => ("L", 710),
         }
     }
 }
@@ -104,9 +104,9 @@ impl MetricValue for Authentication {
 
     fn row(self) -> (&'static str, u64) {
         match self {
-            Self::Multiple => ("/Au:M", 450),
-            Self::Single => ("/Au:S", 560),
-            Self::None => ("/Au:N", 704),
+            Self::Multiple => ("M", 450),
+            Self::Single => ("S", 560),
+            Self::None => ("N", 704),
         }
     }
 }

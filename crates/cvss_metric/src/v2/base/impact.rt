@@ -28,9 +28,9 @@ impl MetricValue for ConfidentialityImpact {
 
     fn row(self) -> (&'static str, u64) {
         match self {
-            Self::None => ("/C:N", 0),
-            Self::Partial => ("/C:P", 275),
-            Self::Complete => ("/C:C", 660),
+            Self::None => ("N", 0),
+            Self::Partial => ("P", 275),
+            Self::Complete => ("C", 660),
         }
     }
 }
@@ -66,9 +66,9 @@ impl MetricValue for IntegrityImpact {
 
     fn row(self) -> (&'static str, u64) {
         match self {
-            Self::None => ("/I:N", 0),
-            Self::Partial => ("/I:P", 275),
-            Self::Complete => ("/I:C", 660),
+            Self::None => ("N", 0),
+            Self::Partial => ("P", 275),
+            Self::Complete => ("C", 660),
         }
     }
 }
@@ -104,9 +104,9 @@ impl MetricValue for AvailabilityImpact {
 
     fn row(self) -> (&'static str, u64) {
         match self {
-            Self::None => ("/A:N", 0),
-            Self::Partial => ("/A:P", 275),
-            Self::Complete => ("/A:C", 660),
+            Self::None => ("N", 0),
+            Self::Partial => ("P", 275),
+            Self::Complete => ("C", 660),
         }
     }
 }

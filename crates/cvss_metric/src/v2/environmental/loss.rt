@@ -32,12 +32,12 @@ impl MetricValue for CollateralDamagePotential {
 
     fn row(self) -> (&'static str, u64) {
         match self {
-            Self::None => ("/CDP:N", 0),
-            Self::Low => ("/CDP:L", 100),
-            Self::LowMedium => ("/CDP:LM", 300),
-            Self::MediumHigh => ("/CDP:MH", 400),
-            Self::High => ("/CDP:H", 500),
-            Self::NotDefined => ("/CDP:ND", 0),
+            Self::None => ("N", 0),
+            Self::Low => ("L", 100),
+            Self::LowMedium => ("LM", 300),
+            Self::MediumHigh => ("MH", 400),
+            Self::High => ("H", 500),
+            Self::NotDefined => ("ND", 0),
         }
     }
 }
@@ -76,11 +76,11 @@ impl MetricValue for TargetDistribution {
 
     fn row(self) -> (&'static str, u64) {
         match self {
-            Self::None => ("/TD:N", 0),
-            Self::Low => ("/TD:L", 250),
-            Self::Medium => ("/TD:M", 750),
-            Self::High => ("/TD:H", 1000),
-            Self::NotDefined => ("/TD:ND", 1000),
+            Self::None => ("N", 0),
+            Self::Low => ("L", 250),
+            Self::Medium => ("M", 750),
+            Self::High => ("H", 1000),
+            Self::NotDefined => ("ND", 1000),
         }
     }
 }

@@ -29,10 +29,10 @@ impl MetricValue for ConfidentialityRequirement {
 
     fn row(self) -> (&'static str, u64) {
         match self {
-            Self::Low => ("/CR:L", 500),
-            Self::Medium => ("/CR:M", 1000),
-            Self::High => ("/CR:H", 1510),
-            Self::NotDefined => ("/CR:ND", 1000),
+            Self::Low => ("L", 500),
+            Self::Medium => ("M", 1000),
+            Self::High => ("H", 1510),
+            Self::NotDefined => ("ND", 1000),
         }
     }
 }
@@ -69,10 +69,10 @@ impl MetricValue for IntegrityRequirement {
 
     fn row(self) -> (&'static str, u64) {
         match self {
-            Self::Low => ("/IR:L", 500),
-            Self::Medium => ("/IR:M", 1000),
-            Self::High => ("/IR:H", 1510),
-            Self::NotDefined => ("/IR:ND", 1000),
+            Self::Low => ("L", 500),
+            Self::Medium => ("M", 1000),
+            Self::High => ("H", 1510),
+            Self::NotDefined => ("ND", 1000),
         }
     }
 }
@@ -109,10 +109,10 @@ impl MetricValue for AvailabilityRequirement {
 
     fn row(self) -> (&'static str, u64) {
         match self {
-            Self::Low => ("/AR:L", 500),
-            Self::Medium => ("/AR:M", 1000),
-            Self::High => ("/AR:H", 1510),
-            Self::NotDefined => ("/AR:ND", 1000),
+            Self::Low => ("L", 500),
+            Self::Medium => ("M", 1000),
+            Self::High => ("H", 1510),
+            Self::NotDefined => ("ND", 1000),
         }
     }
 }

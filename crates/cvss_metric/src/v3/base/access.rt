@@ -29,9 +29,9 @@ impl MetricValue for PrivilegesRequired {
 
     fn row(self) -> (&'static str, Option<u64>) {
         match self {
-            Self::High => ("/PR:H", Some(27)),
-            Self::Low => ("/PR:L", Some(62)),
-            Self::None => ("/PR:N", Some(85)),
+            Self::High => ("H", Some(27)),
+            Self::Low => ("L", Some(62)),
+            Self::None => ("N", Some(85)),
         }
     }
 
@@ -104,8 +104,8 @@ impl MetricValue for UserInteraction {
 
     fn row(self) -> (&'static str, Option<u64>) {
         match self {
-            Self::Required => ("/UI:R", Some(62)),
-            Self::None => ("/UI:N", Some(85)),
+            Self::Required => ("R", Some(62)),
+            Self::None => ("N", Some(85)),
         }
     }
 

@@ -27,10 +27,10 @@ impl MetricValue for AttackVector {
 
     fn row(self) -> (&'static str, Option<u64>) {
         match self {
-            Self::Physical => ("/AV:P", Some(20)),
-            Self::Local => ("/AV:L", Some(55)),
-            Self::Adjacent => ("/AV:A", Some(62)),
-            Self::Network => ("/AV:N", Some(85)),
+            Self::Physical => ("P", Some(20)),
+            Self::Local => ("L", Some(55)),
+            Self::Adjacent => ("A", Some(62)),
+            Self::Network => ("N", Some(85)),
         }
     }
 
@@ -91,8 +91,8 @@ impl MetricValue for AttackComplexity {
 
     fn row(self) -> (&'static str, Option<u64>) {
         match self {
-            Self::High => ("/AC:H", Some(44)),
-            Self::Low => ("/AC:L", Some(77)),
+            Self::High => ("H", Some(44)),
+            Self::Low => ("L", Some(77)),
         }
     }
 

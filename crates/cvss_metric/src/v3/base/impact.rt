@@ -26,9 +26,9 @@ impl MetricValue for Confidentiality {
 
     fn row(self) -> (&'static str, Option<u64>) {
         match self {
-            Self::None => ("/C:N", Some(0)),
-            Self::Low => ("/C:L", Some(22)),
-            Self::High => ("/C:H", Some(56)),
+            Self::None => ("N", Some(0)),
+            Self::Low => ("L", Some(22)),
+            Self::High => ("H", Some(56)),
         }
     }
 
@@ -80,9 +80,9 @@ impl MetricValue for Integrity {
 
     fn row(self) -> (&'static str, Option<u64>) {
         match self {
-            Self::None => ("/I:N", Some(0)),
-            Self::Low => ("/I:L", Some(22)),
-            Self::High => ("/I:H", Some(56)),
+            Self::None => ("N", Some(0)),
+            Self::Low => ("L", Some(22)),
+            Self::High => ("H", Some(56)),
         }
     }
 
@@ -134,9 +134,9 @@ impl MetricValue for Availability {
 
     fn row(self) -> (&'static str, Option<u64>) {
         match self {
-            Self::None => ("/A:N", Some(0)),
-            Self::Low => ("/A:L", Some(22)),
-            Self::High => ("/A:H", Some(56)),
+            Self::None => ("N", Some(0)),
+            Self::Low => ("L", Some(22)),
+            Self::High => ("H", Some(56)),
         }
     }
 

@@ -24,8 +24,8 @@ impl MetricValue for Scope {
 
     fn row(self) -> (&'static str, Option<u64>) {
         match self {
-            Self::Unchanged => ("/S:U", None),
-            Self::Changed => ("/S:C", None),
+            Self::Unchanged => ("U", None),
+            Self::Changed => ("C", None),
         }
     }
 

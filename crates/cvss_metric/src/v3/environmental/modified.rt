@@ -8,7 +8,6 @@ ghost use Rattle.cvss_metric.specs.v3.Table.{scoped_weight, weight_of, metric_co
 ghost use Rattle.cvss_metric.specs.v3.BaseMetrics.{IsBaseValue};
 ghost use Rattle.cvss_metric.specs.v3.Modified.{replaced, weight_or};
 
-use super::texts::modified_with_slash;
 use crate::v3::base::{PrivilegesRequired, Scope};
 use crate::v3::metric::{MetricType, MetricValue, weight_in_counts};
 use std::fmt;
@@ -46,8 +45,8 @@ impl<T: BaseValue> MetricValue for Modified<T> {
 
     fn row(self) -> (&'static str, Option<u64>) {
         match self {
-            Modified::NotDefined => (modified_with_slash(T::KIND, b'X'), Some(0)),
-            Modified::Modified(value) => (modified_with_slash(T::KIND, value.letter()), Some(0)),
+            Modified::NotDefined => ("X", Some(0)),
+            Modified::Modified(value) => (value.spelling(), Some(0)),
         }
     }
 
@@ -129,8 +128,8 @@ impl MetricValue for ModifiedScope {
 
     fn row(self) -> (&'static str, Option<u64>) {
         match self {
-            Self::NotDefined => (modified_with_slash(MetricType::S, b'X'), Some(0)),
-            Self::Modified(scope) => (modified_with_slash(MetricType::S, scope.letter()), None),
+            Self::NotDefined => ("X", Some(0)),
+            Self::Modified(scope) => (scope.spelling(), None),
         }
     }
 

@@ -25,10 +25,10 @@ impl MetricValue for ConfidentialityRequirement {
 
     fn row(self) -> (&'static str, Option<u64>) {
         match self {
-            Self::NotDefined => ("/CR:X", Some(100)),
-            Self::High => ("/CR:H", Some(150)),
-            Self::Medium => ("/CR:M", Some(100)),
-            Self::Low => ("/CR:L", Some(50)),
+            Self::NotDefined => ("X", Some(100)),
+            Self::High => ("H", Some(150)),
+            Self::Medium => ("M", Some(100)),
+            Self::Low => ("L", Some(50)),
         }
     }
 
@@ -72,10 +72,10 @@ impl MetricValue for IntegrityRequirement {
 
     fn row(self) -> (&'static str, Option<u64>) {
         match self {
-            Self::NotDefined => ("/IR:X", Some(100)),
-            Self::High => ("/IR:H", Some(150)),
-            Self::Medium => ("/IR:M", Some(100)),
-            Self::Low => ("/IR:L", Some(50)),
+            Self::NotDefined => ("X", Some(100)),
+            Self::High => ("H", Some(150)),
+            Self::Medium => ("M", Some(100)),
+            Self::Low => ("L", Some(50)),
         }
     }
 
@@ -119,10 +119,10 @@ impl MetricValue for AvailabilityRequirement {
 
     fn row(self) -> (&'static str, Option<u64>) {
         match self {
-            Self::NotDefined => ("/AR:X", Some(100)),
-            Self::High => ("/AR:H", Some(150)),
-            Self::Medium => ("/AR:M", Some(100)),
-            Self::Low => ("/AR:L", Some(50)),
+            Self::NotDefined => ("X", Some(100)),
+            Self::High => ("H", Some(150)),
+            Self::Medium => ("M", Some(100)),
+            Self::Low => ("L", Some(50)),
         }
     }
 

@@ -1,9 +1,44 @@
 //! The effective values of a vector: those that remain once each modified metric has replaced its
 //! base metric and each undefined one its default (v4.0 specification, sections 4.2 and 8.2).
 
-pub use cvss_metric::v4::base::{
-    AttackComplexity, AttackRequirements, AttackVector, PrivilegesRequired, UserInteraction,
-};
+/// How near to the vulnerable system the attacker has to be: AV.
+#[derive(Clone, Copy)]
+pub enum AttackVector {
+    Physical,
+    Local,
+    Adjacent,
+    Network,
+}
+
+/// Whether the attacker has to overcome defences that are built in: AC.
+#[derive(Clone, Copy)]
+pub enum AttackComplexity {
+    High,
+    Low,
+}
+
+/// Whether an attack needs conditions that are not the attacker's to make: AT.
+#[derive(Clone, Copy)]
+pub enum AttackRequirements {
+    Present,
+    None,
+}
+
+/// What the attacker has to be allowed before the attack: PR.
+#[derive(Clone, Copy)]
+pub enum PrivilegesRequired {
+    High,
+    Low,
+    None,
+}
+
+/// What a user has to do for the attack: UI.
+#[derive(Clone, Copy)]
+pub enum UserInteraction {
+    Active,
+    Passive,
+    None,
+}
 
 /// An impact on the vulnerable system: VC, VI and VA.
 #[derive(Clone, Copy)]

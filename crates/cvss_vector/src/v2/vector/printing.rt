@@ -1,10 +1,8 @@
 //! How a vector is printed, and its metrics as a list.
 
 ghost use Rattle.std.specs.Prelude.{◌≡◌, [], Some, option_copied, option_map};
-ghost use Rattle.cvss_base.specs.Text.{component};
-ghost use Rattle.cvss_base.specs.Version.{canonical_text, component_of};
+ghost use Rattle.cvss_base.specs.Version.{canonical_text, held};
 ghost use Rattle.cvss_text.specs.Listing.{listed_metrics, metrics_left};
-ghost use Rattle.cvss_text.specs.private.Printing.{with_slash};
 ghost use Rattle.cvss_metric.specs.v2.Table.{listed};
 ghost use Rattle.cvss_vector.specs.v2.Vector.{v2};
 
@@ -34,7 +32,7 @@ impl Listed for Vector {
 }
 
 impl Printed for Vector {
-    fn with_slash(&self, kind: MetricType) -> Option<&'static str> {
+    fn spelling(&self, kind: MetricType) -> Option<&'static str> {
         each_v2_metric!(show_at!(kind: MetricType, shown_at::<Vector>(self)))
     }
 
@@ -69,7 +67,7 @@ impl fmt::Display for Vector {
     }
 }
 
-/// A slash and the component of the value that a vector has for a metric.
+/// How the value that a vector has for a metric is spelled.
 // It is not generic in the vector, whose traits the proof of each call would have to show.
 fn shown_at<V: Spells<M>, M: Copy>(
     vector: &Vector,
@@ -78,9 +76,8 @@ fn shown_at<V: Spells<M>, M: Copy>(
     value: Option<M>,
 ) -> Option<&'static str>
     requires here { kind ≡ here }
-    requires value { component_of v2 vector.now here
-        ≡ option_map (component V.metric) (option_map V.spelling value) }
-    ensures { option_copied result ≡ with_slash (component_of v2 vector.now kind) }
+    requires value { held v2 vector.now here ≡ option_map V.spelling value }
+    ensures { option_copied result ≡ held v2 vector.now kind }
 {
-    Some(V::shown(value?))
+    Some(V::spelling(value?))
 }

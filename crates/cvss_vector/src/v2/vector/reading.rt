@@ -118,14 +118,15 @@ impl<M: MetricValue> Spells<M> for Vector {
 
     ghost width = { 8 };
 
+    #[tactic(auto, using(crate::proofs::v2::PrintingLemmas::name_lengths))]
     fn metric() -> &'static str {
         M::KIND.name()
     }
 
     #[inline(always)]
     #[tactic(auto, using(crate::proofs::v2::PrintingLemmas::lengths))]
-    fn shown(value: M) -> &'static str {
-        value.with_slash()
+    fn spelling(value: M) -> &'static str {
+        value.spelling()
     }
 
     #[inline(always)]

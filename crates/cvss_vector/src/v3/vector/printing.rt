@@ -2,10 +2,8 @@
 
 ghost use Rattle.std.specs.Prelude.{◌≡◌, ◌++◌, Some, codes, option_copied, option_map};
 ghost use Rattle.std.specs.Fmt.{WritesOnOk};
-ghost use Rattle.cvss_base.specs.Text.{component};
-ghost use Rattle.cvss_base.specs.Version.{component_of, numeral, canonical_text, version_piece};
+ghost use Rattle.cvss_base.specs.Version.{canonical_text, held, numeral, version_piece};
 ghost use Rattle.cvss_text.specs.Listing.{listed_metrics, metrics_left};
-ghost use Rattle.cvss_text.specs.private.Printing.{with_slash};
 ghost use Rattle.cvss_metric.specs.v3.Table.{listed};
 ghost use Rattle.cvss_vector.specs.v3.Vector.{v3};
 
@@ -37,7 +35,7 @@ impl Listed for Vector {
 }
 
 impl Printed for Vector {
-    fn with_slash(&self, kind: MetricType) -> Option<&'static str> {
+    fn spelling(&self, kind: MetricType) -> Option<&'static str> {
         each_v3_metric!(show_at!(kind: MetricType, shown_at::<Vector>(self)))
     }
 
@@ -77,7 +75,7 @@ impl fmt::Display for Vector {
     }
 }
 
-/// A slash and the component of the value that a vector has for a metric.
+/// How the value that a vector has for a metric is spelled.
 // It is not generic in the vector, whose traits the proof of each call would have to show.
 fn shown_at<V: Spells<M>, M: Copy>(
     vector: &Vector,
@@ -86,9 +84,8 @@ fn shown_at<V: Spells<M>, M: Copy>(
     value: Option<M>,
 ) -> Option<&'static str>
     requires here { kind ≡ here }
-    requires value { component_of v3 vector.now here
-        ≡ option_map (component V.metric) (option_map V.spelling value) }
-    ensures { option_copied result ≡ with_slash (component_of v3 vector.now kind) }
+    requires value { held v3 vector.now here ≡ option_map V.spelling value }
+    ensures { option_copied result ≡ held v3 vector.now kind }
 {
-    Some(V::shown(value?))
+    Some(V::spelling(value?))
 }

@@ -2,11 +2,9 @@
 
 ghost use Rattle.std.specs.Prelude.{◌≡◌, ◌++◌, Some, codes, option_copied, option_map};
 ghost use Rattle.std.specs.Fmt.{WritesOnOk};
-ghost use Rattle.cvss_base.specs.Text.{component};
 ghost use Rattle.cvss_base.specs.V4Types.{declared};
-ghost use Rattle.cvss_base.specs.Version.{component_of, numeral, canonical_text, version_piece};
+ghost use Rattle.cvss_base.specs.Version.{canonical_text, held, numeral, version_piece};
 ghost use Rattle.cvss_text.specs.Listing.{listed_metrics, metrics_left};
-ghost use Rattle.cvss_text.specs.private.Printing.{with_slash};
 ghost use Rattle.cvss_vector.specs.v4.Vector.{v4};
 
 use crate::each_v4_metric;
@@ -31,7 +29,7 @@ impl Listed for Vector {
 }
 
 impl Printed for Vector {
-    fn with_slash(&self, kind: MetricType) -> Option<&'static str> {
+    fn spelling(&self, kind: MetricType) -> Option<&'static str> {
         each_v4_metric!(show_at!(kind: MetricType, shown_at::<Vector>(self)))
     }
 
@@ -70,7 +68,14 @@ impl fmt::Display for Vector {
     }
 }
 
-/// A slash and the component of the value that a vector has for a metric.
+// The text tells more than the places of the values.
+impl fmt::Debug for Vector {
+    fn fmt<W: fmt::Write>(&self, f: &mut fmt::Formatter<W>) -> fmt::Result {
+        write!(f, "{self}")
+    }
+}
+
+/// How the value that a vector has for a metric is spelled.
 // It is not generic in the vector, whose traits the proof of each call would have to show.
 fn shown_at<V: Spells<M>, M: Copy>(
     vector: &Vector,
@@ -79,9 +84,8 @@ fn shown_at<V: Spells<M>, M: Copy>(
     value: Option<M>,
 ) -> Option<&'static str>
     requires here { kind ≡ here }
-    requires value { component_of v4 vector.now here
-        ≡ option_map (component V.metric) (option_map V.spelling value) }
-    ensures { option_copied result ≡ with_slash (component_of v4 vector.now kind) }
+    requires value { held v4 vector.now here ≡ option_map V.spelling value }
+    ensures { option_copied result ≡ held v4 vector.now kind }
 {
-    Some(V::shown(value?))
+    Some(V::spelling(value?))
 }

@@ -7,7 +7,7 @@ ghost use Rattle.cvss_base.specs.declared.v4.MetricType.TheVariants.{U};
 ghost use Rattle.cvss_text.specs.private.Walk.{HasNoValue, IsFilled, IsPut};
 ghost use Rattle.cvss_base.specs.Version.{read, reading};
 ghost use Rattle.cvss_metric.specs.v4.Table.{metric_component, spelling_at};
-ghost use Rattle.cvss_metric.specs.v4.Table as rank;
+ghost use Rattle.cvss_metric.specs.v4.Places.{five_rank};
 ghost use Rattle.cvss_vector.specs.v4.Table.{value_at, values_of};
 ghost use Rattle.cvss_vector.specs.v4.Vector.{v4};
 ghost use Rattle.cvss_vector.specs.v4.private.TableLaws.{width};
@@ -17,9 +17,9 @@ use super::cutting::{named_by_one, named_by_three, named_by_two};
 use crate::each_v4_metric;
 use crate::v4::laws::vectors_are_their_values;
 use crate::v4::vector::Vector;
-use cvss_metric::v4::supplemental::ProviderUrgency;
-use cvss_metric::v4::{MetricType, MetricValue};
-use cvss_text::fast_path::{after_three, put_read};
+use cvss_metric::v4::place::OneOfFive;
+use cvss_metric::v4::{MetricType, MetricValue, table};
+use cvss_text::fast_path::{after_three, put_read, rest_after_name};
 use cvss_text::front::Prefixed;
 use cvss_text::values::{Spells, letter_in_order, two_in_order};
 use cvss_text::walk::{ComponentError, Components};
@@ -161,14 +161,15 @@ impl<M: MetricValue> Spells<M> for Vector {
 
     ghost width = { width M.KIND };
 
+    #[tactic(auto, using(crate::proofs::v4::PrintingLemmas::name_lengths))]
     fn metric() -> &'static str {
         M::KIND.name()
     }
 
     #[inline(always)]
     #[tactic(auto, using(crate::proofs::v4::PrintingLemmas::lengths))]
-    fn shown(value: M) -> &'static str {
-        value.with_slash()
+    fn spelling(value: M) -> &'static str {
+        value.spelling()
     }
 
     #[inline(always)]
@@ -185,17 +186,18 @@ impl<M: MetricValue> Spells<M> for Vector {
 /// The provider's urgency, if a slash and its component are the whole text, and nothing after it. Its
 /// spellings have several letters, and it is the last metric.
 #[inline(always)]
-fn urgency_in_order(text: &[u8]) -> Option<(ProviderUrgency, &[u8])>
+fn urgency_in_order(text: &[u8]) -> Option<(table::U, &[u8])>
     ensures { IfSome result
-        (λ read. text.now ≡ slash ∷ (metric_component U (rank.U read.0) ++ read.1.now)) }
+        (λ read. text.now ≡ slash ∷ (metric_component U (five_rank read.0) ++ read.1.now)) }
 {
-    if text.is_empty() {
-        return None;
-    }
-    let urgency = ProviderUrgency::values()
-        .iter()
-        .copied()
-        .find(|urgency| urgency.with_slash().as_bytes() == text)?;
+    let urgency = match rest_after_name(MetricType::U.name(), text)? {
+        b"X" => OneOfFive::First,
+        b"Red" => OneOfFive::Second,
+        b"Amber" => OneOfFive::Third,
+        b"Green" => OneOfFive::Fourth,
+        b"Clear" => OneOfFive::Fifth,
+        _ => return None,
+    };
     Some((urgency, &[]))
 }
 

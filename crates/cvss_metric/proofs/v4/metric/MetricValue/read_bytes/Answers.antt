@@ -1,22 +1,29 @@
-use Rattle.std.proofs.Common.{rules, sym, ◌∙◌}
-use Rattle.std.proofs.lemmas.Iterator.{YieldsList-from_slice}
-use Rattle.std.proofs.lemmas.Iterator.Adapters.{option_map_id}
-use Rattle.std.proofs.lemmas.Iterator.Consumers.{YieldsList-from_copied}
-use Rattle.std.proofs.lemmas.Iterator.Search.{find_from_yields_List}
-use Rattle.std.proofs.lemmas.Slice.Eq.{bytes_eq-Decides}
+use Rattle.std.proofs.Common.{Option, None, Some, IfSome, ap, sym, ◌∙◌}
+use Rattle.std.specs.List.{position_from}
 use Rattle.std.specs.Str.{str_eq_ignore_ascii_case}
-use Rattle.cvss_metric.proofs.SpellingLemmas.{first_alike, read_first}
-use Rattle.cvss_metric.proofs.v4.ReadingLemmas.{found_alike, lowered_alike, spellings_differ}
-use Rattle.cvss_metric.specs.v4.Table.{spelling_at}
+use Rattle.std.proofs.lemmas.Option.{none-some, same_Some}
+use Rattle.cvss_metric.proofs.v4.ReadingLemmas.{alike_at, place_alike}
+use Rattle.cvss_metric.specs.v4.Table.{spellings_of}
 use Rattle.cvss_metric.proofs.v4.metric.MetricValue.read_bytes.Goals as goal
-use borrow.Author.Tests.{tests}
 
-pub returns-clause-spelled : goal.returns-clause-spelled
-returns-clause-spelled g c =
-    let found = find_from_yields_List (λ x. str_eq_ignore_ascii_case (spelling_at g.Self.MetricValue.KIND (g.Self.MetricValue.rank x)) c.args.text.now) _ _ c.find.result c.find.ensures.ran (YieldsList-from_copied (YieldsList-from_slice c.values.result.now cc)) (λ x b q k. search (rules, tests)) in
-    found_alike (λ x. spelling_at g.Self.MetricValue.KIND (g.Self.MetricValue.rank x)) c.values.result.now c.args.text.now c.find.result (sym (option_map_id c.find.result) ∙ found)
+each : {A : Type 0} {P Q : A → Type 0} (result : Option A) → ((x : A) → P x → Q x) → IfSome result P → IfSome result Q
+each None follows some = tt
+each (Some x) follows some = follows x some
 
-pub returns-clause-read : goal.returns-clause-read
-returns-clause-read g c = λ metric same.
-    let found = find_from_yields_List (λ x. str_eq_ignore_ascii_case (spelling_at g.Self.MetricValue.KIND (g.Self.MetricValue.rank x)) c.args.text.now) _ _ c.find.result c.find.ensures.ran (YieldsList-from_copied (YieldsList-from_slice c.values.result.now cc)) (λ x b q k. search (rules, tests)) in
-    sym (option_map_id c.find.result) ∙ found ∙ read_first (λ x. spelling_at g.Self.MetricValue.KIND (g.Self.MetricValue.rank x)) c.values.result.now (λ text. str_eq_ignore_ascii_case text c.args.text.now) metric (first_alike (λ x. spelling_at g.Self.MetricValue.KIND (g.Self.MetricValue.rank x)) c.values.result.now metric (g.Self.MetricValue.rank metric) (rw c.values.ensures.rows (spellings_differ g.Self.MetricValue.KIND)) (c.values.ensures.covers metric)) ((bytes_eq-Decides _ _).1 (lowered_alike _ _ same)) (λ text passed. (bytes_eq-Decides _ _).0 passed ∙ sym (lowered_alike _ _ same))
+pub returns-in-Some-clause-spelled : goal.returns-in-Some-clause-spelled
+returns-in-Some-clause-spelled g c =
+    let kind = g.Self.MetricValue.KIND in
+    let found = sym c.in-Some.is ∙ (c.place_of.ensures ∙ ap (λ own. position_from (λ x. str_eq_ignore_ascii_case x c.args.text.now) 0 (spellings_of own)) c.KIND.ensures) in
+    each c.at.result (λ metric at. rw at (alike_at kind c.in-Some.place c.args.text.now found)) c.at.ensures.placed
+
+pub returns-in-Some-clause-read : goal.returns-in-Some-clause-read
+returns-in-Some-clause-read g c = λ metric same.
+    let kind = g.Self.MetricValue.KIND in
+    let found = sym c.in-Some.is ∙ (c.place_of.ensures ∙ ap (λ own. position_from (λ x. str_eq_ignore_ascii_case x c.args.text.now) 0 (spellings_of own)) c.KIND.ensures) in
+    c.at.ensures.each metric (sym (same_Some _ _ (found ∙ place_alike kind (g.Self.MetricValue.rank metric) c.args.text.now (g.met.Self.MetricValue.within metric) same)))
+
+pub returns-in-None-clause-read : goal.returns-in-None-clause-read
+returns-in-None-clause-read g c = λ metric same.
+    let kind = g.Self.MetricValue.KIND in
+    let found = sym c.in-None.is ∙ (c.place_of.ensures ∙ ap (λ own. position_from (λ x. str_eq_ignore_ascii_case x c.args.text.now) 0 (spellings_of own)) c.KIND.ensures) in
+    absurd (none-some _ (found ∙ place_alike kind (g.Self.MetricValue.rank metric) c.args.text.now (g.met.Self.MetricValue.within metric) same))
