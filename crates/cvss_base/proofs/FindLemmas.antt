@@ -1,9 +1,9 @@
 -- The first item of a list that passes a test, by its place.
-use Rattle.std.proofs.Common.{◌≡◌, ℕ, ◌<◌, Bool, true, false, List, length, get_or, Some, None, find, slice_get, inl, inr, sym, ap, ◌∙◌, subst, arith}
+use Rattle.std.proofs.Common.{◌≡◌, ℕ, ◌<◌, Bool, true, false, List, length, get_or, Some, None, find, slice_get, inl, inr, sym, ◌∙◌, subst, arith}
 use Rattle.std.specs.List.{position_or_len}
 use Rattle.std.proofs.lemmas.Bool.{cases_lt}
 use Rattle.std.proofs.lemmas.List.Folds.{find_at}
-use Rattle.std.proofs.lemmas.List.Sums.{fails_before_first, passes_at_first, position_or_len_is}
+use Rattle.std.proofs.lemmas.List.Sums.{fails_before_first, passes_at_first}
 use Rattle.std.proofs.lemmas.Option.{get_or_from_slice_get, none-some, slice_get-get_or, slice_get_within}
 
 -- an item that passes a test, and none before it does
@@ -33,12 +33,3 @@ module _ {K : Type 0} (test : K → Bool) (items : List K) where
 
   pub found_passes : (found : K) → find test items ≡ Some found → test found ≡ true
   found_passes found is = (found_first found is).passes
-
-  -- and such an item is found
-  pub found_from : {found : K} → IsFirstPassing test items found → find test items ≡ Some found
-  found_from {found} first =
-      let within = slice_get_within items first.place found first.is in
-      let place = position_or_len_is test items first.place found (omega arith)
-      (λ k below. first.earlier k (get_or items k found) below (slice_get-get_or items k found (omega arith)))
-      (λ _. rw (get_or_from_slice_get items first.place found found first.is) first.passes) in
-      find_at test items ∙ (ap (slice_get items) place ∙ first.is)

@@ -116,7 +116,7 @@ fn copy_value<V: Printed>(own: &V, kind: V::Kind, left_out: Option<&[u8]>, vecto
         Some(spelling)
             if Some(spelling.as_bytes()) != left_out && vector.spelling(kind).is_none() => {
             // The metric has this value, and the vector has none.
-            let _ = vector.put(kind, spelling.as_bytes());
+            let _ = vector.put::<u8>(kind, spelling.as_bytes());
         }
         _ => {}
     }

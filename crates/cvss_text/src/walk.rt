@@ -96,7 +96,8 @@ pub trait Components: Copy {
         ensures { result ≡ version.reported_kind kind };
 
     /// Puts a value into its place, which has to be empty.
-    fn put(&mut self, kind: Self::Kind, value: &[u8]) -> Result<(), ComponentError>
+    // `Caller` changes nothing here either: the walk gives `()`, and all others `u8`.
+    fn put<Caller>(&mut self, kind: Self::Kind, value: &[u8]) -> Result<(), ComponentError>
         ensures { IsPut version self.old kind (read version value.now) result self.new };
 
     /// The first metric that every vector has and this one lacks.
@@ -117,12 +118,12 @@ pub fn read_component<'a, V: Components>(
     ensures printable { IsUtf8 piece.now → IfErr result (IsPrintable V.version) }
 {
     let (kind, value) = cut_component::<V>(piece)?;
-    put_component(kind, value, vector)
+    put_component::<V, u8>(kind, value, vector)
 }
 
 /// Puts a component, which is cut, into the vector.
 #[inline(always)]
-fn put_component<'a, V: Components>(
+fn put_component<'a, V: Components, Caller>(
     kind: V::Kind,
     value: &'a [u8],
     vector: &mut V,
@@ -133,7 +134,7 @@ fn put_component<'a, V: Components>(
         → IsFaultOf V.version vector.old piece (reason_of V.version fault)) }
     ensures printable { IsUtf8 value.now → IfErr result (IsPrintable V.version) }
 {
-    match vector.put(kind, value) {
+    match vector.put::<Caller>(kind, value) {
         Ok(()) => Ok(()),
         Err(ComponentError::Invalid) => Err(Fault::InvalidMetric(V::reported_kind(kind), value)),
         Err(ComponentError::Repeated) => Err(Fault::DuplicateMetric(kind)),
@@ -154,7 +155,7 @@ fn read_first<'a, V: Components>(
     ensures printable { All IsUtf8 (pieces text.now) → IfErr result (IsPrintable V.version) }
 {
     let (kind, value, left) = cut_first::<V>(text)?;
-    put_component(kind, value, vector)?;
+    put_component::<V, ()>(kind, value, vector)?;
     Ok(left)
 }
 

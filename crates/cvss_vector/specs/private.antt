@@ -9,10 +9,7 @@ use Rattle.cvss_base.specs.Version.{Version, numeral, version_piece}
 use Rattle.cvss_text.specs.Route.{Route, ToV30, ToV31, route_of}
 use Rattle.cvss_text.specs.declared.walk.Fault.{Fault}
 use Rattle.cvss_text.specs.private.Walk as walk
-use Rattle.cvss_vector.specs.v2.Vector.{v2}
-use Rattle.cvss_vector.specs.v3.Vector.{v3}
 use Rattle.cvss_vector.specs.declared.v3.vector.Vector as vector_v3
-use Rattle.cvss_vector.specs.v4.Vector.{v4}
 use Rattle.cvss_vector.specs.Answers.{HasScore}
 use Rattle.cvss_vector.specs.Complete.{IsMissingError, IsPublishedBy, IsReadErrorBy}
 use Rattle.cvss_vector.specs.Dispatch as spec
@@ -20,7 +17,6 @@ use Rattle.cvss_vector.specs.Published.{vector_line}
 use Rattle.cvss_vector.specs.Reasons.{error_line}
 use Rattle.cvss_vector.specs.Refusals.{IsReadErrorFor, refusal_of}
 use Rattle.cvss_vector.specs.declared.metric_type.MetricType.{MetricType}
-use Rattle.cvss_vector.specs.declared.metric_type.MetricType.TheVariants.{V2, V3, V4}
 use Rattle.cvss_vector.specs.declared.published.Published.{Published}
 use Rattle.cvss_vector.specs.declared.refusal.ReadError.{ReadError}
 use Rattle.cvss_vector.specs.declared.refusal.Refusal as declared

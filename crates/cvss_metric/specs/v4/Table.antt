@@ -94,25 +94,25 @@ abbrev pub with_two : List MetricType
 with_two = metric.AC ∷ metric.AT ∷ []
 
 abbrev pub two_kind : ℕ → MetricType
-two_kind number = get_or with_two number metric.AT
+two_kind number = get_or with_two number metric.AC
 
 -- the metrics with three values, in printing order, and each by its number there
 abbrev pub with_three : List MetricType
 with_three = metric.PR ∷ metric.UI ∷ metric.VC ∷ metric.VI ∷ metric.VA ∷ metric.SC ∷ metric.SI ∷ metric.SA ∷ metric.MAC ∷ metric.MAT ∷ metric.S ∷ metric.AU ∷ metric.V ∷ []
 
 abbrev pub three_kind : ℕ → MetricType
-three_kind number = get_or with_three number metric.V
+three_kind number = get_or with_three number metric.PR
 
 -- the metrics with four values, in printing order, and each by its number there
 abbrev pub with_four : List MetricType
 with_four = metric.AV ∷ metric.E ∷ metric.CR ∷ metric.IR ∷ metric.AR ∷ metric.MPR ∷ metric.MUI ∷ metric.MVC ∷ metric.MVI ∷ metric.MVA ∷ metric.MSC ∷ metric.R ∷ metric.RE ∷ []
 
 abbrev pub four_kind : ℕ → MetricType
-four_kind number = get_or with_four number metric.RE
+four_kind number = get_or with_four number metric.AV
 
 -- the metrics with five values, in printing order, and each by its number there
 abbrev pub with_five : List MetricType
 with_five = metric.MAV ∷ metric.MSI ∷ metric.MSA ∷ metric.U ∷ []
 
 abbrev pub five_kind : ℕ → MetricType
-five_kind number = get_or with_five number metric.U
+five_kind number = get_or with_five number metric.MAV

@@ -6,8 +6,7 @@ ghost use Rattle.cvss_base.specs.Text.{uppercased};
 ghost use Rattle.cvss_base.specs.declared.v4.MetricType.{MetricType};
 ghost use Rattle.cvss_metric.specs.v4.Table.{spelling_at, spellings_of, metric_component};
 
-use crate::v4::spelling::{place_of, place_of_letter};
-use crate::v4::table::spellings;
+use crate::v4::spelling::{place_of, place_of_letter, spelling_at};
 use cvss_base::component::write_component;
 pub use cvss_base::v4::MetricType;
 use std::fmt;
@@ -34,10 +33,7 @@ pub trait MetricValue: Copy + 'static {
     fn spelling(self) -> &'static str
         ensures { result.now ≡ spelling_at KIND (rank self) }
     {
-        match spellings(Self::KIND).get(self.place()) {
-            Some(spelling) => *spelling,
-            None => "",
-        }
+        spelling_at(Self::KIND, self.place())
     }
 
     // Each value has a place among the spellings of its metric.

@@ -6,8 +6,8 @@ ghost use Rattle.cvss_metric.specs.v4.Places.{two_rank, three_rank, four_rank, f
 ghost use Rattle.cvss_metric.specs.v4.Table.{two_kind, three_kind, four_kind, five_kind};
 ghost use Rattle.cvss_metric.specs.v4.private.PlaceLaws.{two_within, three_within, four_within, five_within};
 
-use super::spelling::as_constant;
-use super::table::{five_kind, four_kind, spellings, three_kind, two_kind};
+use super::spelling::spelling_at;
+use super::table::{five_kind, four_kind, three_kind, two_kind};
 use crate::v4::metric::{MetricType, MetricValue};
 
 /// The place of one of two values.
@@ -38,14 +38,11 @@ impl<const NUMBER: usize> MetricValue for OneOfTwo<NUMBER> {
         }
     }
 
-    #[tactic(auto, using(crate::specs::v4::private::PlaceLaws::two_count))]
+    // The compiler knows each text, and so how a component is stored.
     fn spelling(self) -> &'static str {
-        let [first, second] = spellings(Self::KIND) else {
-            return "";
-        };
         match self {
-            Self::First => as_constant(first),
-            Self::Second => as_constant(second),
+            Self::First => spelling_at(Self::KIND, 0),
+            Self::Second => spelling_at(Self::KIND, 1),
         }
     }
 }
@@ -80,15 +77,12 @@ impl<const NUMBER: usize> MetricValue for OneOfThree<NUMBER> {
         }
     }
 
-    #[tactic(auto, using(crate::specs::v4::private::PlaceLaws::three_count))]
+    // The compiler knows each text, and so how a component is stored.
     fn spelling(self) -> &'static str {
-        let [first, second, third] = spellings(Self::KIND) else {
-            return "";
-        };
         match self {
-            Self::First => as_constant(first),
-            Self::Second => as_constant(second),
-            Self::Third => as_constant(third),
+            Self::First => spelling_at(Self::KIND, 0),
+            Self::Second => spelling_at(Self::KIND, 1),
+            Self::Third => spelling_at(Self::KIND, 2),
         }
     }
 }
@@ -125,16 +119,13 @@ impl<const NUMBER: usize> MetricValue for OneOfFour<NUMBER> {
         }
     }
 
-    #[tactic(auto, using(crate::specs::v4::private::PlaceLaws::four_count))]
+    // The compiler knows each text, and so how a component is stored.
     fn spelling(self) -> &'static str {
-        let [first, second, third, fourth] = spellings(Self::KIND) else {
-            return "";
-        };
         match self {
-            Self::First => as_constant(first),
-            Self::Second => as_constant(second),
-            Self::Third => as_constant(third),
-            Self::Fourth => as_constant(fourth),
+            Self::First => spelling_at(Self::KIND, 0),
+            Self::Second => spelling_at(Self::KIND, 1),
+            Self::Third => spelling_at(Self::KIND, 2),
+            Self::Fourth => spelling_at(Self::KIND, 3),
         }
     }
 }
@@ -173,17 +164,14 @@ impl<const NUMBER: usize> MetricValue for OneOfFive<NUMBER> {
         }
     }
 
-    #[tactic(auto, using(crate::specs::v4::private::PlaceLaws::five_count))]
+    // The compiler knows each text, and so how a component is stored.
     fn spelling(self) -> &'static str {
-        let [first, second, third, fourth, fifth] = spellings(Self::KIND) else {
-            return "";
-        };
         match self {
-            Self::First => as_constant(first),
-            Self::Second => as_constant(second),
-            Self::Third => as_constant(third),
-            Self::Fourth => as_constant(fourth),
-            Self::Fifth => as_constant(fifth),
+            Self::First => spelling_at(Self::KIND, 0),
+            Self::Second => spelling_at(Self::KIND, 1),
+            Self::Third => spelling_at(Self::KIND, 2),
+            Self::Fourth => spelling_at(Self::KIND, 3),
+            Self::Fifth => spelling_at(Self::KIND, 4),
         }
     }
 }

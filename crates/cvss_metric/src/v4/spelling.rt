@@ -1,12 +1,23 @@
-//! How the place of a value is found by its spelling.
+//! How the value at a place is spelled, and how its place is found by that.
 
 ghost use Rattle.std.specs.Prelude.{◌≡◌, ◌∷◌, [], bytes_eq};
 ghost use Rattle.std.specs.List.{position_from};
 ghost use Rattle.std.specs.Str.{str_eq_ignore_ascii_case};
-ghost use Rattle.cvss_metric.specs.v4.Table.{spellings_of};
+ghost use Rattle.cvss_metric.specs.v4.Table.{spelling_at, spellings_of};
 
 use crate::v4::metric::MetricType;
 use crate::v4::table::spellings;
+
+/// How the value is spelled that has this place among those of its metric.
+#[inline(always)]
+pub(super) fn spelling_at(kind: MetricType, place: usize) -> &'static str
+    ensures { result.now ≡ spelling_at kind place }
+{
+    match spellings(kind).get(place) {
+        Some(spelling) => as_constant(spelling),
+        None => "",
+    }
+}
 
 /// The place of the value that this letter spells, exactly as it is written.
 #[inline(always)]
@@ -55,7 +66,7 @@ fn is_alike(text: &[u8], other: &[u8]) -> bool
 /// The same text, as a constant if it is one of the letters that spell values. Of a constant the compiler
 /// knows the length, and so how a component is stored.
 #[inline(always)]
-pub(super) fn as_constant(text: &'static str) -> &'static str
+fn as_constant(text: &'static str) -> &'static str
     ensures { result.now ≡ text.now }
 {
     match text.as_bytes() {

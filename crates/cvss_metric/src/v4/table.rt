@@ -52,7 +52,7 @@ pub(super) const fn two_kind(number: usize) -> MetricType
     if number < WITH_TWO.len() {
         WITH_TWO[number]
     } else {
-        MetricType::AT
+        MetricType::AC
     }
 }
 
@@ -86,7 +86,7 @@ pub(super) const fn three_kind(number: usize) -> MetricType
     if number < WITH_THREE.len() {
         WITH_THREE[number]
     } else {
-        MetricType::V
+        MetricType::PR
     }
 }
 
@@ -153,7 +153,7 @@ pub(super) const fn four_kind(number: usize) -> MetricType
     if number < WITH_FOUR.len() {
         WITH_FOUR[number]
     } else {
-        MetricType::RE
+        MetricType::AV
     }
 }
 
@@ -211,7 +211,7 @@ pub(super) const fn five_kind(number: usize) -> MetricType
     if number < WITH_FIVE.len() {
         WITH_FIVE[number]
     } else {
-        MetricType::U
+        MetricType::MAV
     }
 }
 

@@ -93,7 +93,7 @@ impl Components for Vector {
     }
 
     #[inline(always)]
-    fn put(&mut self, kind: MetricType, value: &[u8]) -> Result<(), ComponentError> {
+    fn put<Caller>(&mut self, kind: MetricType, value: &[u8]) -> Result<(), ComponentError> {
         let old = *self;
         each_v3_metric!(fill_at!(kind: MetricType, filled(self: Vector, value, old)))
     }
