@@ -1,5 +1,5 @@
 -- Which texts are read alike.
-use Rattle.std.proofs.Common.{◌≡◌, ◌<◌, ◌∷◌, [], ℕ, List, Some, length, refl, ap, sym, ◌∙◌, true, arith}
+use Rattle.std.proofs.Common.{◌≡◌, ◌<◌, ◌∷◌, [], ℕ, List, Option, None, Some, IfSome, length, refl, ap, sym, ◌∙◌, true, arith}
 use Rattle.std.specs.List.{position_from}
 use Rattle.std.proofs.lemmas.Bool.Decides.{nat_tests}
 use Rattle.std.proofs.lemmas.Str.Ascii.{lowercase-uppercase}
@@ -46,3 +46,8 @@ pub alike_at : (kind : MetricType) (place : ℕ) (text : List ℕ) → Some plac
     → uppercased (spelling_at kind place) ≡ uppercased text
 alike_at kind place text found =
     uppercased_alike _ _ ((bytes_eq-Decides _ _).0 (found_place (λ x. str_eq_ignore_ascii_case x text) (spellings_of kind) place found))
+
+-- what holds of a value, where there is one, and what follows from it
+pub each : {A : Type 0} {P Q : A → Type 0} (result : Option A) → ((x : A) → P x → Q x) → IfSome result P → IfSome result Q
+each None follows some = tt
+each (Some x) follows some = follows x some

@@ -1,6 +1,6 @@
 //! What all metrics of CVSS v4.0 have in common.
 
-ghost use Rattle.std.specs.Prelude.{◌≡◌, ◌<◌, [], ◌∷◌, ℕ, IfSome, Some, length};
+ghost use Rattle.std.specs.Prelude.{◌≡◌, ◌<◌, [], ◌∷◌, ℕ, IfSome, IsSome, Some, length};
 ghost use Rattle.std.specs.Fmt.{WritesOnOk, WritesStyledOnOk};
 ghost use Rattle.cvss_base.specs.Text.{uppercased};
 ghost use Rattle.cvss_base.specs.declared.v4.MetricType.{MetricType};
@@ -27,7 +27,8 @@ pub trait MetricValue: Copy + 'static {
     /// The value at a place.
     fn at(place: usize) -> Option<Self>
         ensures placed { IfSome result (λ metric. rank metric ≡ place) }
-        ensures each { (metric : Self) → rank metric ≡ place → result ≡ Some metric };
+        ensures each { (metric : Self) → rank metric ≡ place → result ≡ Some metric }
+        ensures covers { place < length (spellings_of KIND) → IsSome result };
 
     /// How the value is spelled in a vector.
     fn spelling(self) -> &'static str

@@ -30,6 +30,7 @@ impl<const NUMBER: usize> MetricValue for OneOfTwo<NUMBER> {
         self as usize
     }
 
+    #[tactic(auto, using(crate::specs::v4::private::PlaceLaws::two_count))]
     fn at(place: usize) -> Option<Self> {
         match place {
             0 => Some(Self::First),
@@ -68,6 +69,7 @@ impl<const NUMBER: usize> MetricValue for OneOfThree<NUMBER> {
         self as usize
     }
 
+    #[tactic(auto, using(crate::specs::v4::private::PlaceLaws::three_count))]
     fn at(place: usize) -> Option<Self> {
         match place {
             0 => Some(Self::First),
@@ -109,6 +111,7 @@ impl<const NUMBER: usize> MetricValue for OneOfFour<NUMBER> {
         self as usize
     }
 
+    #[tactic(auto, using(crate::specs::v4::private::PlaceLaws::four_count))]
     fn at(place: usize) -> Option<Self> {
         match place {
             0 => Some(Self::First),
@@ -153,6 +156,7 @@ impl<const NUMBER: usize> MetricValue for OneOfFive<NUMBER> {
         self as usize
     }
 
+    #[tactic(auto, using(crate::specs::v4::private::PlaceLaws::five_count))]
     fn at(place: usize) -> Option<Self> {
         match place {
             0 => Some(Self::First),

@@ -22,7 +22,7 @@ counted count [] number other all own = eqb-true _ _ own
 counted count (kind ∷ kinds) zero other all own = eqb-true _ _ (and_parts _ _ all).0
 counted count (kind ∷ kinds) (suc number) other all own = counted count kinds number other (and_parts (has count kind) _ all).1 own
 
-two_count : (number : ℕ) → length (spellings_of (two_kind number)) ≡ 2
+pub two_count : (number : ℕ) → length (spellings_of (two_kind number)) ≡ 2
 two_count number = counted 2 with_two number metric.AC refl refl
 
 pub two_within : (number : ℕ) (value : OneOfTwo number) → two_rank value < length (spellings_of (two_kind number))
@@ -30,7 +30,7 @@ two_within number value = subst (λ count. two_rank value < count) (sym (two_cou
   below : (value : OneOfTwo number) → two_rank value < 2
   below = search rules
 
-three_count : (number : ℕ) → length (spellings_of (three_kind number)) ≡ 3
+pub three_count : (number : ℕ) → length (spellings_of (three_kind number)) ≡ 3
 three_count number = counted 3 with_three number metric.PR refl refl
 
 pub three_within : (number : ℕ) (value : OneOfThree number) → three_rank value < length (spellings_of (three_kind number))
@@ -38,7 +38,7 @@ three_within number value = subst (λ count. three_rank value < count) (sym (thr
   below : (value : OneOfThree number) → three_rank value < 3
   below = search rules
 
-four_count : (number : ℕ) → length (spellings_of (four_kind number)) ≡ 4
+pub four_count : (number : ℕ) → length (spellings_of (four_kind number)) ≡ 4
 four_count number = counted 4 with_four number metric.AV refl refl
 
 pub four_within : (number : ℕ) (value : OneOfFour number) → four_rank value < length (spellings_of (four_kind number))
@@ -46,7 +46,7 @@ four_within number value = subst (λ count. four_rank value < count) (sym (four_
   below : (value : OneOfFour number) → four_rank value < 4
   below = search rules
 
-five_count : (number : ℕ) → length (spellings_of (five_kind number)) ≡ 5
+pub five_count : (number : ℕ) → length (spellings_of (five_kind number)) ≡ 5
 five_count number = counted 5 with_five number metric.MAV refl refl
 
 pub five_within : (number : ℕ) (value : OneOfFive number) → five_rank value < length (spellings_of (five_kind number))

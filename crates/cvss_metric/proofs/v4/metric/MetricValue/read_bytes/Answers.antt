@@ -1,14 +1,10 @@
-use Rattle.std.proofs.Common.{Option, None, Some, IfSome, ap, sym, ◌∙◌}
+use Rattle.std.proofs.Common.{ap, sym, ◌∙◌}
 use Rattle.std.specs.List.{position_from}
 use Rattle.std.specs.Str.{str_eq_ignore_ascii_case}
 use Rattle.std.proofs.lemmas.Option.{none-some, same_Some}
-use Rattle.cvss_metric.proofs.v4.ReadingLemmas.{alike_at, place_alike}
+use Rattle.cvss_metric.proofs.v4.ReadingLemmas.{alike_at, each, place_alike}
 use Rattle.cvss_metric.specs.v4.Table.{spellings_of}
 use Rattle.cvss_metric.proofs.v4.metric.MetricValue.read_bytes.Goals as goal
-
-each : {A : Type 0} {P Q : A → Type 0} (result : Option A) → ((x : A) → P x → Q x) → IfSome result P → IfSome result Q
-each None follows some = tt
-each (Some x) follows some = follows x some
 
 pub returns-in-Some-clause-spelled : goal.returns-in-Some-clause-spelled
 returns-in-Some-clause-spelled g c =
