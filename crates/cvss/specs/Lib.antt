@@ -3,6 +3,7 @@ pub mod MetricsV2
 pub mod MetricsV3
 pub mod MetricsV4
 pub mod ReadingV4
+pub mod SpellingsV4
 pub mod laws
 pub mod private
 pub use Rattle.cvss_vector.specs.Answers
@@ -38,6 +39,7 @@ pub use Rattle.cvss_base.specs.declared.severity.Severity as SeverityType
 pub use Rattle.cvss_base.specs.declared.v2.MetricType as MetricTypeV2
 pub use Rattle.cvss_base.specs.declared.v3.MetricType as MetricTypeV3
 pub use Rattle.cvss_base.specs.declared.v4.MetricType as MetricTypeV4
+pub use Rattle.cvss_score.specs.AtMost
 pub use Rattle.cvss_score.specs.v2.Bounds as BoundsV2
 pub use Rattle.cvss_score.specs.v2.Rating as RatingV2
 pub use Rattle.cvss_score.specs.v2.Scores as ScoresV2

@@ -3,6 +3,7 @@
 ghost use Rattle.std.specs.Prelude.{◌≡◌, ◌++◌, IfOk, OnOk, bytes_eq, codes, drop, false, true};
 ghost use Rattle.cvss_vector.specs.Complete.{IsPublishedOfComplete};
 ghost use Rattle.cvss_find.specs.Answers.{answered_bytes, answers_as, before_answer};
+ghost use Rattle.cvss_find.specs.Prefixes.{has_loose_prefix};
 ghost use Rattle.cvss_find.specs.Decoding.{decoded};
 ghost use Rattle.cvss_find.specs.declared.form.Form.TheVariants.{Located};
 ghost use Rattle.cvss_find.specs.private.Reporting.{AnswersLine, WritesReported, WritesShown, asked_of};
@@ -226,8 +227,10 @@ impl Line<'_> {
 }
 
 /// Whether a mention begins with a prefix that is not written as it should be.
-fn has_loose_prefix(text: &[u8]) -> bool {
-    begins_with_prefix(text) && !matches!(text, [b'C', b'V', b'S', b'S', b':' | b'%', ..])
+fn has_loose_prefix(text: &[u8]) -> bool
+    ensures { result ≡ has_loose_prefix text.now }
+{
+    begins_with_prefix(text) && !(text.starts_with(b"CVSS:") || text.starts_with(b"CVSS%"))
 }
 
 /// Whether bytes are so many and then a slash.

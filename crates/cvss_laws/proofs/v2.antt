@@ -1,5 +1,10 @@
+mod BoundLemmas
 mod ComputedLemmas
+mod EnvironmentalLemmas
+mod FallFacts
 mod MillionthLemmas
+mod NegativeLemmas
+mod SevereLemmas
 mod StandardFacts
 mod TableLemmas
 mod WeightLemmas

@@ -1,5 +1,11 @@
+mod AlikeLemmas
+mod CompleteLemmas
 mod CutLemmas
 mod DefinedLemmas
+mod FallFacts
 mod LawLemmas
+mod ModifiedLemmas
+mod NumberLemmas
+mod SevereLemmas
 mod StandardFacts
 mod UniqueLemmas

@@ -1,7 +1,10 @@
+mod BetweenLemmas
 mod ClassLawLemmas
 mod DepthLemmas
 mod MergingFacts
 mod MergingLemmas
+mod OrderLemmas
 mod PrintedLemmas
 mod RangeLemmas
+mod SeverityLemmas
 mod StandardFacts

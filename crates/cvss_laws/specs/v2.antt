@@ -1,1 +1,3 @@
+pub mod NegativeBase
 pub mod NotDefined
+pub mod Severity

@@ -1,2 +1,3 @@
 pub mod FifthDecimals
 pub mod ScoreLaws
+pub mod Severity

@@ -4,4 +4,5 @@ pub mod Maximal
 pub mod MergingLaws
 pub mod OverridingLaws
 pub mod ScoreLaws
+pub mod Severity
 pub mod TriageLaws

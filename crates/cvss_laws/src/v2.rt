@@ -2,10 +2,13 @@
 //! calls it.
 
 ghost use Rattle.std.specs.Ordering.{int_cmp};
-ghost use Rattle.std.specs.Prelude.{◌≡◌, ◌↔◌, ℕ, ℤ, pos, List, Some};
+ghost use Rattle.std.specs.Prelude.{◌≡◌, ◌↔◌, ℕ, ℤ, pos, codes, false, true, List, Some};
 ghost use Rattle.cvss_base.specs.Equality.{EqualsByValue, ClonesByValue, ClonesAlways};
 ghost use Rattle.cvss_base.specs.Version.{canonical_text, Denotes};
+ghost use Rattle.cvss_laws.specs.any.Severity.{AreInOrder};
+ghost use Rattle.cvss_laws.specs.v2.NegativeBase.{HasNegativeBase, has_one_low_impact};
 ghost use Rattle.cvss_laws.specs.v2.NotDefined.{DefineTheSame};
+ghost use Rattle.cvss_laws.specs.v2.Severity.{base_weights, temporal_weights, environmental_weights, AreEnvironmentalScores};
 ghost use Rattle.cvss_base.specs.Exact.{of_count};
 ghost use Rattle.cvss_base.specs.Rounding.{IsNearestAway};
 ghost use Rattle.cvss_base.specs.Tenths.{IsInTenths};
@@ -13,6 +16,7 @@ ghost use Rattle.cvss_base.specs.laws.Rounding.{IsOneCount};
 ghost use Rattle.cvss_vector.specs.v2.Vector.{v2};
 ghost use Rattle.cvss_vector.specs.v2.Weights.{weights_of};
 ghost use Rattle.cvss_vector.specs.declared.v2.vector.Vector.{Vector};
+ghost use Rattle.cvss_score.specs.AtMost.{IsAtMost};
 ghost use Rattle.cvss_score.specs.v2.Scores.{IsTemporal, IsBaseScore, IsTemporalScore, IsEnvironmentalScore, IsBaseScoreBy, IsTemporalScoreBy, IsEnvironmentalScoreBy};
 ghost use Rattle.cvss_score.specs.declared.v2.weights.Weights.{Weights};
 
@@ -76,4 +80,38 @@ pub fn a_millionth_changes_no_score()
 pub fn not_defined_weighs_as_absent()
     ensures { (left right : Vector) → DefineTheSame left right
         → weights_of left ≡ weights_of right }
+{}
+
+/// A vector whose values are in no metric less severe, by their weights, scores no less. Of the
+/// environmental score this holds unless the more severe vector has one low impact alone.
+pub fn severe_values_score_no_less()
+    ensures base { (less more : Vector)
+        → IsAtMost (base_weights (weights_of less)) (base_weights (weights_of more))
+        → AreInOrder (IsBaseScore (weights_of less)) (IsBaseScore (weights_of more)) }
+    ensures temporal { (less more : Vector)
+        → IsAtMost (temporal_weights (weights_of less)) (temporal_weights (weights_of more))
+        → AreInOrder (IsTemporalScore (weights_of less)) (IsTemporalScore (weights_of more)) }
+    ensures environmental { (less more : Vector)
+        → IsAtMost (environmental_weights (weights_of less))
+        (environmental_weights (weights_of more))
+        → has_one_low_impact more ≡ false
+        → AreInOrder (IsEnvironmentalScore (weights_of less))
+        (IsEnvironmentalScore (weights_of more)) }
+{}
+
+/// The base number with AdjustedImpact in the place of Impact is negative exactly of vectors with one
+/// impact of P whose requirement is L, the other impacts N, and AV:L/AC:H with Au:M or Au:S.
+#[tactic(auto, using(crate::proofs::v2::NegativeLemmas::negative_exactly))]
+pub fn negative_base_numbers_have_one_low_impact()
+    ensures { (vector : Vector)
+        → (HasNegativeBase (weights_of vector) ↔ (has_one_low_impact vector ≡ true)) }
+{}
+
+/// The environmental score can fall where a value becomes more severe, since a negative base number
+/// is not raised to 0 on the way: here from 1.0 to 0.8, as Confidentiality rises from N to P.
+#[tactic(auto, using(crate::proofs::v2::FallFacts::environmental_fall))]
+pub fn environmental_score_can_fall()
+    ensures { AreEnvironmentalScores
+        (codes "AV:L/AC:H/Au:M/C:N/I:N/A:N/CDP:L/TD:H/CR:L")
+        (codes "AV:L/AC:H/Au:M/C:P/I:N/A:N/CDP:L/TD:H/CR:L") 10 8 }
 {}

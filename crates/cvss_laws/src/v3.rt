@@ -2,15 +2,19 @@
 //! calls it.
 
 ghost use Rattle.std.specs.Ordering.{int_cmp};
-ghost use Rattle.std.specs.Prelude.{◌≡◌, ℕ, List, ℤ, pos, ◌≤◌, ◌≤ℤ◌, Some};
+ghost use Rattle.std.specs.Prelude.{◌≡◌, ◌+ℤ◌, ◌^◌, ℕ, suc, List, ℤ, pos, codes, false, ◌≤◌, ◌≤ℤ◌, Some, None};
 ghost use Rattle.cvss_base.specs.Equality.{EqualsByValue, ClonesByValue, ClonesAlways};
 ghost use Rattle.cvss_base.specs.Version.{canonical_text, Denotes};
+ghost use Rattle.cvss_laws.specs.any.Severity.{AreInOrder};
 ghost use Rattle.cvss_laws.specs.v3.FifthDecimals.{IsSameWhenCut};
 ghost use Rattle.cvss_laws.specs.v3.ScoreLaws.{DefineTheSame, with_modified_as_base};
+ghost use Rattle.cvss_laws.specs.v3.Severity.{base_weights, temporal_weights, environmental_weights, AreEnvironmentalScores};
 ghost use Rattle.cvss_base.specs.laws.Rounding.{IsOneCount};
+ghost use Rattle.cvss_vector.specs.v3.Complete.{first_missing_base};
 ghost use Rattle.cvss_vector.specs.v3.Vector.{v3};
 ghost use Rattle.cvss_vector.specs.v3.VectorWeights.{weights_of};
 ghost use Rattle.cvss_vector.specs.declared.v3.vector.Vector.{Vector};
+ghost use Rattle.cvss_score.specs.AtMost.{IsAtMost};
 ghost use Rattle.cvss_score.specs.v3.Scores.{base_number, environmental_number, temporal_number, IsBaseScore, IsTemporalScore, IsEnvironmentalScore};
 ghost use Rattle.cvss_score.specs.declared.v3.weights.Weights.{Weights};
 
@@ -82,4 +86,77 @@ pub fn modified_scores_as_base()
     ensures { (minor : ℕ) → (vector : Vector) → (score : ℤ)
         → IsEnvironmentalScore minor (weights_of vector) score
         → IsEnvironmentalScore minor (weights_of (with_modified_as_base vector)) score }
+{}
+
+/// A vector whose values are in no metric less severe, by their weights, has no smaller base score and
+/// no smaller temporal score, also where the scope becomes changed.
+pub fn severe_values_score_no_less()
+    ensures base { (minor : ℕ) → (less more : Vector)
+        → IsAtMost (base_weights (weights_of less)) (base_weights (weights_of more))
+        → AreInOrder (IsBaseScore minor (weights_of less)) (IsBaseScore minor (weights_of more)) }
+    ensures temporal { (minor : ℕ) → (less more : Vector)
+        → IsAtMost (temporal_weights (weights_of less)) (temporal_weights (weights_of more))
+        → AreInOrder (IsTemporalScore minor (weights_of less))
+        (IsTemporalScore minor (weights_of more)) }
+{}
+
+/// By the equations of v3.1 its environmental score is no smaller either, within one modified scope,
+/// and where that becomes changed, if the less severe vector has all base metrics. By those of v3.0
+/// this holds where the modified scope is unchanged.
+pub fn severe_modified_values_score_no_less()
+    ensures one_scope { (minor : ℕ) → (less more : Vector)
+        → IsAtMost (environmental_weights (weights_of less))
+        (environmental_weights (weights_of more))
+        → (weights_of less).modified_changed ≡ (weights_of more).modified_changed
+        → AreInOrder (IsEnvironmentalScore (suc minor) (weights_of less))
+        (IsEnvironmentalScore (suc minor) (weights_of more)) }
+    ensures complete { (minor : ℕ) → (less more : Vector)
+        → IsAtMost (environmental_weights (weights_of less))
+        (environmental_weights (weights_of more))
+        → first_missing_base less ≡ None
+        → AreInOrder (IsEnvironmentalScore (suc minor) (weights_of less))
+        (IsEnvironmentalScore (suc minor) (weights_of more)) }
+    ensures unchanged { (minor : ℕ) → (less more : Vector)
+        → IsAtMost (environmental_weights (weights_of less))
+        (environmental_weights (weights_of more))
+        → (weights_of less).modified_changed ≡ false
+        → (weights_of more).modified_changed ≡ false
+        → AreInOrder (IsEnvironmentalScore minor (weights_of less))
+        (IsEnvironmentalScore minor (weights_of more)) }
+{}
+
+/// In v3.0 the environmental score can fall where a value becomes more severe: here from 6.9 to 6.8,
+/// as Availability rises from L to H. In v3.1 that of an incomplete vector can, as its scope becomes
+/// changed: here from 0.8 to 0.7.
+#[tactic(auto, using(crate::proofs::v3::FallFacts::v30_fall, crate::proofs::v3::FallFacts::incomplete_fall))]
+pub fn environmental_score_can_fall()
+    ensures v30 { AreEnvironmentalScores
+        (codes "CVSS:3.0/AV:P/AC:H/PR:H/UI:R/S:C/C:H/I:H/A:L/CR:H/IR:L/AR:L")
+        (codes "CVSS:3.0/AV:P/AC:H/PR:H/UI:R/S:C/C:H/I:H/A:H/CR:H/IR:L/AR:L") 69 68 }
+    ensures incomplete { AreEnvironmentalScores
+        (codes "CVSS:3.1/S:U/C:L/CR:L") (codes "CVSS:3.1/S:C/C:L/CR:L") 8 7 }
+{}
+
+/// In v3.0 the environmental score falls by at most 0.1 where values become more severe.
+pub fn environmental_score_falls_by_at_most_a_tenth()
+    ensures { (less more : Vector) → IsAtMost (environmental_weights (weights_of less))
+        (environmental_weights (weights_of more)) → (first second : ℤ)
+        → IsEnvironmentalScore 0 (weights_of less) first
+        → IsEnvironmentalScore 0 (weights_of more) second
+        → first ≤ℤ (second +ℤ pos (10 ^ 23)) }
+{}
+
+/// v3.0 and v3.1 give each vector the same base score and the same temporal score, and the same
+/// environmental score where the modified scope is unchanged.
+pub fn minor_versions_score_alike()
+    ensures base { (minor other : ℕ) → (vector : Vector) → (score : ℤ)
+        → IsBaseScore minor (weights_of vector) score
+        → IsBaseScore other (weights_of vector) score }
+    ensures temporal { (minor other : ℕ) → (vector : Vector) → (score : ℤ)
+        → IsTemporalScore minor (weights_of vector) score
+        → IsTemporalScore other (weights_of vector) score }
+    ensures environmental { (minor other : ℕ) → (vector : Vector)
+        → (weights_of vector).modified_changed ≡ false → (score : ℤ)
+        → IsEnvironmentalScore minor (weights_of vector) score
+        → IsEnvironmentalScore other (weights_of vector) score }
 {}

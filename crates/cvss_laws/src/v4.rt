@@ -10,7 +10,6 @@ ghost use Rattle.cvss_base.specs.Rounding.{IsRoundedV4};
 ghost use Rattle.cvss_base.specs.laws.Rounding.{IsNearestEven, printed_tenths};
 ghost use Rattle.cvss_base.specs.declared.v4.MetricType.{MetricType};
 ghost use Rattle.cvss_base.specs.declared.v4.MetricType.TheVariants.{AC, AT, AV, PR, SA, SC, SI, UI, VA, VC, VI, E, AR, CR, IR, MAC, MAT, MAV, MPR, MSA, MSC, MSI, MUI, MVA, MVC, MVI};
-ghost use Rattle.cvss_score.specs.v4.AsSevere.{IsAsSevere};
 ghost use Rattle.cvss_score.specs.v4.Classes.{eq1, Eq1Values, eq2, Eq2Values, eq3, eq6, Eq3Eq6Values, eq4, Eq4Values, macro_vector, IsPair};
 ghost use Rattle.cvss_score.specs.v4.Distance.{eq1_sum, eq1_least, eq1_distance, eq2_sum, eq2_least, eq2_distance, eq3_eq6_sum, eq3_eq6_least, eq3_eq6_distance, eq4_sum, eq4_least, eq4_distance};
 ghost use Rattle.cvss_score.specs.v4.Effective.{attack_vectors, privileges, user_interactions, attack_complexities, all_attack_requirements, vulnerable_impacts, subsequent_impacts, safety_impacts, requirements, exploit_maturities};
@@ -33,11 +32,17 @@ ghost use Rattle.cvss_laws.specs.v4.OverridingLaws.{AreAlike};
 ghost use Rattle.cvss_laws.specs.v4.ScoreLaws.{IsFromTenthToTen};
 ghost use Rattle.cvss_laws.specs.v4.TriageLaws.{ReportTheSame};
 
+mod severity;
+
 use cvss_metric::v4::place::{OneOfFive, OneOfFour, OneOfThree, OneOfTwo};
 use cvss_score::v4::scoring::explanation::{Explanation, GroupExplanation, GroupExplanations};
 use cvss_vector::v4::laws::vectors_are_their_values;
 use cvss_vector::v4::triage::{Row, TriageError};
 use cvss_vector::v4::{Nomenclature, OverrideError, Score, Vector};
+pub use severity::{
+    exploit_maturity_only_lowers_scores, scores_lie_between_table_values,
+    severe_values_of_any_class_score_no_less, severe_values_score_no_less,
+};
 
 /// Two places of values are equal exactly if they are one, and a clone is that place and takes no memory,
 /// so it is never refused.
@@ -229,13 +234,6 @@ pub fn numbers_lie_from_a_tenth_to_ten()
 #[tactic(auto, using(cvss_score::proofs::v4_lemmas::ScoreLawLemmas::one_score))]
 pub fn scores_are_unique()
     ensures { (v : Effective) → (r s : ℤ) → IsScore v r → IsScore v s → r ≡ s }
-{}
-
-/// Within a class, values with no higher level in any metric score no less.
-#[tactic(auto, using(cvss_score::proofs::v4_lemmas::SevereLemmas::severe_score))]
-pub fn severe_values_score_no_less()
-    ensures { (v w : Effective) → (r s : ℤ) → IsAsSevere v w
-        → IsScore v r → IsScore w s → s ≤ℤ r }
 {}
 
 /// To add 10^-6 before the rounding, as calculators in binary numbers do, changes no score.

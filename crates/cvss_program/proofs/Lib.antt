@@ -1,1 +1,2 @@
 pub mod PrefixedLemmas
+pub mod ReportsLemmas

@@ -3,6 +3,7 @@ use Rattle.std.specs.Prelude.{◌≡◌, ◌⊎◌, ℕ, ◌&&◌, Bool, false, 
 use Rattle.std.specs.Global.{Vec}
 use Rattle.std.specs.Io.KnownBytes.{Keeps}
 use Rattle.cvss_program.specs.Exit.{after, nothing_served}
+use Rattle.cvss_program.specs.Reports.{Reported, ReportsUnread}
 use Rattle.cvss_program.specs.Sources.{has_name, source_of}
 use Rattle.cvss_program.specs.declared.served.Served.{Served}
 use Rattle.cvss_program.specs.declared.sources.Source.{Source}
@@ -48,37 +49,40 @@ IsStepOver File ends contents operand unread unread' written written' outcome =
     ReadsApart ends (contents operand) unread unread' written written' outcome
     ⊎ IsUnread Read unread unread' written written' outcome
 
--- one operand is answered, or memory runs out before it is read
-abbrev pub IsStep : Endings → (List ℕ → Option (List ℕ)) → Bool → List ℕ → Option (List ℕ) → Option (List ℕ) → Option (List ℕ) → Option (List ℕ) → Result Summary RunFault → Type 0
-IsStep ends contents many operand unread unread' written written' outcome =
-    IsStepOver (source_of operand) (ends (prefix_of many operand)) contents operand unread unread' written written' outcome
-    ⊎ IsUnread Memory unread unread' written written' outcome
+-- one operand is answered, or memory runs out before it is read; it is reported if it cannot be read
+abbrev pub IsStep : Endings → (List ℕ → Option (List ℕ)) → Bool → List ℕ → Option (List ℕ) → Option (List ℕ) → Option (List ℕ) → Option (List ℕ) → Reported → Reported → Result Summary RunFault → Type 0
+IsStep ends contents many operand unread unread' written written' report report' outcome =
+    (IsStepOver (source_of operand) (ends (prefix_of many operand)) contents operand unread unread' written written' outcome
+    ⊎ IsUnread Memory unread unread' written written' outcome)
+    × ReportsUnread operand outcome report report'
 
 -- the one if nothing has stopped the command, else the other
 abbrev pub OnStop : Option RunFault → Type 0 → Type 0 → Type 0
 OnStop None goes_on stops = goes_on
 OnStop (Some fault) goes_on stops = stops
 
--- nothing more is read or written
-pub record Rests (unread unread' written written' : Option (List ℕ)) (served served' : Served) : Type 0 where
+-- nothing more is read, written or reported
+pub record Rests (unread unread' written written' : Option (List ℕ)) (report report' : Reported) (served served' : Served) : Type 0 where
   pub unread_kept : Keeps unread unread'
   pub written_kept : Keeps written written'
+  pub report_kept : report' ≡ report
   pub same : served' ≡ served
 
 -- the operands are answered in turn, until something stops the command
-abbrev pub Serves : Endings → (List ℕ → Option (List ℕ)) → Bool → List (Vec ℕ) → Option (List ℕ) → Option (List ℕ) → Option (List ℕ) → Option (List ℕ) → Served → Served → Type 0
-Serves ends contents many [] unread unread' written written' served served' = Rests unread unread' written written' served served'
-Serves ends contents many (operand ∷ operands) unread unread' written written' served served' =
-    (unread'' : Option (List ℕ)) × (written'' : Option (List ℕ)) × (outcome : Result Summary RunFault)
-    × IsStep ends contents many operand.items unread unread'' written written'' outcome
+abbrev pub Serves : Endings → (List ℕ → Option (List ℕ)) → Bool → List (Vec ℕ) → Option (List ℕ) → Option (List ℕ) → Option (List ℕ) → Option (List ℕ) → Reported → Reported → Served → Served → Type 0
+Serves ends contents many [] unread unread' written written' report report' served served' =
+    Rests unread unread' written written' report report' served served'
+Serves ends contents many (operand ∷ operands) unread unread' written written' report report' served served' =
+    (unread'' : Option (List ℕ)) × (written'' : Option (List ℕ)) × (report'' : Reported) × (outcome : Result Summary RunFault)
+    × IsStep ends contents many operand.items unread unread'' written written'' report report'' outcome
     × OnStop (after served outcome).stopped
-    (Serves ends contents many operands unread'' unread' written'' written' (after served outcome) served')
-    (Rests unread'' unread' written'' written' (after served outcome) served')
+    (Serves ends contents many operands unread'' unread' written'' written' report'' report' (after served outcome) served')
+    (Rests unread'' unread' written'' written' report'' report' (after served outcome) served')
 
 -- the operands are answered in turn, or standard input where there is none
-abbrev pub ServesAll : Endings → (List ℕ → Option (List ℕ)) → List (Vec ℕ) → Option (List ℕ) → Option (List ℕ) → Option (List ℕ) → Option (List ℕ) → Served → Type 0
-ServesAll ends contents [] unread unread' written written' served =
-    (outcome : Result Summary RunFault) × IsStep ends contents false (codes "-") unread unread' written written' outcome
+abbrev pub ServesAll : Endings → (List ℕ → Option (List ℕ)) → List (Vec ℕ) → Option (List ℕ) → Option (List ℕ) → Option (List ℕ) → Option (List ℕ) → Reported → Reported → Served → Type 0
+ServesAll ends contents [] unread unread' written written' report report' served =
+    (outcome : Result Summary RunFault) × IsStep ends contents false (codes "-") unread unread' written written' report report' outcome
     × (served ≡ after nothing_served outcome)
-ServesAll ends contents (operand ∷ operands) unread unread' written written' served =
-    Serves ends contents (many_files (operand ∷ operands)) (operand ∷ operands) unread unread' written written' nothing_served served
+ServesAll ends contents (operand ∷ operands) unread unread' written written' report report' served =
+    Serves ends contents (many_files (operand ∷ operands)) (operand ∷ operands) unread unread' written written' report report' nothing_served served

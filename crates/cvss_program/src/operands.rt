@@ -1,16 +1,18 @@
 //! A task over all operands of a command.
 
-ghost use Rattle.std.specs.Prelude.{◌≡◌, IfOk};
+ghost use Rattle.std.specs.Prelude.{◌≡◌, IfOk, None};
 ghost use Rattle.cvss_program.specs.Exit.{nothing_served};
 ghost use Rattle.cvss_program.specs.Operands.{IsStep, IsStepOver, Serves, ServesAll, many_files, prefix_of};
+ghost use Rattle.cvss_program.specs.Reports.{ReportsError, ReportsUnread, reported};
 ghost use Rattle.cvss_program.specs.Sources.{source_of};
 
 use crate::files::Files;
+use crate::report::{Report, report_error};
 use crate::served::Served;
 use crate::sources::{Source, has_name, source_of};
 use crate::task::Task;
 use crate::watching::WatchedReader;
-use cvss_lines::{RunFault, Summary, write_whole};
+use cvss_lines::{RunFault, Summary};
 use std::alloc::{AllocError, Global};
 use std::io::{self, Read, Write};
 
@@ -23,11 +25,12 @@ pub fn serve_operands<T: Task, F: Files, R: Read, W: Write, E: Write>(
     files: &F,
     reader: &mut WatchedReader<R>,
     writer: &mut W,
-    report: &mut E,
+    report: &mut Report<E>,
 ) -> Served
     ensures { ServesAll (T.ends task.now) (F.contents files.now) operands.now
         (R.remaining reader.old.reader) (R.remaining reader.new.reader)
-        (W.contents writer.old) (W.contents writer.new) result }
+        (W.contents writer.old) (W.contents writer.new)
+        (reported E.contents report.old) (reported E.contents report.new) result }
 {
     let inputs = Inputs {
         alloc,
@@ -68,11 +71,13 @@ impl<T: Task, F: Files> Inputs<'_, T, F> {
         operands: &[Vec<u8>],
         reader: &mut WatchedReader<R>,
         writer: &mut W,
-        report: &mut E,
+        report: &mut Report<E>,
     ) -> Served
         ensures { Serves (T.ends self.now.task.now) (F.contents self.now.files.now) self.now.many
             operands.now (R.remaining reader.old.reader) (R.remaining reader.new.reader)
-            (W.contents writer.old) (W.contents writer.new) nothing_served result }
+            (W.contents writer.old) (W.contents writer.new)
+            (reported E.contents report.old) (reported E.contents report.new)
+            nothing_served result }
     {
         let mut served = Served::nothing();
         let mut left = operands;
@@ -93,11 +98,12 @@ impl<T: Task, F: Files> Inputs<'_, T, F> {
         operand: &[u8],
         reader: &mut WatchedReader<R>,
         writer: &mut W,
-        report: &mut E,
+        report: &mut Report<E>,
     ) -> Result<Summary, RunFault>
         ensures { IsStep (T.ends self.now.task.now) (F.contents self.now.files.now) self.now.many
             operand.now (R.remaining reader.old.reader) (R.remaining reader.new.reader)
-            (W.contents writer.old) (W.contents writer.new) result }
+            (W.contents writer.old) (W.contents writer.new)
+            (reported E.contents report.old) (reported E.contents report.new) result }
     {
         match prefix_of(self.alloc, self.many, operand) {
             Ok(prefix) => self.serve_source(&prefix, operand, reader, writer, report),
@@ -112,12 +118,14 @@ impl<T: Task, F: Files> Inputs<'_, T, F> {
         operand: &[u8],
         reader: &mut WatchedReader<R>,
         writer: &mut W,
-        report: &mut E,
+        report: &mut Report<E>,
     ) -> Result<Summary, RunFault>
-        ensures { IsStepOver (source_of operand.now) (T.ends self.now.task.now prefix.now)
+        ensures served { IsStepOver (source_of operand.now) (T.ends self.now.task.now prefix.now)
             (F.contents self.now.files.now) operand.now
             (R.remaining reader.old.reader) (R.remaining reader.new.reader)
             (W.contents writer.old) (W.contents writer.new) result }
+        ensures unread { ReportsUnread operand.now result
+            (reported E.contents report.old) (reported E.contents report.new) }
     {
         match source_of(operand) {
             Source::Input => self.serve_reader(prefix, operand, reader, writer, report),
@@ -145,15 +153,17 @@ impl<T: Task, F: Files> Inputs<'_, T, F> {
         operand: &[u8],
         reader: &mut WatchedReader<R>,
         writer: &mut W,
-        report: &mut E,
+        report: &mut Report<E>,
     ) -> Result<Summary, RunFault>
-        ensures { T.ends self.now.task.now prefix.now
+        ensures served { T.ends self.now.task.now prefix.now
             (R.remaining reader.old.reader) (R.remaining reader.new.reader)
             (W.contents writer.old) (W.contents writer.new) result }
+        ensures unread { ReportsUnread operand.now result
+            (reported E.contents report.old) (reported E.contents report.new) }
     {
         let outcome = self.task.serve_input(self.alloc, prefix, reader, writer);
-        if let Some(error) = reader.error {
-            report_error(operand, error, report);
+        if let Err(RunFault::Read) = outcome {
+            report_unread(operand, reader.error, report);
         }
         outcome
     }
@@ -171,9 +181,18 @@ fn prefix_of(alloc: Global, many: bool, operand: &[u8]) -> Result<Vec<u8>, Alloc
     Ok(prefix)
 }
 
-/// Reports why an operand cannot be read. A report that cannot be written is lost.
-pub(crate) fn report_error<E: Write>(operand: &[u8], error: io::Error, report: &mut E) {
-    let _ = write_whole(report, b"cvss: ");
-    let _ = write_whole(report, operand);
-    let _ = writeln!(report, ": {error}");
+/// Reports why an operand cannot be read, by the error of its reader. There is none where the input had
+/// no end.
+pub(crate) fn report_unread<E: Write>(
+    operand: &[u8],
+    error: Option<io::Error>,
+    report: &mut Report<E>,
+)
+    ensures { ReportsError None operand.now
+        (reported E.contents report.old) (reported E.contents report.new) }
+{
+    match error {
+        Some(error) => report_error(operand, error, report),
+        None => report_error(operand, RunFault::Read, report),
+    }
 }

@@ -2,11 +2,13 @@
 
 ghost use Rattle.std.specs.Prelude.{◌≡◌, ◌≢◌, IfErr, IfOk};
 ghost use Rattle.cvss_lines.specs.declared.fault.RunFault.TheVariants.{Write as WriteFault};
+ghost use Rattle.cvss_program.specs.Reports.{ReportsUnread, reported};
 ghost use Rattle.cvss_program.specs.Whole.{IsAllOf, ReadsWhole};
 
 use crate::files::Files;
-use crate::operands::report_error;
+use crate::operands::report_unread;
 use crate::reading::read_whole;
+use crate::report::{Report, report_error};
 use crate::sources::{Source, source_of};
 use crate::watching::WatchedReader;
 use cvss_lines::RunFault;
@@ -24,17 +26,19 @@ pub fn read_operand<F: Files, R: Read, E: Write>(
     operand: &[u8],
     files: &F,
     reader: &mut WatchedReader<R>,
-    report: &mut E,
+    report: &mut Report<E>,
 ) -> Result<Vec<u8>, RunFault>
     ensures read { ReadsWhole (F.contents files.now) operand.now
         (R.remaining reader.old.reader) (R.remaining reader.new.reader) result }
     ensures fault { IfErr result (λ fault. fault ≢ WriteFault) }
+    ensures unread { ReportsUnread operand.now result
+        (reported E.contents report.old) (reported E.contents report.new) }
 {
     match source_of(operand) {
         Source::Input => {
             let bytes = read_whole(alloc, reader);
-            if let Some(error) = reader.error {
-                report_error(operand, error, report);
+            if let Err(RunFault::Read) = bytes {
+                report_unread(operand, reader.error, report);
             }
             bytes
         }
@@ -47,17 +51,19 @@ fn read_file<F: Files, E: Write>(
     alloc: Global,
     name: &[u8],
     files: &F,
-    report: &mut E,
+    report: &mut Report<E>,
 ) -> Result<Vec<u8>, RunFault>
     ensures read { IfOk result (IsAllOf (F.contents files.now name.now)) }
     ensures fault { IfErr result (λ fault. fault ≢ WriteFault) }
+    ensures unread { ReportsUnread name.now result
+        (reported E.contents report.old) (reported E.contents report.new) }
 {
     match files.open(name) {
         Ok(file) => {
             let mut file = WatchedReader::new(file);
             let bytes = read_whole(alloc, &mut file);
-            if let Some(error) = file.error {
-                report_error(name, error, report);
+            if let Err(RunFault::Read) = bytes {
+                report_unread(name, file.error, report);
             }
             bytes
         }

@@ -1,3 +1,2 @@
-mod OrderLemmas
 mod OverrideLemmas
 mod RankLemmas

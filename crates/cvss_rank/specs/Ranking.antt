@@ -1,8 +1,7 @@
 -- Lines of vectors of any version, ranked by the overall score that each has once metrics are set.
-use Rattle.std.specs.Prelude.{◌≡◌, ◌⊎◌, ℕ, suc, ◌≤◌, Bool, List, [], ◌∷◌, IsPermutation, IsSorted}
-use Rattle.std.specs.Cmp.Lexicographic.{slice_cmp}
-use Rattle.std.specs.Ordering.{ordering_then, nat_cmp}
+use Rattle.std.specs.Prelude.{◌≡◌, ◌⊎◌, ℕ, suc, ◌≤◌, Bool, List, [], ◌∷◌, IsPermutation, IsSorted, pos}
 use Rattle.std.specs.declared.cmp.Ordering.{Ordering}
+use Rattle.cvss_score.specs.Ranking.{rank_order}
 use Rattle.cvss_vector.specs.Answers.{score_of_tenths}
 use Rattle.cvss_vector.specs.declared.vector.Cvss.{Cvss}
 use Rattle.cvss_rank.specs.Overall.{IsOverallScore}
@@ -38,8 +37,7 @@ AreRead overrides allow_incomplete index (line ∷ lines) rows bad =
 
 -- the order of rows: a higher score first, and of one score by the bytes of the lines
 abbrev pub row_order : Row → Row → Ordering
-row_order row other =
-    ordering_then (nat_cmp other.tenths row.tenths) (slice_cmp nat_cmp row.line.now other.line.now)
+row_order = rank_order (λ row. pos row.tenths) (λ row. row.line.now)
 
 -- each line has its row, or is listed as bad; rows are in their order
 pub record IsRanking (overrides : List Override) (allow_incomplete : Bool) (lines : List (List ℕ)) (ranking : Ranking) : Type 0 where

@@ -8,7 +8,8 @@ ghost use Rattle.cvss_rank.specs.private.Steps.{Adds};
 use crate::overall::overall_tenths;
 use crate::overrides::{Override, after_all};
 use crate::reading::{Reason, vector_of};
-use crate::row::{Row, sort};
+use crate::row::Row;
+use cvss_score::ranking;
 use std::alloc::{AllocError, Global};
 
 /// A line that has no vector.
@@ -46,7 +47,7 @@ pub fn rank<'a>(
         (map (λ line. line.now) lines.now)) }
 {
     let mut ranking = read_lines(alloc, lines, overrides, allow_incomplete)?;
-    sort(&mut ranking.rows);
+    ranking::rank(&mut ranking.rows);
     Ok(ranking)
 }
 

@@ -1,12 +1,11 @@
 //! What is ranked of a line.
 
-ghost use Rattle.std.specs.Prelude.{◌≡◌, IsPermutation, IsSorted};
+ghost use Rattle.std.specs.Prelude.{◌≡◌, pos};
 ghost use Rattle.cvss_vector.specs.Answers.{rating_by, score_of_tenths};
-ghost use Rattle.cvss_rank.specs.Ranking.{row_order};
 
 use cvss_base::{Severity, TENTH};
+use cvss_score::ranking::Ranked;
 use cvss_vector::Cvss;
-use std::cmp::Ordering;
 
 /// A line, and its vector after the overrides.
 #[derive(Debug, Drop)]
@@ -26,19 +25,16 @@ impl Row<'_> {
     }
 }
 
-/// Sorts rows by falling score, and those of one score by the bytes of their lines.
-pub(crate) fn sort(rows: &mut Vec<Row<'_>>)
-    ensures permutation { IsPermutation rows.old.items rows.new.items }
-    ensures sorted { IsSorted row_order rows.new.items }
-{
-    rows.sort_unstable_by(|row, other| compare(row, other));
-}
+impl Ranked for Row<'_> {
+    ghost score = { λ row. pos row.tenths };
 
-fn compare(row: &Row<'_>, other: &Row<'_>) -> Ordering
-    ensures { result ≡ row_order row.now other.now }
-{
-    match other.tenths.cmp(&row.tenths) {
-        Ordering::Equal => row.line.cmp(other.line),
-        unequal => unequal,
+    ghost text = { λ row. row.line.now };
+
+    fn score(&self) -> i128 {
+        i128::from(self.tenths)
+    }
+
+    fn text(&self) -> &[u8] {
+        self.line
     }
 }

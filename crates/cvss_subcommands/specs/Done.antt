@@ -3,6 +3,7 @@ use Rattle.std.specs.Prelude.{◌≡◌, ◌⊎◌, ℕ, ◌-◌, ◌==◌, Bool
 use Rattle.std.specs.Global.{Vec}
 use Rattle.std.specs.Io.KnownBytes.{Keeps}
 use Rattle.std.specs.Str.{IsUtf8}
+use Rattle.cvss_subcommands.specs.Hints.{prefix_hint}
 use Rattle.cvss_subcommands.specs.Scoring.{AnswersLines, Scores, WritesText}
 use Rattle.cvss_subcommands.specs.Setting.{set_rule}
 use Rattle.cvss_subcommands.specs.Triaging.{settings_of}
@@ -24,6 +25,7 @@ use Rattle.cvss_lines.specs.Runs.{Ends}
 use Rattle.cvss_lines.specs.declared.fault.RunFault.TheVariants.{Memory}
 use Rattle.cvss_program.specs.Exit.{after, nothing_served}
 use Rattle.cvss_program.specs.Operands.{Endings, ServesAll}
+use Rattle.cvss_program.specs.Reports.{Reported, Reports}
 use Rattle.cvss_program.specs.declared.served.Served.{Served}
 use Rattle.cvss_triage.specs.Triage.{Triages}
 
@@ -51,6 +53,13 @@ FindsVectors form allow_incomplete prefix = Ends (find_rule form allow_incomplet
 abbrev pub find_ends : Bool → Bool → Bool → Bool → Endings
 find_ends json annotate all = FindsVectors (form_of json annotate all)
 
+-- the vectors in the operands are found, and a hint may follow: a cell keeps whether one is rejected for how its prefix is
+-- written, of which no contract speaks
+abbrev pub FindsAll : Endings → (List ℕ → Option (List ℕ)) → List (Vec ℕ) → Option (List ℕ) → Option (List ℕ) → Option (List ℕ) → Option (List ℕ) → Reported → Reported → Served → Type 0
+FindsAll ends contents operands unread unread' written written' report report' served =
+    (report'' : Reported) × ServesAll ends contents operands unread unread' written written' report report'' served
+    × ((report' ≡ report'') ⊎ Reports report'' report' prefix_hint)
+
 -- each of the metrics after a slash
 abbrev pub with_slash : List (Vec ℕ) → List ℕ
 with_slash metrics = flat_map (λ metric. 47 ∷ metric.items) metrics
@@ -67,23 +76,24 @@ joined_metrics count arguments = drop 1 (with_slash (metrics_of count arguments)
 abbrev pub operands_of : ℕ → List (Vec ℕ) → List (Vec ℕ)
 operands_of count arguments = drop (length arguments - count) arguments
 
--- nothing is read or written
-pub record Idle (unread unread' written written' : Option (List ℕ)) (result expected : Result Served ℕ) : Type 0 where
+-- nothing is read, written or reported
+pub record Idle (unread unread' written written' : Option (List ℕ)) (report report' : Reported) (result expected : Result Served ℕ) : Type 0 where
   pub ended : result ≡ expected
+  pub report_kept : report' ≡ report
   pub unread_kept : Keeps unread unread'
   pub written_kept : Keeps written written'
 
 -- the operands are answered
-abbrev pub Answers : Endings → Options → List (Vec ℕ) → (List ℕ → Option (List ℕ)) → Option (List ℕ) → Option (List ℕ) → Option (List ℕ) → Option (List ℕ) → Result Served ℕ → Type 0
-Answers ends options arguments contents unread unread' written written' result =
-    IsOkAnd result (ServesAll ends contents (operands_of options.operands arguments) unread unread' written written')
+abbrev pub Answers : Endings → Options → List (Vec ℕ) → (List ℕ → Option (List ℕ)) → Option (List ℕ) → Option (List ℕ) → Option (List ℕ) → Option (List ℕ) → Reported → Reported → Result Served ℕ → Type 0
+Answers ends options arguments contents unread unread' written written' report report' result =
+    IsOkAnd result (ServesAll ends contents (operands_of options.operands arguments) unread unread' written written' report report')
 
 -- the metrics are set in the vectors of the operands, unless they are no text or memory runs out
-abbrev pub SetsMetrics : List ℕ → Options → List (Vec ℕ) → (List ℕ → Option (List ℕ)) → Option (List ℕ) → Option (List ℕ) → Option (List ℕ) → Option (List ℕ) → Result Served ℕ → Type 0
-SetsMetrics metrics options arguments contents unread unread' written written' result =
-    Answers (AnswersLines (set_rule metrics)) options arguments contents unread unread' written written' result
-    ⊎ (¬ (IsUtf8 metrics) × Idle unread unread' written written' result (Err (length arguments - 1)))
-    ⊎ Idle unread unread' written written' result (Ok (after nothing_served (Err Memory)))
+abbrev pub SetsMetrics : List ℕ → Options → List (Vec ℕ) → (List ℕ → Option (List ℕ)) → Option (List ℕ) → Option (List ℕ) → Option (List ℕ) → Option (List ℕ) → Reported → Reported → Result Served ℕ → Type 0
+SetsMetrics metrics options arguments contents unread unread' written written' report report' result =
+    Answers (AnswersLines (set_rule metrics)) options arguments contents unread unread' written written' report report' result
+    ⊎ (¬ (IsUtf8 metrics) × Idle unread unread' written written' report report' result (Err (length arguments - 1)))
+    ⊎ Idle unread unread' written written' report report' result (Ok (after nothing_served (Err Memory)))
 
 -- how inputs hold their documents: each is one if that is asked for, standard input has one a line where no operand is
 -- given, and else it is seen from each input
@@ -107,29 +117,29 @@ explain_ends true what_if = ExplainsByObjects
 explain_ends false what_if = ExplainsByTexts what_if
 
 -- what each subcommand does
-abbrev pub Runs : Subcommand → Options → List (Vec ℕ) → (List ℕ → Option (List ℕ)) → Option (List ℕ) → Option (List ℕ) → Option (List ℕ) → Option (List ℕ) → Result Served ℕ → Type 0
-Runs Score options arguments contents unread unread' written written' result =
+abbrev pub Runs : Subcommand → Options → List (Vec ℕ) → (List ℕ → Option (List ℕ)) → Option (List ℕ) → Option (List ℕ) → Option (List ℕ) → Option (List ℕ) → Reported → Reported → Result Served ℕ → Type 0
+Runs Score options arguments contents unread unread' written written' report report' result =
     IsOkAnd result (Scores options.flags.json options.flags.tsv options.flags.allow_incomplete contents (operands_of options.operands arguments)
-    unread unread' written written')
-Runs Find options arguments contents unread unread' written written' result =
-    Answers (find_ends options.flags.json options.flags.annotate options.flags.all options.flags.allow_incomplete)
-    options arguments contents unread unread' written written' result
-Runs Explain options arguments contents unread unread' written written' result =
-    Answers (explain_ends options.flags.json options.flags.what_if options.flags.allow_incomplete) options arguments contents unread unread' written written' result
-Runs Set options arguments contents unread unread' written written' result =
-    SetsMetrics (joined_metrics options.words arguments) options arguments contents unread unread' written written' result
-Runs Triage options arguments contents unread unread' written written' result =
+    unread unread' written written' report report')
+Runs Find options arguments contents unread unread' written written' report report' result =
+    IsOkAnd result (FindsAll (find_ends options.flags.json options.flags.annotate options.flags.all options.flags.allow_incomplete)
+    contents (operands_of options.operands arguments) unread unread' written written' report report')
+Runs Explain options arguments contents unread unread' written written' report report' result =
+    Answers (explain_ends options.flags.json options.flags.what_if options.flags.allow_incomplete) options arguments contents unread unread' written written' report report' result
+Runs Set options arguments contents unread unread' written written' report report' result =
+    SetsMetrics (joined_metrics options.words arguments) options arguments contents unread unread' written written' report report' result
+Runs Triage options arguments contents unread unread' written written' report report' result =
     IsOkAnd result (Triages (settings_of (metrics_of options.words arguments)) options.flags.keep_going options.flags.allow_incomplete contents
-    (operands_of options.operands arguments) unread unread' written written')
-Runs Audit options arguments contents unread unread' written written' result =
-    Answers (audit_ends (audit_of options)) options arguments contents unread unread' written written' result
+    (operands_of options.operands arguments) unread unread' written written' report report')
+Runs Audit options arguments contents unread unread' written written' report report' result =
+    Answers (audit_ends (audit_of options)) options arguments contents unread unread' written written' report report' result
 
-abbrev pub Does : Request → (Option Subcommand → List ℕ) → List ℕ → List (Vec ℕ) → (List ℕ → Option (List ℕ)) → Option (List ℕ) → Option (List ℕ) → Option (List ℕ) → Option (List ℕ) → Result Served ℕ → Type 0
-Does (Help of) help version arguments contents unread unread' written written' result =
-    IsOkAnd result (WritesText (help of) written written') × Keeps unread unread'
-Does Version help version arguments contents unread unread' written written' result =
-    IsOkAnd result (WritesText version written written') × Keeps unread unread'
-Does (Wrong left) help version arguments contents unread unread' written written' result =
-    Idle unread unread' written written' result (Err left)
-Does (Run subcommand options) help version arguments contents unread unread' written written' result =
-    Runs subcommand options arguments contents unread unread' written written' result
+abbrev pub Does : Request → (Option Subcommand → List ℕ) → List ℕ → List (Vec ℕ) → (List ℕ → Option (List ℕ)) → Option (List ℕ) → Option (List ℕ) → Option (List ℕ) → Option (List ℕ) → Reported → Reported → Result Served ℕ → Type 0
+Does (Help of) help version arguments contents unread unread' written written' report report' result =
+    IsOkAnd result (WritesText (help of) written written') × Keeps unread unread' × (report' ≡ report)
+Does Version help version arguments contents unread unread' written written' report report' result =
+    IsOkAnd result (WritesText version written written') × Keeps unread unread' × (report' ≡ report)
+Does (Wrong left) help version arguments contents unread unread' written written' report report' result =
+    Idle unread unread' written written' report report' result (Err left)
+Does (Run subcommand options) help version arguments contents unread unread' written written' report report' result =
+    Runs subcommand options arguments contents unread unread' written written' report report' result

@@ -1,7 +1,10 @@
 pub mod Done
+pub mod Ending
 pub mod Flags
+pub mod Hints
 pub mod Requests
 pub mod Scoring
 pub mod Setting
 pub mod Subcommands
 pub mod Triaging
+pub mod Usage

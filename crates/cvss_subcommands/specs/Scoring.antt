@@ -9,6 +9,7 @@ use Rattle.cvss_lines.specs.Runs.{Ends}
 use Rattle.cvss_lines.specs.declared.fault.RunFault.TheVariants.{Write}
 use Rattle.cvss_program.specs.Exit.{after, nothing_served}
 use Rattle.cvss_program.specs.Operands.{Endings, ServesAll, many_files}
+use Rattle.cvss_program.specs.Reports.{Reported}
 use Rattle.cvss_program.specs.declared.served.Served.{Served}
 use Rattle.cvss_rows.specs.Rows.{IsRow, header_text}
 use Rattle.cvss_rows.specs.declared.format.Format.{Format}
@@ -30,15 +31,15 @@ AnswersRows format allow_incomplete prefix = Ends (IsRow format allow_incomplete
 
 -- the names of the columns are written, and then the operands are answered by rows; or a beginning of the names, where the
 -- writer fails
-abbrev pub ServesTable : Bool → (List ℕ → Option (List ℕ)) → List (Vec ℕ) → Option (List ℕ) → Option (List ℕ) → Option (List ℕ) → Option (List ℕ) → Served → Type 0
-ServesTable allow_incomplete contents operands unread unread' written written' served =
+abbrev pub ServesTable : Bool → (List ℕ → Option (List ℕ)) → List (Vec ℕ) → Option (List ℕ) → Option (List ℕ) → Option (List ℕ) → Option (List ℕ) → Reported → Reported → Served → Type 0
+ServesTable allow_incomplete contents operands unread unread' written written' report report' served =
     ((written'' : Option (List ℕ)) × Appends written written'' (header_text (many_files operands))
-    × ServesAll (AnswersRows (Tsv (many_files operands)) allow_incomplete) contents operands unread unread' written'' written' served)
+    × ServesAll (AnswersRows (Tsv (many_files operands)) allow_incomplete) contents operands unread unread' written'' written' report report' served)
     ⊎ (Keeps unread unread' × ((count : ℕ) × Appends written written' (take count (header_text (many_files operands))))
-    × (served ≡ after nothing_served (Err Write)))
+    × (report' ≡ report) × (served ≡ after nothing_served (Err Write)))
 
 -- how the vectors are answered, by whether --json and --tsv are given
-abbrev pub Scores : Bool → Bool → Bool → (List ℕ → Option (List ℕ)) → List (Vec ℕ) → Option (List ℕ) → Option (List ℕ) → Option (List ℕ) → Option (List ℕ) → Served → Type 0
+abbrev pub Scores : Bool → Bool → Bool → (List ℕ → Option (List ℕ)) → List (Vec ℕ) → Option (List ℕ) → Option (List ℕ) → Option (List ℕ) → Option (List ℕ) → Reported → Reported → Served → Type 0
 Scores true tsv allow_incomplete = ServesAll (AnswersRows Json allow_incomplete)
 Scores false true allow_incomplete = ServesTable allow_incomplete
 Scores false false allow_incomplete = ServesAll (AnswersLines (score_rule allow_incomplete))

@@ -1,6 +1,7 @@
 //! The whole command.
 
 ghost use Rattle.std.specs.Prelude.{◌≡◌, IfOk, drop};
+ghost use Rattle.cvss_program.specs.Reports.{reported};
 ghost use Rattle.cvss_subcommands.specs.Done.{Does, Runs, SetsMetrics, audit_of, help_of, joined_metrics, metrics_of, operands_of, with_slash};
 ghost use Rattle.cvss_subcommands.specs.Requests.{request_of};
 ghost use Rattle.cvss_subcommands.specs.Scoring.{WritesText};
@@ -18,7 +19,7 @@ use crate::subcommand::Subcommand;
 use crate::triage::triage_lines;
 use cvss_audit::{Audit, Layout};
 use cvss_lines::{RunFault, write_whole};
-use cvss_program::{EachLine, Files, Served, WatchedReader, serve_operands};
+use cvss_program::{EachLine, Files, Report, Served, WatchedReader, serve_operands};
 use std::alloc::{AllocError, Global};
 use std::io::{Read, Write};
 
@@ -26,21 +27,22 @@ use std::io::{Read, Write};
 ///
 /// # Errors
 ///
-/// The arguments are not understood: how many there are from the first on that is not. Nothing is read
-/// or written then.
+/// The arguments are not understood: how many there are from the first on that is not. Nothing is read,
+/// written or reported then.
 pub fn run_command<F: Files, R: Read, W: Write, E: Write>(
     alloc: Global,
     arguments: &[Vec<u8>],
     files: &F,
     reader: &mut WatchedReader<R>,
     writer: &mut W,
-    report: &mut E,
+    report: &mut Report<E>,
 ) -> Result<Served, usize>
     ensures { Does (request_of arguments.now)
         (help_of USAGE.now SCORE_USAGE.now FIND_USAGE.now EXPLAIN_USAGE.now SET_USAGE.now TRIAGE_USAGE.now AUDIT_USAGE.now) VERSION.now
         arguments.now (F.contents files.now)
         (R.remaining reader.old.reader) (R.remaining reader.new.reader)
-        (W.contents writer.old) (W.contents writer.new) result }
+        (W.contents writer.old) (W.contents writer.new)
+        (reported E.contents report.old) (reported E.contents report.new) result }
 {
     match request_of(arguments) {
         Request::Help(topic) => Ok(write_text(help_of(topic), writer)),
@@ -127,12 +129,13 @@ fn set_metrics<F: Files, R: Read, W: Write, E: Write>(
     files: &F,
     reader: &mut WatchedReader<R>,
     writer: &mut W,
-    report: &mut E,
+    report: &mut Report<E>,
 ) -> Result<Served, usize>
     ensures { SetsMetrics (joined_metrics options.words arguments.now) options
         arguments.now (F.contents files.now)
         (R.remaining reader.old.reader) (R.remaining reader.new.reader)
-        (W.contents writer.old) (W.contents writer.new) result }
+        (W.contents writer.old) (W.contents writer.new)
+        (reported E.contents report.old) (reported E.contents report.new) result }
 {
     let Ok(joined) = with_slash(alloc, metrics_of(arguments, options.words)) else {
         return Ok(Served::nothing().after(Err(RunFault::Memory)));
@@ -158,7 +161,7 @@ fn write_text<W: Write>(text: &str, writer: &mut W) -> Served
 }
 
 /// The last so many of the arguments.
-fn last(arguments: &[Vec<u8>], count: usize) -> &[Vec<u8>]
+pub(crate) fn last(arguments: &[Vec<u8>], count: usize) -> &[Vec<u8>]
     ensures { result.now ≡ operands_of count arguments.now }
 {
     &arguments[arguments.len().saturating_sub(count)..]

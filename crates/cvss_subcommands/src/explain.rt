@@ -6,11 +6,14 @@ ghost use Rattle.cvss_explain_answers.specs.Text as text;
 ghost use Rattle.cvss_lines.specs.Prefixed.{is_one_text};
 ghost use Rattle.cvss_lines.specs.Runs.{Ends};
 ghost use Rattle.cvss_program.specs.Operands.{ServesAll};
+ghost use Rattle.cvss_program.specs.Reports.{reported};
 
 use crate::flags::Flags;
 use cvss_explain_answers::{Explaining, answer_explained};
 use cvss_lines::{Answering, OutputBuffer, RunFault, Summary, run};
-use cvss_program::{EachLine, Files, LineAnswer, Served, Task, WatchedReader, serve_operands};
+use cvss_program::{
+    EachLine, Files, LineAnswer, Report, Served, Task, WatchedReader, serve_operands,
+};
 use std::alloc::{AllocError, Global};
 use std::io::{Read, Write};
 
@@ -22,12 +25,13 @@ pub(crate) fn explain<F: Files, R: Read, W: Write, E: Write>(
     files: &F,
     reader: &mut WatchedReader<R>,
     writer: &mut W,
-    report: &mut E,
+    report: &mut Report<E>,
 ) -> Served
     ensures { ServesAll (explain_ends flags.json flags.what_if flags.allow_incomplete)
         (F.contents files.now) operands.now
         (R.remaining reader.old.reader) (R.remaining reader.new.reader)
-        (W.contents writer.old) (W.contents writer.new) result }
+        (W.contents writer.old) (W.contents writer.new)
+        (reported E.contents report.old) (reported E.contents report.new) result }
 {
     let allow_incomplete = flags.allow_incomplete;
     if flags.json {

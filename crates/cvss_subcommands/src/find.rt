@@ -1,13 +1,14 @@
 //! `cvss find`.
 
 ghost use Rattle.std.specs.Prelude.{◌≡◌};
-ghost use Rattle.cvss_subcommands.specs.Done.{FindsVectors, find_ends, form_of};
-ghost use Rattle.cvss_program.specs.Operands.{ServesAll};
+ghost use Rattle.cvss_subcommands.specs.Done.{FindsAll, FindsVectors, find_ends, form_of};
+ghost use Rattle.cvss_program.specs.Reports.{reported};
+ghost use Rattle.cvss_subcommands.specs.Hints.{prefix_hint};
 
 use crate::flags::Flags;
 use cvss_find::{Finding, Form};
-use cvss_lines::{RunFault, Summary, run, write_whole};
-use cvss_program::{Files, Served, Task, WatchedReader, serve_operands};
+use cvss_lines::{RunFault, Summary, run};
+use cvss_program::{Files, Report, Served, Task, WatchedReader, serve_operands};
 use std::alloc::Global;
 use std::cell::Cell;
 use std::io::{Read, Write};
@@ -21,12 +22,13 @@ pub(crate) fn find_vectors<F: Files, R: Read, W: Write, E: Write>(
     files: &F,
     reader: &mut WatchedReader<R>,
     writer: &mut W,
-    report: &mut E,
+    report: &mut Report<E>,
 ) -> Served
-    ensures { ServesAll (find_ends flags.json flags.annotate flags.all flags.allow_incomplete)
+    ensures { FindsAll (find_ends flags.json flags.annotate flags.all flags.allow_incomplete)
         (F.contents files.now) operands.now
         (R.remaining reader.old.reader) (R.remaining reader.new.reader)
-        (W.contents writer.old) (W.contents writer.new) result }
+        (W.contents writer.old) (W.contents writer.new)
+        (reported E.contents report.old) (reported E.contents report.new) result }
 {
     let loose_prefix = Cell::new(false);
     let task = Find {
@@ -36,13 +38,17 @@ pub(crate) fn find_vectors<F: Files, R: Read, W: Write, E: Write>(
     };
     let served = serve_operands(alloc, &task, operands, files, reader, writer, report);
     if loose_prefix.get() {
-        let _ = write_whole(report, HINT.as_bytes());
+        report.write(prefix_hint().as_bytes());
     }
     served
 }
 
-/// Written on standard error, once a run.
-const HINT: &str = "cvss: hint: write the prefix of a vector as `CVSS:3.1/`\n";
+/// Reported once a run.
+fn prefix_hint() -> &'static str
+    ensures { result.now ≡ prefix_hint }
+{
+    "cvss: hint: write the prefix of a vector as `CVSS:3.1/`\n"
+}
 
 /// The form that is asked for.
 fn form_of(flags: Flags) -> Form

@@ -1,7 +1,9 @@
 //! What the command prints of itself.
 
 ghost use Rattle.std.specs.Prelude.{◌≡◌};
+ghost use Rattle.std.specs.Io.{StartsWith};
 ghost use Rattle.cvss_subcommands.specs.Done.{help_of};
+ghost use Rattle.cvss_subcommands.specs.Usage.{help_start};
 
 use crate::subcommand::Subcommand;
 
@@ -163,7 +165,8 @@ is no JSON, 2 after a usage or I/O error.
 
 /// The help on a subcommand, or on all.
 pub(crate) fn help_of(topic: Option<Subcommand>) -> &'static str
-    ensures { result.now ≡ help_of USAGE.now SCORE_USAGE.now FIND_USAGE.now EXPLAIN_USAGE.now SET_USAGE.now TRIAGE_USAGE.now AUDIT_USAGE.now topic }
+    ensures text { result.now ≡ help_of USAGE.now SCORE_USAGE.now FIND_USAGE.now EXPLAIN_USAGE.now SET_USAGE.now TRIAGE_USAGE.now AUDIT_USAGE.now topic }
+    ensures start { StartsWith result.now (help_start topic) }
 {
     match topic {
         None => USAGE,

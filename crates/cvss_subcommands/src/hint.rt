@@ -1,8 +1,13 @@
 //! What may help with a rejected vector that is a word of the command line.
 
+ghost use Rattle.std.specs.Prelude.{◌≡◌, ◌↔◌, [], IsTrue, MatchOption, length};
+ghost use Rattle.cvss_subcommands.specs.Hints.{HasNoHint, Holds, IsComplete, IsFirstHint, IsHinted, IsPrefixed, IsRejected, IsVector, MakeComplete, hint_text, without_back, without_front};
+ghost use Rattle.cvss_subcommands.specs.declared.hint.Hint.{Hint};
+ghost use Rattle.cvss_subcommands.specs.declared.hint.Hint.TheVariants.{Capitals};
+ghost use Rattle.cvss_vector.specs.Setting.{text_with};
+
 use cvss_program::{Source, source_of};
 use cvss_vector::{Cvss, Version};
-use std::fmt;
 
 /// What would make a rejected text a vector.
 #[derive(Drop)]
@@ -15,43 +20,94 @@ pub enum Hint {
     Alone,
 }
 
-impl fmt::Display for Hint {
-    fn fmt<W: fmt::Write>(&self, f: &mut fmt::Formatter<W>) -> fmt::Result {
-        f.write_str(match self {
-            Hint::Version => "write `CVSS:3.1/` before it",
-            Hint::Capitals => "write its prefix in capitals, as `CVSS:3.1/`",
-            Hint::Alone => "`cvss find` finds vectors among other text",
-        })
+impl Hint {
+    /// The line that is reported.
+    pub(crate) fn text(self) -> &'static str
+        ensures { result.now ≡ hint_text self }
+    {
+        match self {
+            Hint::Version => "cvss: hint: write `CVSS:3.1/` before it\n",
+            Hint::Capitals => "cvss: hint: write its prefix in capitals, as `CVSS:3.1/`\n",
+            Hint::Alone => "cvss: hint: `cvss find` finds vectors among other text\n",
+        }
     }
 }
 
 /// The hint for the first of the words that is a rejected vector and for which there is one.
-pub fn first_hint(words: &[Vec<u8>]) -> Option<Hint> {
-    words
-        .iter()
-        .filter(|word| matches!(source_of(word), Source::Vector))
-        .find_map(|word| hint_for(word))
+pub fn first_hint(words: &[Vec<u8>]) -> Option<Hint>
+    ensures { IsFirstHint words.now result }
+{
+    let mut left = words;
+    while let Some((word, rest)) = left.split_first() {
+        if let Some(hint) = hint_for(word) {
+            return Some(hint);
+        }
+        left = rest;
+    }
+    None
 }
 
-fn hint_for(text: &[u8]) -> Option<Hint> {
-    if Cvss::read(text).is_ok() {
+fn hint_for(word: &[u8]) -> Option<Hint>
+    ensures { MatchOption result (HasNoHint word.now) (IsHinted word.now) }
+{
+    if is_rejected(word) {
+        hint_that_holds(word)
+    } else {
         None
-    } else if is_built(Version::V31, text) {
+    }
+}
+
+/// Whether a word is given as a vector, and is none.
+fn is_rejected(word: &[u8]) -> bool
+    ensures { IsTrue result ↔ IsRejected word.now }
+{
+    matches!(source_of(word), Source::Vector) && !is_vector(word)
+}
+
+/// The first of the hints that holds for a text.
+fn hint_that_holds(text: &[u8]) -> Option<Hint>
+    ensures { MatchOption result ((hint : Hint) → ¬ (Holds hint text.now)) (λ hint. Holds hint text.now) }
+{
+    if make_complete(Version::V31, text) {
         Some(Hint::Version)
-    } else if is_prefixed(Version::V30, b"CVSS:3.0/", text)
-        || is_prefixed(Version::V31, b"CVSS:3.1/", text)
-        || is_prefixed(Version::V40, b"CVSS:4.0/", text)
-    {
+    } else if has_prefix_in_other_case(text) {
         Some(Hint::Capitals)
-    } else if Cvss::read(without_ends(text)).is_ok() {
+    } else if is_complete(without_back(without_front(text))) {
         Some(Hint::Alone)
     } else {
         None
     }
 }
 
+/// Whether a text is the prefix of one of the versions in some case and metrics that make a vector.
+fn has_prefix_in_other_case(text: &[u8]) -> bool
+    ensures { IsTrue result ↔ Holds Capitals text.now }
+{
+    is_prefixed(Version::V30, b"CVSS:3.0/", text)
+        || is_prefixed(Version::V31, b"CVSS:3.1/", text)
+        || is_prefixed(Version::V40, b"CVSS:4.0/", text)
+}
+
+fn is_vector(text: &[u8]) -> bool
+    ensures { IsTrue result ↔ IsVector text.now }
+{
+    Cvss::read_bytes(text).is_some()
+}
+
+/// Whether a text is a vector that lacks no base metric.
+fn is_complete(text: &[u8]) -> bool
+    ensures { IsTrue result ↔ IsComplete text.now }
+{
+    match Cvss::read_bytes(text) {
+        Some(cvss) => cvss.first_missing().is_none(),
+        None => false,
+    }
+}
+
 /// Whether metrics make a vector of a version that lacks no base metric.
-fn is_built(version: Version, metrics: &[u8]) -> bool {
+fn make_complete(version: Version, metrics: &[u8]) -> bool
+    ensures { IsTrue result ↔ MakeComplete version metrics.now }
+{
     let Ok(metrics) = str::from_utf8(metrics) else {
         return false;
     };
@@ -61,24 +117,41 @@ fn is_built(version: Version, metrics: &[u8]) -> bool {
     }
 }
 
-/// Whether a text is a prefix in some case and metrics that make a vector.
-fn is_prefixed(version: Version, prefix: &[u8], text: &[u8]) -> bool {
-    match text.split_at_checked(prefix.len()) {
+/// Whether a text is the prefix of a version in some case and metrics that make a vector.
+fn is_prefixed(version: Version, prefix: &[u8], text: &[u8]) -> bool
+    requires prefix { prefix.now ≡ text_with version [] }
+    requires length { length prefix.now ≡ 9 }
+    ensures { IsTrue result ↔ IsPrefixed version text.now }
+{
+    match text.split_at_checked(9) {
         Some((front, metrics)) => {
-            front.eq_ignore_ascii_case(prefix) && is_built(version, metrics)
+            front.eq_ignore_ascii_case(prefix) && make_complete(version, metrics)
         }
         None => false,
     }
 }
 
-/// A text from its first ASCII letter or digit to its last.
-fn without_ends(text: &[u8]) -> &[u8] {
-    let Some(start) = text.iter().position(u8::is_ascii_alphanumeric) else {
-        return text;
-    };
-    let rest = &text[start..];
-    match rest.iter().rposition(u8::is_ascii_alphanumeric) {
-        Some(last) => &rest[..=last],
-        None => rest,
+/// A text from its first ASCII letter or digit on.
+fn without_front(text: &[u8]) -> &[u8]
+    ensures { result.now ≡ without_front text.now }
+{
+    let mut left = text;
+    while let [byte, rest @ ..] = left {
+        if byte.is_ascii_alphanumeric() {
+            return left;
+        }
+        left = rest;
     }
+    left
+}
+
+/// A text to its last ASCII letter or digit.
+fn without_back(text: &[u8]) -> &[u8]
+    ensures { result.now ≡ without_back text.now }
+{
+    let mut end = text.len();
+    while end > 0 && !text[end - 1].is_ascii_alphanumeric() {
+        end -= 1;
+    }
+    &text[..end]
 }

@@ -1,12 +1,13 @@
 //! `cvss score`.
 
 ghost use Rattle.std.specs.Prelude.{◌≡◌};
+ghost use Rattle.cvss_program.specs.Reports.{reported};
 ghost use Rattle.cvss_subcommands.specs.Scoring.{Scores, ServesTable};
 
 use crate::flags::Flags;
 use crate::tasks::{Score, ScoreIncomplete, ScoreRow};
 use cvss_lines::write_whole;
-use cvss_program::{EachLine, Files, Served, WatchedReader, are_many, serve_operands};
+use cvss_program::{EachLine, Files, Report, Served, WatchedReader, are_many, serve_operands};
 use cvss_rows::{Format, header};
 use std::alloc::Global;
 use std::io::{Read, Write};
@@ -19,11 +20,12 @@ pub(crate) fn score<F: Files, R: Read, W: Write, E: Write>(
     files: &F,
     reader: &mut WatchedReader<R>,
     writer: &mut W,
-    report: &mut E,
+    report: &mut Report<E>,
 ) -> Served
     ensures { Scores flags.json flags.tsv flags.allow_incomplete (F.contents files.now) operands.now
         (R.remaining reader.old.reader) (R.remaining reader.new.reader)
-        (W.contents writer.old) (W.contents writer.new) result }
+        (W.contents writer.old) (W.contents writer.new)
+        (reported E.contents report.old) (reported E.contents report.new) result }
 {
     let allow_incomplete = flags.allow_incomplete;
     if flags.json {
@@ -61,11 +63,12 @@ fn serve_table<F: Files, R: Read, W: Write, E: Write>(
     files: &F,
     reader: &mut WatchedReader<R>,
     writer: &mut W,
-    report: &mut E,
+    report: &mut Report<E>,
 ) -> Served
     ensures { ServesTable allow_incomplete (F.contents files.now) operands.now
         (R.remaining reader.old.reader) (R.remaining reader.new.reader)
-        (W.contents writer.old) (W.contents writer.new) result }
+        (W.contents writer.old) (W.contents writer.new)
+        (reported E.contents report.old) (reported E.contents report.new) result }
 {
     let many = are_many(operands);
     let names = header(many);

@@ -1,13 +1,14 @@
 //! `cvss triage`.
 
 ghost use Rattle.std.specs.Prelude.{◌≡◌, IfOk, map};
+ghost use Rattle.cvss_program.specs.Reports.{reported};
 ghost use Rattle.cvss_subcommands.specs.Triaging.{kind_of, settings_of};
 ghost use Rattle.cvss_triage.specs.Settings.{as_words};
 ghost use Rattle.cvss_triage.specs.Triage.{Triages};
 
 use crate::flags::{Flag, Flags};
 use cvss_lines::RunFault;
-use cvss_program::{Files, Served, WatchedReader};
+use cvss_program::{Files, Report, Served, WatchedReader};
 use cvss_triage::{Setting, SettingKind, Triage, rank_operands};
 use std::alloc::{AllocError, Global};
 use std::io::{Read, Write};
@@ -21,12 +22,13 @@ pub(crate) fn triage_lines<F: Files, R: Read, W: Write, E: Write>(
     files: &F,
     reader: &mut WatchedReader<R>,
     writer: &mut W,
-    report: &mut E,
+    report: &mut Report<E>,
 ) -> Served
     ensures { Triages (settings_of words.now) flags.keep_going flags.allow_incomplete
         (F.contents files.now) operands.now
         (R.remaining reader.old.reader) (R.remaining reader.new.reader)
-        (W.contents writer.old) (W.contents writer.new) result }
+        (W.contents writer.old) (W.contents writer.new)
+        (reported E.contents report.old) (reported E.contents report.new) result }
 {
     let Ok(settings) = settings_of(alloc, words) else {
         return Served::nothing().after(Err(RunFault::Memory));

@@ -24,6 +24,8 @@ mod scores;
 #[cfg(test)]
 mod scoring;
 #[cfg(test)]
+mod surface;
+#[cfg(test)]
 mod triage;
 #[cfg(test)]
 mod values;

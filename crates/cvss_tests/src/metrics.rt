@@ -1,5 +1,9 @@
-//! Tests of the metrics' types: which variant is which value, defaults, orders, and values in place
-//! of others.
+//! Tests of the metrics' types: defaults, weights, and values in place of others. How each value is
+//! spelled is in a file for each version.
+
+mod of_v2;
+mod of_v3;
+mod of_v4;
 
 use crate::values::are_equal;
 use cvss::v3::metric::environmental::{BaseMetric, Modified, ModifiedScope};
@@ -129,16 +133,11 @@ fn values_are_read_in_any_case(rt: HostRuntime) {
     use cvss::v3::Metric as _;
     use cvss::v4::metric::Metric as _;
     use v3::metric::base::AttackVector;
-    assert!(rt;
-        matches!(
-            AttackVector::read_uppercased("n"),
-            Some(AttackVector::Network)
-        )
-    );
+    assert!(rt; matches!(AttackVector::read_raised("n"), Some(AttackVector::Network)));
     assert!(rt; ProviderUrgency::read("red").is_none());
     assert!(rt;
         matches!(
-            ProviderUrgency::read_uppercased("red"),
+            ProviderUrgency::read_raised("red"),
             Some(ProviderUrgency::Red)
         )
     );

@@ -15,6 +15,13 @@ pub(crate) fn are_equal<T: PartialEq>(rt: &impl Abort, rows: &[(T, T)]) {
     }
 }
 
+/// Compares each row with the next one, which is more.
+pub(crate) fn ascend<T: PartialOrd, U>(rt: &impl Abort, rows: &[(T, U)]) {
+    for pair in rows.windows(2) {
+        assert!(rt; matches!(pair, [(less, _), (more, _)] if less < more));
+    }
+}
+
 /// Prints each value, which gives its text.
 pub(crate) fn are_printed<T>(rt: &impl Abort, alloc: Global, rows: &[(&str, T)]) -> Tried
 where

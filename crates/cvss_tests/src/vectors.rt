@@ -89,6 +89,22 @@ fn a_vector_of_another_minor_version_is_read_back_as_of_that(rt: HostRuntime) ->
     Ok(())
 }
 
+/// Canonical texts of v4.0, of base metrics and with metrics of each other group.
+const CANONICAL: [&str; 2] = [
+    "CVSS:4.0/AV:N/AC:L/AT:N/PR:N/UI:N/VC:L/VI:H/VA:N/SC:N/SI:N/SA:N",
+    "CVSS:4.0/AV:A/AC:H/AT:P/PR:L/UI:P/VC:H/VI:L/VA:N/SC:H/SI:L/SA:N/E:U/MAV:N/MSI:S/R:I/U:Amber",
+];
+
+#[test]
+fn debug_of_a_vector_of_v4_is_its_text(rt: HostRuntime) -> Tried {
+    for text in &CANONICAL {
+        let vector = v4::Vector::from_str(rt.alloc(), text)?;
+        let printed = format!(in rt.alloc(); "{vector:?}")?;
+        assert!(rt; printed.as_str() == *text, "{printed}");
+    }
+    Ok(())
+}
+
 /// The vector of v3 without metrics and with this minor version.
 fn empty_v3(minor_version: usize) -> v3::Vector {
     v3::Vector {

@@ -5,19 +5,26 @@ use Rattle.std.specs.Io.KnownBytes.{Keeps}
 use Rattle.cvss_lines.specs.Lines.{lines}
 use Rattle.cvss_lines.specs.declared.fault.RunFault.TheVariants.{Read}
 use Rattle.cvss_program.specs.Arguments.{bytes_of}
+use Rattle.cvss_program.specs.Reports.{Reported, ReportsError}
 use Rattle.cvss_program.specs.Whole.{ReadsWhole}
 
--- the words are read in turn, each as the step says, from what is unread before to what is unread after
-abbrev pub ReadsEach : {X Y : Type 0} → (X → Option (List ℕ) → Option (List ℕ) → Y → Type 0) → List X → Option (List ℕ) → Option (List ℕ) → List Y → Type 0
-ReadsEach step [] unread unread' read = Keeps unread unread' × (read ≡ [])
-ReadsEach {X} {Y} step (word ∷ words) unread unread' read =
-    (unread'' : Option (List ℕ)) × (first : Y) × (more : List Y) × (read ≡ first ∷ more)
-    × step word unread unread'' first × ReadsEach step words unread'' unread' more
+-- what one step reads of a word: what is unread and what is reported, each before and after, and what is read
+abbrev pub Reading : Type 0 → Type 0 → Type 1
+Reading X Y = X → Option (List ℕ) → Option (List ℕ) → Reported → Reported → Y → Type 0
 
--- these are the bytes of an operand, or there are none, where it cannot be read
-abbrev pub ReadsInput : (List ℕ → Option (List ℕ)) → List ℕ → Option (List ℕ) → Option (List ℕ) → Option (Vec ℕ) → Type 0
-ReadsInput contents operand unread unread' (Some bytes) = ReadsWhole contents operand unread unread' (Ok bytes)
-ReadsInput contents operand unread unread' None = ReadsWhole contents operand unread unread' (Err Read)
+-- the words are read in turn, each as the step says
+abbrev pub ReadsEach : {X Y : Type 0} → Reading X Y → List X → Option (List ℕ) → Option (List ℕ) → Reported → Reported → List Y → Type 0
+ReadsEach step [] unread unread' report report' read = Keeps unread unread' × (report' ≡ report) × (read ≡ [])
+ReadsEach {X} {Y} step (word ∷ words) unread unread' report report' read =
+    (unread'' : Option (List ℕ)) × (report'' : Reported) × (first : Y) × (more : List Y) × (read ≡ first ∷ more)
+    × step word unread unread'' report report'' first × ReadsEach step words unread'' unread' report'' report' more
+
+-- these are the bytes of an operand, or there are none, where it cannot be read, which is reported
+abbrev pub ReadsInput : (List ℕ → Option (List ℕ)) → Reading (List ℕ) (Option (Vec ℕ))
+ReadsInput contents operand unread unread' report report' (Some bytes) =
+    ReadsWhole contents operand unread unread' (Ok bytes) × (report' ≡ report)
+ReadsInput contents operand unread unread' report report' None =
+    ReadsWhole contents operand unread unread' (Err Read) × ReportsError None operand report report'
 
 -- the operands, or standard input where there is none
 abbrev pub inputs_of : List (Vec ℕ) → List (List ℕ)

@@ -1,15 +1,24 @@
 -- What is reported on standard error of lines that have no row, and of metrics that hold for no version.
-use Rattle.std.specs.Prelude.{◌≡◌, ℕ, ◌+◌, ◌<◌, ◌&&◌, Bool, List, [], ◌∷◌, ◌++◌, All, codes, length, if◌then◌else◌, Option, None, Some, option_and_then}
+use Rattle.std.specs.Prelude.{◌≡◌, ℕ, ◌+◌, ◌<◌, ◌&&◌, Bool, List, [], ◌∷◌, ◌++◌, All, codes, length, ◌⊎◌, if◌then◌else◌, Option, None, Some, option_and_then}
 use Rattle.std.specs.Borrow.{Bor}
 use Rattle.std.specs.Fmt.{decimal}
 use Rattle.std.specs.Global.{Vec}
 use Rattle.std.specs.Slice.{IsItemAt}
 use Rattle.cvss_vector.specs.Reasons.{error_message}
+use Rattle.cvss_lines.specs.Lines.{lines}
+use Rattle.cvss_program.specs.Reports.{Reported, Reports}
 use Rattle.cvss_program.specs.Sources.{has_name, source_of}
+use Rattle.cvss_rank.specs.Overrides.{HoldsForSome}
+use Rattle.cvss_rank.specs.declared.overrides.Family.{Family}
+use Rattle.cvss_rank.specs.declared.overrides.Override.{Override}
 use Rattle.cvss_rank.specs.declared.ranking.BadLine.{BadLine}
 use Rattle.cvss_rank.specs.declared.reading.Reason.{Reason}
 use Rattle.cvss_rank.specs.declared.reading.Reason.TheVariants.{NoVector, SeveralVectors, Rejected}
 use Rattle.cvss_triage.specs.Inputs.{lines_of_input}
+use Rattle.cvss_triage.specs.Settings.{as_metrics, line_metrics}
+use Rattle.cvss_triage.specs.declared.settings.SettingKind.{SettingKind}
+use Rattle.cvss_triage.specs.declared.settings.SettingKind.TheVariants.{Metrics, Profile}
+use Rattle.cvss_triage.specs.declared.settings.SettingText.{SettingText}
 
 -- for each input, how many lines are before its own, where so many are before the first
 abbrev pub starts_after : ℕ → List (Option (Vec ℕ)) → List ℕ
@@ -69,3 +78,42 @@ pub record ReportsBad (starts : List ℕ) (many : Bool) (operands : List (Vec �
 -- what is reported of metrics, which are at this place if they are from a profile
 abbrev pub unknown_text : List ℕ → List ℕ → List ℕ
 unknown_text place metrics = codes "cvss: " ++ (place ++ (codes "not a metric of any version: " ++ (metrics ++ 10 ∷ [])))
+
+-- each of some is reported in turn, as the step says
+abbrev pub ReportsEach : {X : Type 0} → (X → Reported → Reported → Type 0) → List X → Reported → Reported → Type 0
+ReportsEach step [] report report' = report' ≡ report
+ReportsEach step (it ∷ more) report report' =
+    (report'' : Reported) × step it report report'' × ReportsEach step more report'' report'
+
+-- metrics are reported if they hold for no vector
+pub record ReportsUnknown (metrics : Option Family × List ℕ) (place given : List ℕ) (report report' : Reported) : Type 0 where
+  pub it : Override
+  pub is : as_metrics it ≡ metrics
+  pub reported : (HoldsForSome it × (report' ≡ report)) ⊎ (¬ (HoldsForSome it) × Reports report report' (unknown_text place given))
+
+-- the same of what the line of an index sets, if it is not blank
+abbrev pub ReportsUnknownIn : Option (Option Family × List ℕ) → List ℕ → List ℕ → Reported → Reported → Type 0
+ReportsUnknownIn None place line report report' = report' ≡ report
+ReportsUnknownIn (Some metrics) place line report report' = ReportsUnknown metrics place line report report'
+
+-- the same of the lines of a profile in turn, of which the first has this index
+abbrev pub ReportsLines : List ℕ → ℕ → List (List ℕ) → Reported → Reported → Type 0
+ReportsLines name index [] report report' = report' ≡ report
+ReportsLines name index (line ∷ lines) report report' =
+    (report'' : Reported) × ReportsUnknownIn (line_metrics line) (place_text (Some name) index) line report report''
+    × ReportsLines name (index + 1) lines report'' report'
+
+-- the same of the text of a setting, by its kind and its word, if it is read
+abbrev pub ReportsText : SettingKind → List ℕ → Option (Vec ℕ) → Reported → Reported → Type 0
+ReportsText kind word None report report' = report' ≡ report
+ReportsText Metrics word (Some text) report report' = ReportsUnknown (None, text.items) [] text.items report report'
+ReportsText Profile word (Some text) report report' = ReportsLines word 0 (lines text.items) report report'
+
+abbrev pub ReportsSetting : SettingText → Reported → Reported → Type 0
+ReportsSetting it = ReportsText it.setting.now.kind it.setting.now.word.now it.text
+
+-- a line without a row is reported, unless its index is less than each start, as no index is
+pub record ReportsBadLine (starts : List ℕ) (many : Bool) (operands : List (Vec ℕ)) (bad : BadLine) (report report' : Reported) : Type 0 where
+  pub text : List ℕ
+  pub is : All (λ start. bad.index < start) starts ⊎ ReportsBad starts many operands bad text
+  pub reports : Reports report report' text

@@ -9,7 +9,7 @@ use Rattle.cvss_rank.specs.Overrides.{HoldsForSome}
 use Rattle.cvss_rank.specs.declared.overrides.Family.{Family}
 use Rattle.cvss_rank.specs.declared.overrides.Family.TheVariants.{V2, V3, V4}
 use Rattle.cvss_rank.specs.declared.overrides.Override.{Override}
-use Rattle.cvss_triage.specs.Inputs.{ReadsInput}
+use Rattle.cvss_triage.specs.Inputs.{Reading, ReadsInput}
 use Rattle.cvss_triage.specs.declared.settings.Setting.{Setting}
 use Rattle.cvss_triage.specs.declared.settings.SettingKind.{SettingKind}
 use Rattle.cvss_triage.specs.declared.settings.SettingKind.TheVariants.{Metrics, Profile}
@@ -24,13 +24,14 @@ abbrev pub as_metrics : Override → Option Family × List ℕ
 as_metrics it = (it.family, it.metrics.now)
 
 -- the text of a setting: its word, or what the profile has that its word names
-abbrev pub ReadsText : (List ℕ → Option (List ℕ)) → SettingKind → List ℕ → Option (List ℕ) → Option (List ℕ) → Option (Vec ℕ) → Type 0
-ReadsText contents Metrics word unread unread' text = Keeps unread unread' × IsSomeAnd text (λ bytes. bytes.items ≡ word)
-ReadsText contents Profile word unread unread' text = ReadsInput contents word unread unread' text
+abbrev pub ReadsText : (List ℕ → Option (List ℕ)) → SettingKind → Reading (List ℕ) (Option (Vec ℕ))
+ReadsText contents Metrics word unread unread' report report' text =
+    Keeps unread unread' × (report' ≡ report) × IsSomeAnd text (λ bytes. bytes.items ≡ word)
+ReadsText contents Profile word unread unread' report report' text = ReadsInput contents word unread unread' report report' text
 
-abbrev pub ReadsSetting : (List ℕ → Option (List ℕ)) → SettingKind × List ℕ → Option (List ℕ) → Option (List ℕ) → SettingText → Type 0
-ReadsSetting contents words unread unread' it =
-    (it.setting.now.kind ≡ words.0) × ReadsText contents words.0 words.1 unread unread' it.text
+abbrev pub ReadsSetting : (List ℕ → Option (List ℕ)) → Reading (SettingKind × List ℕ) SettingText
+ReadsSetting contents words unread unread' report report' it =
+    (as_words it.setting.now ≡ words) × ReadsText contents words.0 words.1 unread unread' report report' it.text
 
 -- a blank or a tab
 abbrev pub is_blank : ℕ → Bool

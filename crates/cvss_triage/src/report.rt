@@ -1,12 +1,17 @@
 //! What is reported on standard error.
 
-use crate::lines::{Lines, push_lines};
+ghost use Rattle.std.specs.Prelude.{[], None, OnOk, Some};
+ghost use Rattle.cvss_lines.specs.Lines.{lines as lines_of_text};
+ghost use Rattle.cvss_program.specs.Reports.{reported};
+ghost use Rattle.cvss_triage.specs.Reports.{ReportsBadLine, ReportsEach, ReportsLines, ReportsSetting, ReportsUnknown, ReportsUnknownIn, place_text};
+ghost use Rattle.cvss_triage.specs.Settings.{as_metrics, line_metrics};
+
 use crate::overrides::{for_all_versions, override_by};
 use crate::reported::{bad_report, unknown_line_text, unknown_text};
 use crate::settings::{SettingKind, SettingText};
-use cvss_lines::write_whole;
-use cvss_program::are_many;
-use cvss_rank::{BadLine, holds_for_some};
+use cvss_lines::first_line;
+use cvss_program::Report;
+use cvss_rank::{BadLine, Override, holds_for_some};
 use std::alloc::{AllocError, Global};
 use std::io::Write;
 
@@ -15,23 +20,49 @@ use std::io::Write;
 /// # Errors
 ///
 /// Out of memory. A report that cannot be written is lost.
+#[tactic(auto, using(crate::proofs::ReadsLemmas::reports_all))]
 pub(crate) fn report_unknown<E: Write>(
     alloc: Global,
     texts: &[SettingText<'_>],
-    report: &mut E,
-) -> Result<(), AllocError> {
+    report: &mut Report<E>,
+) -> Result<(), AllocError>
+    ensures { OnOk result (ReportsEach ReportsSetting texts.now
+        (reported E.contents report.old) (reported E.contents report.new)) }
+{
     for it in texts {
-        let Some(text) = &it.text else {
-            continue;
-        };
-        match it.setting.kind {
-            SettingKind::Metrics if holds_for_some(for_all_versions(text)) => {}
-            SettingKind::Metrics => {
-                let unknown = unknown_text(alloc, text)?;
-                let _ = write_whole(report, &unknown.bytes);
-            }
-            SettingKind::Profile => report_profile(it.setting.word, text, alloc, report)?,
-        }
+        report_setting(alloc, it, report)?;
+    }
+    Ok(())
+}
+
+/// Reports the metrics in the text of a setting that hold for no vector.
+fn report_setting<E: Write>(
+    alloc: Global,
+    it: &SettingText<'_>,
+    report: &mut Report<E>,
+) -> Result<(), AllocError>
+    ensures { OnOk result (ReportsSetting it.now
+        (reported E.contents report.old) (reported E.contents report.new)) }
+{
+    match (&it.setting.kind, &it.text) {
+        (_, None) => {}
+        (SettingKind::Metrics, Some(text)) => report_metrics(alloc, text, report)?,
+        (SettingKind::Profile, Some(text)) => report_profile(it.setting.word, text, alloc, report)?,
+    }
+    Ok(())
+}
+
+/// Reports metrics, if they hold for no vector.
+fn report_metrics<E: Write>(
+    alloc: Global,
+    metrics: &[u8],
+    report: &mut Report<E>,
+) -> Result<(), AllocError>
+    ensures { OnOk result (ReportsUnknown (None, metrics.now) [] metrics.now
+        (reported E.contents report.old) (reported E.contents report.new)) }
+{
+    if !holds_for_some(for_all_versions(metrics)) {
+        report.write(&unknown_text(alloc, metrics)?.bytes);
     }
     Ok(())
 }
@@ -41,17 +72,52 @@ fn report_profile<E: Write>(
     name: &[u8],
     text: &[u8],
     alloc: Global,
-    report: &mut E,
-) -> Result<(), AllocError> {
-    let mut lines = Vec::new(alloc);
-    push_lines(text, &mut lines)?;
-    for (index, line) in lines.iter().enumerate() {
-        if let Some(it) = override_by(line)
-            && !holds_for_some(it)
-        {
-            let unknown = unknown_line_text(alloc, name, index, line)?;
-            let _ = write_whole(report, &unknown.bytes);
-        }
+    report: &mut Report<E>,
+) -> Result<(), AllocError>
+    ensures { OnOk result (ReportsLines name.now 0 (lines_of_text text.now)
+        (reported E.contents report.old) (reported E.contents report.new)) }
+{
+    let mut index = 0;
+    let mut left = text;
+    while let Some((line, rest)) = first_line(left) {
+        report_line(name, index, line, alloc, report)?;
+        index += 1;
+        left = rest;
+    }
+    Ok(())
+}
+
+/// Reports the line of an index of a profile, if it is not blank and holds for no vector.
+fn report_line<E: Write>(
+    name: &[u8],
+    index: usize,
+    line: &[u8],
+    alloc: Global,
+    report: &mut Report<E>,
+) -> Result<(), AllocError>
+    ensures { OnOk result (ReportsUnknownIn (line_metrics line.now) (place_text (Some name.now) index)
+        line.now (reported E.contents report.old) (reported E.contents report.new)) }
+{
+    match override_by(line) {
+        Some(it) => report_override(name, index, line, it, alloc, report),
+        None => Ok(()),
+    }
+}
+
+/// Reports the line of an index of a profile that sets these metrics, if they hold for no vector.
+fn report_override<E: Write>(
+    name: &[u8],
+    index: usize,
+    line: &[u8],
+    it: Override<'_>,
+    alloc: Global,
+    report: &mut Report<E>,
+) -> Result<(), AllocError>
+    ensures { OnOk result (ReportsUnknown (as_metrics it.entry) (place_text (Some name.now) index)
+        line.now (reported E.contents report.old) (reported E.contents report.new)) }
+{
+    if !holds_for_some(it) {
+        report.write(&unknown_line_text(alloc, name, index, line)?.bytes);
     }
     Ok(())
 }
@@ -62,17 +128,35 @@ fn report_profile<E: Write>(
 /// # Errors
 ///
 /// Out of memory. A report that cannot be written is lost.
+#[tactic(auto, using(crate::proofs::ReadsLemmas::reports_all))]
 pub(crate) fn report_bad<E: Write>(
     alloc: Global,
     bad: &[BadLine<'_>],
-    lines: &Lines<'_>,
+    starts: &[usize],
+    many: bool,
     operands: &[Vec<u8>],
-    report: &mut E,
-) -> Result<(), AllocError> {
-    let many = are_many(operands);
+    report: &mut Report<E>,
+) -> Result<(), AllocError>
+    ensures { OnOk result (ReportsEach (ReportsBadLine starts.now many operands.now)
+        bad.now (reported E.contents report.old) (reported E.contents report.new)) }
+{
     for it in bad {
-        let text = bad_report(alloc, it, &lines.starts, many, operands)?;
-        let _ = write_whole(report, &text.bytes);
+        report_bad_line(alloc, it, starts, many, operands, report)?;
     }
+    Ok(())
+}
+
+fn report_bad_line<E: Write>(
+    alloc: Global,
+    it: &BadLine<'_>,
+    starts: &[usize],
+    many: bool,
+    operands: &[Vec<u8>],
+    report: &mut Report<E>,
+) -> Result<(), AllocError>
+    ensures { OnOk result (ReportsBadLine starts.now many operands.now it.now
+        (reported E.contents report.old) (reported E.contents report.new)) }
+{
+    report.write(&bad_report(alloc, it, starts, many, operands)?.bytes);
     Ok(())
 }

@@ -1,11 +1,12 @@
 //! What the options of triage set, and the texts that say it.
 
 ghost use Rattle.std.specs.Prelude.{IfOk, map};
+ghost use Rattle.cvss_program.specs.Reports.{reported};
 ghost use Rattle.cvss_triage.specs.Inputs.{ReadsEach};
 ghost use Rattle.cvss_triage.specs.Settings.{ReadsSetting, as_words};
 
 use crate::inputs::read_input;
-use cvss_program::{Files, WatchedReader};
+use cvss_program::{Files, Report, WatchedReader};
 use std::alloc::{AllocError, Global};
 use std::io::{Read, Write};
 
@@ -44,11 +45,11 @@ pub(crate) fn read_settings<'a, F: Files, R: Read, E: Write>(
     settings: &'a [Setting<'a>],
     files: &F,
     reader: &mut WatchedReader<R>,
-    report: &mut E,
+    report: &mut Report<E>,
 ) -> Result<Vec<SettingText<'a>>, AllocError>
     ensures { IfOk result (λ texts. ReadsEach (ReadsSetting (F.contents files.now))
         (map as_words settings.now) (R.remaining reader.old.reader) (R.remaining reader.new.reader)
-        texts.items) }
+        (reported E.contents report.old) (reported E.contents report.new) texts.items) }
 {
     let mut texts = Vec::new(alloc);
     for setting in settings {
@@ -62,10 +63,11 @@ fn read_setting<'a, F: Files, R: Read, E: Write>(
     setting: &'a Setting<'a>,
     files: &F,
     reader: &mut WatchedReader<R>,
-    report: &mut E,
+    report: &mut Report<E>,
 ) -> Result<SettingText<'a>, AllocError>
     ensures { IfOk result (ReadsSetting (F.contents files.now) (as_words setting.now)
-        (R.remaining reader.old.reader) (R.remaining reader.new.reader)) }
+        (R.remaining reader.old.reader) (R.remaining reader.new.reader)
+        (reported E.contents report.old) (reported E.contents report.new)) }
 {
     let text = match setting.kind {
         SettingKind::Metrics => Some(Vec::from_slice(alloc, setting.word)?),

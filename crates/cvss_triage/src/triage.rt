@@ -2,6 +2,7 @@
 
 ghost use Rattle.std.specs.Prelude.{◌≡◌, IfOk, is_none, map};
 ghost use Rattle.std.specs.List.{list_any};
+ghost use Rattle.cvss_program.specs.Reports.{reported};
 ghost use Rattle.cvss_triage.specs.Settings.{as_words};
 ghost use Rattle.cvss_triage.specs.Triage.{IsOutcome, IsRanked, Triages, WritesOutcome, served_of, shown};
 
@@ -12,7 +13,7 @@ use crate::report::{report_bad, report_unknown};
 use crate::rows::rows_text;
 use crate::settings::{Setting, read_settings};
 use cvss_lines::{RunFault, write_whole};
-use cvss_program::{Files, Served, WatchedReader};
+use cvss_program::{Files, Report, Served, WatchedReader, are_many};
 use cvss_rank::{BadLine, Override, Row, rank};
 use std::alloc::{AllocError, Global};
 use std::io::{Read, Write};
@@ -45,12 +46,13 @@ pub fn rank_operands<F: Files, R: Read, W: Write, E: Write>(
     files: &F,
     reader: &mut WatchedReader<R>,
     writer: &mut W,
-    report: &mut E,
+    report: &mut Report<E>,
 ) -> Served
     ensures { Triages (map as_words asked.now.settings.now) asked.now.keep_going
         asked.now.allow_incomplete (F.contents files.now) operands.now
         (R.remaining reader.old.reader) (R.remaining reader.new.reader)
-        (W.contents writer.old) (W.contents writer.new) result }
+        (W.contents writer.old) (W.contents writer.new)
+        (reported E.contents report.old) (reported E.contents report.new) result }
 {
     match outcome_of(alloc, asked, operands, files, reader, report) {
         Ok(outcome) => write_outcome(outcome, writer),
@@ -75,11 +77,12 @@ fn outcome_of<F: Files, R: Read, E: Write>(
     operands: &[Vec<u8>],
     files: &F,
     reader: &mut WatchedReader<R>,
-    report: &mut E,
+    report: &mut Report<E>,
 ) -> Result<Outcome, AllocError>
     ensures { IfOk result (λ outcome. IsOutcome (map as_words asked.now.settings.now)
         asked.now.keep_going asked.now.allow_incomplete (F.contents files.now) operands.now
         (R.remaining reader.old.reader) (R.remaining reader.new.reader)
+        (reported E.contents report.old) (reported E.contents report.new)
         outcome.text.items outcome.served) }
 {
     let texts = read_settings(alloc, asked.settings, files, reader, report)?;
@@ -102,14 +105,17 @@ fn ranked<E: Write>(
     overrides: &[Override<'_>],
     operands: &[Vec<u8>],
     inputs: &[Option<Vec<u8>>],
-    report: &mut E,
+    report: &mut Report<E>,
 ) -> Result<Outcome, AllocError>
     ensures { IfOk result (λ outcome. IsRanked asked.now.keep_going asked.now.allow_incomplete
-        overrides.now inputs.now outcome.text.items outcome.served) }
+        overrides.now operands.now inputs.now
+        (reported E.contents report.old) (reported E.contents report.new)
+        outcome.text.items outcome.served) }
 {
     let lines = lines_of(alloc, inputs)?;
     let ranking = rank(alloc, &lines.lines, overrides, asked.allow_incomplete)?;
-    report_bad(alloc, &ranking.bad, &lines, operands, report)?;
+    let many = are_many(operands);
+    report_bad(alloc, &ranking.bad, &lines.starts, many, operands, report)?;
     let served = served_of(&ranking.bad, inputs);
     let text = shown(alloc, asked.keep_going, &served, &ranking.rows)?;
     Ok(Outcome { text, served })

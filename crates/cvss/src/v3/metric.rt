@@ -61,7 +61,7 @@ pub trait Metric: MetricEnum {
     }
 
     /// The value with this spelling, in any ASCII case.
-    final fn read_uppercased(text: &str) -> Option<Self>
+    final fn read_raised(text: &str) -> Option<Self>
         ensures spelled { IfSome result
             (λ metric. spelling_of Self.KIND (Self.value metric) ≡ uppercased text.now) }
         ensures read { (metric : Self) → spelling_of Self.KIND (Self.value metric) ≡ uppercased text.now
@@ -77,7 +77,7 @@ pub trait Metric: MetricEnum {
         ensures read { (metric : Self) → spelling_of Self.KIND (Self.value metric) ≡ text.now
             → result ≡ Some metric }
     {
-        let metric = Self::read_uppercased(text)?;
+        let metric = Self::read_raised(text)?;
         if metric.as_str() == text {
             Some(metric)
         } else {

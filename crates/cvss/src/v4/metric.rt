@@ -56,7 +56,7 @@ pub trait Metric: MetricEnum {
 
     /// The value that `read` gives for the text in upper case.
     #[tactic(auto, using(crate::proofs::ReadingLemmas::read_alike))]
-    final fn read_uppercased(text: &str) -> Option<Self>
+    final fn read_raised(text: &str) -> Option<Self>
         ensures spelled { IfSome result
             (λ metric. IsReading (spelling_at Self.KIND (Self.rank metric)) (uppercased text.now)) }
         ensures read { (metric : Self)

@@ -7,10 +7,10 @@ use Rattle.cvss_score.specs.declared.v3.weights.Weights.{Weights}
 use Rattle.cvss_score.proofs.v3_lemmas.RoundLemmas.{jump, between_jumps}
 use Rattle.cvss_base.proofs.TestLemmas.{is_below, is_at_most, below_if, at_most_if}
 
-v30_if : (x : Exact) (r : ℤ) → is_at_most x (tenths r) ≡ true → is_below (tenths (r -ℤ pos 1)) x ≡ true → IsRoundedV30 x r
+pub v30_if : (x : Exact) (r : ℤ) → is_at_most x (tenths r) ≡ true → is_below (tenths (r -ℤ pos 1)) x ≡ true → IsRoundedV30 x r
 v30_if x r at_most below = record { not_below = at_most_if x (tenths r) at_most; least = below_if (tenths (r -ℤ pos 1)) x below }
 
-v31_if : (t q r : ℕ) → 0 < q → is_at_most (jump (pos r -ℤ pos 1)) (t over q) ≡ true → is_below (t over q) (jump (pos r)) ≡ true
+pub v31_if : (t q r : ℕ) → 0 < q → is_at_most (jump (pos r -ℤ pos 1)) (t over q) ≡ true → is_below (t over q) (jump (pos r)) ≡ true
     → IsRoundedV31 (t over q) (pos r)
 v31_if t q r some low high = between_jumps t q r some (at_most_if _ (t over q) low) (below_if (t over q) _ high)
 

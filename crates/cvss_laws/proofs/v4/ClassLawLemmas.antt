@@ -6,7 +6,7 @@ use Rattle.std.proofs.lemmas.Bool.Decides.{nat_tests}
 use Rattle.std.proofs.lemmas.List.Folds.{Any-from_list_any}
 use Rattle.std.proofs.lemmas.List.Sums.{AllPass-from_list_all}
 use Rattle.cvss_laws.specs.v4.ClassLaws.{IsDominated, HaveLeastSum}
-use Rattle.cvss_score.specs.v4.AsSevere.{IsAtMost}
+use Rattle.cvss_score.specs.AtMost.{IsAtMost}
 use Rattle.cvss_score.proofs.v4_lemmas.LeastLemmas.{Scale}
 use Rattle.cvss_score.proofs.v4_lemmas.TestLemmas.{Finite, Classes}
 

@@ -1,7 +1,7 @@
 -- What the laws of the classes of CVSS v4 say: v4.0 specification, section 8.2.
 use Rattle.std.specs.Prelude.{◌≡◌, ℕ, List, ℤ, pos, ◌+ℤ◌, ◌<ℤ◌}
 use Rattle.std.specs.List.{All, Any}
-use Rattle.cvss_score.specs.v4.AsSevere.{IsAtMost}
+use Rattle.cvss_score.specs.AtMost.{IsAtMost}
 use Rattle.cvss_score.specs.declared.v4.scoring.effective.Effective.{Effective}
 
 -- some listed values have no level above that of these

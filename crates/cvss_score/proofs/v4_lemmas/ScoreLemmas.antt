@@ -40,7 +40,7 @@ counted_once : (next : Option ℕ) → unwrap_or (option_map (λ _. 1) next) 0 �
 counted_once None = omega arith
 counted_once (Some lower) = omega arith
 
-few_counted : (v : Effective) → all_counted (groups v) ≤ 5
+pub few_counted : (v : Effective) → all_counted (groups v) ≤ 5
 few_counted v = omega (arith, counted_once)
 
 -- the mean of what the groups take, in 504000ths of a point

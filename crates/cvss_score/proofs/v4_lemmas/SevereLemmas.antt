@@ -12,7 +12,8 @@ use Rattle.cvss_score.specs.v4.Classes.{macro_vector}
 use Rattle.cvss_score.specs.v4.Gap.{Group, groups, next_lower}
 use Rattle.cvss_score.specs.v4.Levels.{vulnerable_level, subsequent_level, safety_level}
 use Rattle.cvss_score.specs.v4.Scores.{has_impact, is_vulnerable_impact, is_subsequent_impact, is_safety_impact, number, IsScore}
-use Rattle.cvss_score.specs.v4.AsSevere.{IsAtMost, levels, IsAsSevere}
+use Rattle.cvss_score.specs.AtMost.{IsAtMost}
+use Rattle.cvss_score.specs.v4.AsSevere.{levels, IsAsSevere}
 use Rattle.cvss_score.specs.v4.private.Shares.{taken, counted}
 use Rattle.cvss_score.specs.v4.Values.{listed_value, table_value}
 use Rattle.cvss_score.specs.declared.v4.scoring.effective.Effective.{Effective}
@@ -78,10 +79,10 @@ safety_is : (x : SafetyImpact) → is_safety_impact x ≡ ltb (safety_level x) 3
 safety_is = elim [ safety.High ↦ refl | _ ↦ refl ]
 
 -- so an impact that is there is there at a lower level
-kept : (x y : Bool) (less more none : ℕ) → x ≡ ltb less none → y ≡ ltb more none → less ≤ more → y ≡ true → x ≡ true
+pub kept : (x y : Bool) (less more none : ℕ) → x ≡ ltb less none → y ≡ ltb more none → less ≤ more → y ≡ true → x ≡ true
 kept x y less more none is_x is_y order some = grind (arith, nat_tests)
 
-either_kept : (x y a b : Bool) → (x ≡ true → a ≡ true) → (y ≡ true → b ≡ true) → (x || y) ≡ true → (a || b) ≡ true
+pub either_kept : (x y a b : Bool) → (x ≡ true → a ≡ true) → (y ≡ true → b ≡ true) → (x || y) ≡ true → (a || b) ≡ true
 either_kept true y a b left right h = rw (left refl) refl
 either_kept false y true b left right h = refl
 either_kept false y false b left right h = right h
@@ -104,14 +105,14 @@ all_alike _ _ none = refl
 all_alike _ _ (more is are) = omega (arith, counted_alike _ _ is, all_alike _ _ are)
 
 -- what the levels of values say that are at least as severe as others
-record AreOrdered (v w : Effective) : Type 0 where
-  eq1 : eq1_sum v.av v.pr v.ui ≤ eq1_sum w.av w.pr w.ui
-  eq2 : eq2_sum v.ac v.at ≤ eq2_sum w.ac w.at
-  eq3_eq6 : eq3_eq6_sum v.vc v.vi v.va v.cr v.ir v.ar ≤ eq3_eq6_sum w.vc w.vi w.va w.cr w.ir w.ar
-  eq4 : eq4_sum v.sc v.si v.sa ≤ eq4_sum w.sc w.si w.sa
-  impact : has_impact w ≡ true → has_impact v ≡ true
+pub record AreOrdered (v w : Effective) : Type 0 where
+  pub eq1 : eq1_sum v.av v.pr v.ui ≤ eq1_sum w.av w.pr w.ui
+  pub eq2 : eq2_sum v.ac v.at ≤ eq2_sum w.ac w.at
+  pub eq3_eq6 : eq3_eq6_sum v.vc v.vi v.va v.cr v.ir v.ar ≤ eq3_eq6_sum w.vc w.vi w.va w.cr w.ir w.ar
+  pub eq4 : eq4_sum v.sc v.si v.sa ≤ eq4_sum w.sc w.si w.sa
+  pub impact : has_impact w ≡ true → has_impact v ≡ true
 
-are_ordered : (v w : Effective) → IsAtMost (levels v) (levels w) → AreOrdered v w
+pub are_ordered : (v w : Effective) → IsAtMost (levels v) (levels w) → AreOrdered v w
 are_ordered v w (av, (pr, (ui, (ac, (at, (vc, (vi, (va, (sc, (si, (sa, (cr, (ir, (ar, _)))))))))))))) = record {
   eq1 = omega (arith, av, pr, ui);
   eq2 = omega (arith, ac, at);

@@ -1,15 +1,9 @@
 -- When effective values are at least as severe as others: CVSS v4.0 specification, section 8.2.
-use Rattle.std.specs.Prelude.{◌≡◌, ℕ, ◌≤◌, List, [], ◌∷◌}
+use Rattle.std.specs.Prelude.{◌≡◌, ℕ, List, [], ◌∷◌}
+use Rattle.cvss_score.specs.AtMost.{IsAtMost}
 use Rattle.cvss_score.specs.v4.Classes.{macro_vector}
 use Rattle.cvss_score.specs.v4.Levels.{attack_vector_level, privileges_level, interaction_level, complexity_level, requirements_level, vulnerable_level, subsequent_level, safety_level, requirement_level}
 use Rattle.cvss_score.specs.declared.v4.scoring.effective.Effective.{Effective}
-
--- as many levels, and none above that of the same place
-abbrev pub IsAtMost : List ℕ → List ℕ → Type 0
-IsAtMost [] [] = Unit {0}
-IsAtMost [] (other ∷ others) = ⊥
-IsAtMost (level ∷ rest) [] = ⊥
-IsAtMost (level ∷ rest) (other ∷ others) = (level ≤ other) × IsAtMost rest others
 
 -- the levels of effective values; E has none
 abbrev pub levels : Effective → List ℕ

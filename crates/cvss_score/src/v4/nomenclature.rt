@@ -1,9 +1,10 @@
 //! Which groups of metrics a score rests on (v4.0 specification, section 1.3).
 
-ghost use Rattle.std.specs.Prelude.{◌≡◌, ◌≤◌, length, IfOk, IfErr, Ok, Some};
+ghost use Rattle.std.specs.Prelude.{◌≡◌, ◌≤◌, length, IfOk, IfErr, Ok, Some, is_some};
 ghost use Rattle.cvss_score.specs.v4.Nomenclature.{text_of, nomenclature_with, ReportsNoNomenclature};
 
 use cvss_base::Error;
+use cvss_metric::v4::table::E;
 use std::alloc::Global;
 use std::fmt;
 
@@ -63,13 +64,13 @@ impl fmt::Display for Nomenclature {
     }
 }
 
-/// The groups that a score rests on where a vector has a threat metric or not, and environmental
-/// metrics or not. A metric that is present as not defined counts.
+/// The groups that a score rests on where a vector has this threat metric or none, and environmental
+/// metrics or none. A metric that is present as not defined counts.
 #[inline(always)]
-pub fn nomenclature_of_groups(has_threat: bool, has_environmental: bool) -> Nomenclature
-    ensures { result ≡ nomenclature_with has_threat has_environmental }
+pub fn nomenclature_of_groups(threat: Option<E>, has_environmental: bool) -> Nomenclature
+    ensures { result ≡ nomenclature_with (is_some threat) has_environmental }
 {
-    match (has_threat, has_environmental) {
+    match (threat.is_some(), has_environmental) {
         (false, false) => Nomenclature::CvssB,
         (false, true) => Nomenclature::CvssBE,
         (true, false) => Nomenclature::CvssBT,

@@ -1,14 +1,12 @@
--- Texts whose rows are made one after another; and the order of rows, which is one.
-use Rattle.std.proofs.Common.{◌≡◌, inl, inr, ℕ, ◌+◌, List, [], ◌∷◌, ◌++◌, below_more, string_bytes}
+-- Texts whose rows are made one after another.
+use Rattle.std.proofs.Common.{◌≡◌, inl, inr, ℕ, ◌+◌, List, [], ◌∷◌, ◌++◌, below_more}
 use Rattle.std.proofs.lemmas.Bool.{cases_order}
-use Rattle.std.proofs.lemmas.Cmp.{then_total, back_total, on_total, int_cmp_total, nat_list_cmp_total}
-use Rattle.std.specs.Cmp.{IsTotalOrder}
 use Rattle.cvss_base.specs.declared.v4.MetricType.{MetricType}
 use Rattle.cvss_base.specs.Refusal.{Refusal, piece_at, IsFirstRefusalAfter}
 use Rattle.cvss_vector.specs.declared.v4.vector.Vector.{Vector}
 use Rattle.cvss_vector.specs.v4.Vector.{v4}
 use Rattle.cvss_vector.specs.v4.TriageFaults.{HasNoRefusalBefore, IsFirstRefused}
-use Rattle.cvss_vector.specs.v4.Triage.{IsRow, AreRows, row_order}
+use Rattle.cvss_vector.specs.v4.Triage.{IsRow, AreRows}
 use Rattle.cvss_vector.specs.declared.v4.triage.row.Row.{Row}
 
 -- one row more
@@ -29,7 +27,3 @@ HasNoRefusalBefore-more texts place before none = record {
 pub first_place_same : (texts : List (List ℕ)) (p q : ℕ) (one other : Refusal MetricType) → IsFirstRefused texts p one → IsFirstRefused texts q other → p ≡ q
 first_place_same texts p q one other first second =
     elim (cases_order p q) [ inl same ↦ same | inr apart ↦ elim apart [ inl before ↦ absurd (second.earlier.none p one before first.is) | inr after ↦ absurd (first.earlier.none q other after second.is) ] ]
-
--- the order of rows
-pub row_order_total : IsTotalOrder row_order
-row_order_total = then_total (back_total (on_total (λ (row : Row). row.score) int_cmp_total)) (on_total (λ (row : Row). string_bytes row.text) nat_list_cmp_total)

@@ -1,11 +1,10 @@
 -- The rows of vectors that are scored with an organisation's own environmental metrics: CVSS v4.0
 -- specification, sections 4 and 8.2.
 use Rattle.std.specs.Prelude.{◌≡◌, ℕ, List, [], ◌∷◌, IsPermutation, IsSorted, string_bytes, ⊤}
-use Rattle.std.specs.Cmp.Lexicographic.{slice_cmp}
-use Rattle.std.specs.Ordering.{ordering_then, int_cmp, nat_cmp}
 use Rattle.std.specs.declared.cmp.Ordering.{Ordering}
 use Rattle.cvss_vector.specs.v4.Merging.{effective_of}
 use Rattle.cvss_vector.specs.v4.Overriding.{AreOverrides, IsOverridden}
+use Rattle.cvss_score.specs.Ranking.{rank_order}
 use Rattle.cvss_score.specs.v4.Scores.{IsScore}
 use Rattle.cvss_base.specs.Tenths.{IsInTenths, IsFromZeroToTen}
 use Rattle.cvss_vector.specs.declared.v4.vector.Vector.{Vector}
@@ -39,8 +38,7 @@ AreRows overrides (text ∷ texts) (row ∷ rows) = IsRow overrides text row × 
 
 -- the order of rows: a higher score first, and of one score by the bytes of the texts
 abbrev pub row_order : Row → Row → Ordering
-row_order row other =
-    ordering_then (int_cmp other.score row.score) (slice_cmp nat_cmp (string_bytes row.text) (string_bytes other.text))
+row_order = rank_order (λ row. row.score) (λ row. string_bytes row.text)
 
 -- the rows are one a text, with the overrides in place, in order
 pub record AreRanked (texts overrides : List (List ℕ)) (rows : List Row) : Type 0 where

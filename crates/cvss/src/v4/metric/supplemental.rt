@@ -4,9 +4,7 @@
 ghost use Rattle.std.specs.Prelude.{Some};
 ghost use Rattle.std.proofs.Common.{rules};
 ghost use Rattle.cvss_base.specs.declared.v4.MetricType.TheVariants as metric;
-ghost use Rattle.cvss.specs.declared.v4.metric.supplemental.VulnerabilityResponseEffort.TheVariants as of_re;
-ghost use Rattle.cvss.specs.declared.v4.metric.supplemental.ProviderUrgency.TheVariants as of_u;
-ghost use Rattle.cvss_metric.specs.v4.Table.{metric_component};
+ghost use Rattle.cvss.specs.SpellingsV4.{rank_of, value_component};
 
 mod consequence;
 
@@ -30,7 +28,7 @@ impl MetricValue for VulnerabilityResponseEffort {
 
     ghost KIND = { metric.RE };
 
-    ghost rank = { elim [ of_re.NotDefined ↦ 0 | of_re.Low ↦ 1 | of_re.Moderate ↦ 2 | of_re.High ↦ 3 ] };
+    ghost rank = { rank_of metric.RE };
 
     ghost within = { Prim.search rules };
 
@@ -50,9 +48,9 @@ impl MetricValue for VulnerabilityResponseEffort {
 }
 
 impl fmt::Display for VulnerabilityResponseEffort {
-    ghost output = { λ value. Some (metric_component metric.RE (⟦<VulnerabilityResponseEffort as MetricValue>⟧.rank value)) };
+    ghost output = { λ value. Some (value_component metric.RE value) };
 
-    ghost styled_output = { λ value _. Some (metric_component metric.RE (⟦<VulnerabilityResponseEffort as MetricValue>⟧.rank value)) };
+    ghost styled_output = { λ value _. Some (value_component metric.RE value) };
 
     fn fmt<W: fmt::Write>(&self, f: &mut fmt::Formatter<W>) -> fmt::Result {
         self.write(f)
@@ -80,7 +78,7 @@ impl MetricValue for ProviderUrgency {
 
     ghost KIND = { metric.U };
 
-    ghost rank = { elim [ of_u.NotDefined ↦ 0 | of_u.Red ↦ 1 | of_u.Amber ↦ 2 | of_u.Green ↦ 3 | of_u.Clear ↦ 4 ] };
+    ghost rank = { rank_of metric.U };
 
     ghost within = { Prim.search rules };
 
@@ -101,9 +99,9 @@ impl MetricValue for ProviderUrgency {
 }
 
 impl fmt::Display for ProviderUrgency {
-    ghost output = { λ value. Some (metric_component metric.U (⟦<ProviderUrgency as MetricValue>⟧.rank value)) };
+    ghost output = { λ value. Some (value_component metric.U value) };
 
-    ghost styled_output = { λ value _. Some (metric_component metric.U (⟦<ProviderUrgency as MetricValue>⟧.rank value)) };
+    ghost styled_output = { λ value _. Some (value_component metric.U value) };
 
     fn fmt<W: fmt::Write>(&self, f: &mut fmt::Formatter<W>) -> fmt::Result {
         self.write(f)

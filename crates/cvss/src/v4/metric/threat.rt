@@ -3,8 +3,7 @@
 ghost use Rattle.std.specs.Prelude.{Some};
 ghost use Rattle.std.proofs.Common.{rules};
 ghost use Rattle.cvss_base.specs.declared.v4.MetricType.TheVariants as metric;
-ghost use Rattle.cvss.specs.declared.v4.metric.threat.ExploitMaturity.TheVariants as of_e;
-ghost use Rattle.cvss_metric.specs.v4.Table.{metric_component};
+ghost use Rattle.cvss.specs.SpellingsV4.{rank_of, value_component};
 
 use crate::v4::metric::MetricEnum;
 use cvss_metric::v4::{MetricType, MetricValue};
@@ -25,7 +24,7 @@ impl MetricValue for ExploitMaturity {
 
     ghost KIND = { metric.E };
 
-    ghost rank = { elim [ of_e.NotDefined ↦ 0 | of_e.Unreported ↦ 1 | of_e.ProofOfConcept ↦ 2 | of_e.Attacked ↦ 3 ] };
+    ghost rank = { rank_of metric.E };
 
     ghost within = { Prim.search rules };
 
@@ -45,9 +44,9 @@ impl MetricValue for ExploitMaturity {
 }
 
 impl fmt::Display for ExploitMaturity {
-    ghost output = { λ value. Some (metric_component metric.E (⟦<ExploitMaturity as MetricValue>⟧.rank value)) };
+    ghost output = { λ value. Some (value_component metric.E value) };
 
-    ghost styled_output = { λ value _. Some (metric_component metric.E (⟦<ExploitMaturity as MetricValue>⟧.rank value)) };
+    ghost styled_output = { λ value _. Some (value_component metric.E value) };
 
     fn fmt<W: fmt::Write>(&self, f: &mut fmt::Formatter<W>) -> fmt::Result {
         self.write(f)

@@ -63,6 +63,8 @@ fn rounded(number: u32) -> u8
     ensures value { IsRoundedV4 (number over 504_000) (pos result) }
     ensures range { result ≤ 100 }
     ensures some { 1 ≤ result }
+    // 1.45, a tie, which goes up: as a binary number 8.6 - 7.15 is below it.
+    ensures tie { number ≡ 145 * 5_040 → result ≡ 15 }
 {
     ((number + TENTH / 2) / TENTH) as u8
 }

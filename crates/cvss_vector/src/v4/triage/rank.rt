@@ -9,7 +9,8 @@ ghost use Rattle.cvss_vector.specs.declared.v4.triage.error.TriageError.TheVaria
 
 use crate::v4::Vector;
 use crate::v4::triage::error::TriageError;
-use crate::v4::triage::row::{Row, sort};
+use crate::v4::triage::row::Row;
+use cvss_score::ranking::rank;
 use std::alloc::Global;
 
 /// The rows of vectors' texts, with an organisation's environmental metrics put in, in falling
@@ -37,7 +38,7 @@ pub fn apply(alloc: Global, texts: &[&str], overrides: &[&str]) -> Result<Vec<Ro
 {
     let overrides = Vector::from_overrides(alloc, overrides)?;
     let mut rows = rows_of(alloc, texts, &overrides)?;
-    sort(&mut rows);
+    rank(&mut rows);
     Ok(rows)
 }
 

@@ -1,13 +1,13 @@
 //! What triage says of one text.
 
-ghost use Rattle.std.specs.Prelude.{◌≡◌, IfOk, IsPermutation, IsSorted};
+ghost use Rattle.std.specs.Prelude.{◌≡◌, IfOk, string_bytes};
 ghost use Rattle.cvss_base.specs.Rating.{rating_of_score};
 ghost use Rattle.cvss_vector.specs.v4.Vector.{v4};
 ghost use Rattle.cvss_base.specs.Version.{IsComplete};
-ghost use Rattle.cvss_vector.specs.v4.Triage.{row_order};
 
 use crate::v4::{Nomenclature, Score, Vector};
 use cvss_base::Severity;
+use cvss_score::ranking::Ranked;
 use std::alloc::{AllocError, Global};
 
 /// A text, and what its vector is with the overrides in place.
@@ -44,16 +44,16 @@ impl Row {
     }
 }
 
-/// Puts rows into falling order of score, and those of one score into the order of their texts'
-/// bytes.
-pub(crate) fn sort(rows: &mut Vec<Row>)
-    ensures permutation { IsPermutation rows.old.items rows.new.items }
-    ensures sorted { IsSorted row_order rows.new.items }
-{
-    rows.sort_unstable_by(|row, other| {
-        other
-            .score
-            .cmp(&row.score)
-            .then_with(|| row.text.cmp(&other.text))
-    });
+impl Ranked for Row {
+    ghost score = { λ row. row.score };
+
+    ghost text = { λ row. string_bytes row.text };
+
+    fn score(&self) -> i128 {
+        self.score
+    }
+
+    fn text(&self) -> &[u8] {
+        self.text.as_bytes()
+    }
 }

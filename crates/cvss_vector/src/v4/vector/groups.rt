@@ -39,7 +39,7 @@ impl Vector {
     pub fn nomenclature(&self) -> Nomenclature
         ensures { result ≡ nomenclature_of self.now }
     {
-        nomenclature_of_groups(self.e.is_some(), self.has_environmental())
+        nomenclature_of_groups(self.e, self.has_environmental())
     }
 
     /// Whether the vector has an environmental metric.

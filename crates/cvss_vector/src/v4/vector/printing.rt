@@ -70,6 +70,8 @@ impl fmt::Display for Vector {
 
 // The text tells more than the places of the values.
 impl fmt::Debug for Vector {
+    ghost debug_output = { λ vector. Some (canonical_text v4 vector) };
+
     fn fmt<W: fmt::Write>(&self, f: &mut fmt::Formatter<W>) -> fmt::Result {
         write!(f, "{self}")
     }

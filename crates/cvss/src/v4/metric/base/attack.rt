@@ -4,12 +4,7 @@
 ghost use Rattle.std.specs.Prelude.{Some};
 ghost use Rattle.std.proofs.Common.{rules};
 ghost use Rattle.cvss_base.specs.declared.v4.MetricType.TheVariants as metric;
-ghost use Rattle.cvss.specs.declared.v4.metric.base.attack.AttackVector.TheVariants as of_av;
-ghost use Rattle.cvss.specs.declared.v4.metric.base.attack.AttackComplexity.TheVariants as of_ac;
-ghost use Rattle.cvss.specs.declared.v4.metric.base.attack.AttackRequirements.TheVariants as of_at;
-ghost use Rattle.cvss.specs.declared.v4.metric.base.attack.PrivilegesRequired.TheVariants as of_pr;
-ghost use Rattle.cvss.specs.declared.v4.metric.base.attack.UserInteraction.TheVariants as of_ui;
-ghost use Rattle.cvss_metric.specs.v4.Table.{metric_component};
+ghost use Rattle.cvss.specs.SpellingsV4.{rank_of, value_component};
 
 use crate::v4::metric::MetricEnum;
 use cvss_metric::v4::{MetricType, MetricValue};
@@ -30,7 +25,7 @@ impl MetricValue for AttackVector {
 
     ghost KIND = { metric.AV };
 
-    ghost rank = { elim [ of_av.Physical ↦ 0 | of_av.Local ↦ 1 | of_av.Adjacent ↦ 2 | of_av.Network ↦ 3 ] };
+    ghost rank = { rank_of metric.AV };
 
     ghost within = { Prim.search rules };
 
@@ -50,9 +45,9 @@ impl MetricValue for AttackVector {
 }
 
 impl fmt::Display for AttackVector {
-    ghost output = { λ value. Some (metric_component metric.AV (⟦<AttackVector as MetricValue>⟧.rank value)) };
+    ghost output = { λ value. Some (value_component metric.AV value) };
 
-    ghost styled_output = { λ value _. Some (metric_component metric.AV (⟦<AttackVector as MetricValue>⟧.rank value)) };
+    ghost styled_output = { λ value _. Some (value_component metric.AV value) };
 
     fn fmt<W: fmt::Write>(&self, f: &mut fmt::Formatter<W>) -> fmt::Result {
         self.write(f)
@@ -77,7 +72,7 @@ impl MetricValue for AttackComplexity {
 
     ghost KIND = { metric.AC };
 
-    ghost rank = { elim [ of_ac.High ↦ 0 | of_ac.Low ↦ 1 ] };
+    ghost rank = { rank_of metric.AC };
 
     ghost within = { Prim.search rules };
 
@@ -95,9 +90,9 @@ impl MetricValue for AttackComplexity {
 }
 
 impl fmt::Display for AttackComplexity {
-    ghost output = { λ value. Some (metric_component metric.AC (⟦<AttackComplexity as MetricValue>⟧.rank value)) };
+    ghost output = { λ value. Some (value_component metric.AC value) };
 
-    ghost styled_output = { λ value _. Some (metric_component metric.AC (⟦<AttackComplexity as MetricValue>⟧.rank value)) };
+    ghost styled_output = { λ value _. Some (value_component metric.AC value) };
 
     fn fmt<W: fmt::Write>(&self, f: &mut fmt::Formatter<W>) -> fmt::Result {
         self.write(f)
@@ -122,7 +117,7 @@ impl MetricValue for AttackRequirements {
 
     ghost KIND = { metric.AT };
 
-    ghost rank = { elim [ of_at.Present ↦ 0 | of_at.None ↦ 1 ] };
+    ghost rank = { rank_of metric.AT };
 
     ghost within = { Prim.search rules };
 
@@ -140,9 +135,9 @@ impl MetricValue for AttackRequirements {
 }
 
 impl fmt::Display for AttackRequirements {
-    ghost output = { λ value. Some (metric_component metric.AT (⟦<AttackRequirements as MetricValue>⟧.rank value)) };
+    ghost output = { λ value. Some (value_component metric.AT value) };
 
-    ghost styled_output = { λ value _. Some (metric_component metric.AT (⟦<AttackRequirements as MetricValue>⟧.rank value)) };
+    ghost styled_output = { λ value _. Some (value_component metric.AT value) };
 
     fn fmt<W: fmt::Write>(&self, f: &mut fmt::Formatter<W>) -> fmt::Result {
         self.write(f)
@@ -167,7 +162,7 @@ impl MetricValue for PrivilegesRequired {
 
     ghost KIND = { metric.PR };
 
-    ghost rank = { elim [ of_pr.High ↦ 0 | of_pr.Low ↦ 1 | of_pr.None ↦ 2 ] };
+    ghost rank = { rank_of metric.PR };
 
     ghost within = { Prim.search rules };
 
@@ -186,9 +181,9 @@ impl MetricValue for PrivilegesRequired {
 }
 
 impl fmt::Display for PrivilegesRequired {
-    ghost output = { λ value. Some (metric_component metric.PR (⟦<PrivilegesRequired as MetricValue>⟧.rank value)) };
+    ghost output = { λ value. Some (value_component metric.PR value) };
 
-    ghost styled_output = { λ value _. Some (metric_component metric.PR (⟦<PrivilegesRequired as MetricValue>⟧.rank value)) };
+    ghost styled_output = { λ value _. Some (value_component metric.PR value) };
 
     fn fmt<W: fmt::Write>(&self, f: &mut fmt::Formatter<W>) -> fmt::Result {
         self.write(f)
@@ -213,7 +208,7 @@ impl MetricValue for UserInteraction {
 
     ghost KIND = { metric.UI };
 
-    ghost rank = { elim [ of_ui.Active ↦ 0 | of_ui.Passive ↦ 1 | of_ui.None ↦ 2 ] };
+    ghost rank = { rank_of metric.UI };
 
     ghost within = { Prim.search rules };
 
@@ -232,9 +227,9 @@ impl MetricValue for UserInteraction {
 }
 
 impl fmt::Display for UserInteraction {
-    ghost output = { λ value. Some (metric_component metric.UI (⟦<UserInteraction as MetricValue>⟧.rank value)) };
+    ghost output = { λ value. Some (value_component metric.UI value) };
 
-    ghost styled_output = { λ value _. Some (metric_component metric.UI (⟦<UserInteraction as MetricValue>⟧.rank value)) };
+    ghost styled_output = { λ value _. Some (value_component metric.UI value) };
 
     fn fmt<W: fmt::Write>(&self, f: &mut fmt::Formatter<W>) -> fmt::Result {
         self.write(f)

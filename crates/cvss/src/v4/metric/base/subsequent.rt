@@ -3,10 +3,7 @@
 ghost use Rattle.std.specs.Prelude.{Some};
 ghost use Rattle.std.proofs.Common.{rules};
 ghost use Rattle.cvss_base.specs.declared.v4.MetricType.TheVariants as metric;
-ghost use Rattle.cvss.specs.declared.v4.metric.base.subsequent.ConfidentialityImpactToTheSubsequentSystem.TheVariants as of_sc;
-ghost use Rattle.cvss.specs.declared.v4.metric.base.subsequent.IntegrityImpactToTheSubsequentSystem.TheVariants as of_si;
-ghost use Rattle.cvss.specs.declared.v4.metric.base.subsequent.AvailabilityImpactToTheSubsequentSystem.TheVariants as of_sa;
-ghost use Rattle.cvss_metric.specs.v4.Table.{metric_component};
+ghost use Rattle.cvss.specs.SpellingsV4.{rank_of, value_component};
 
 use crate::v4::metric::MetricEnum;
 use cvss_metric::v4::{MetricType, MetricValue};
@@ -27,7 +24,7 @@ impl MetricValue for ConfidentialityImpactToTheSubsequentSystem {
 
     ghost KIND = { metric.SC };
 
-    ghost rank = { elim [ of_sc.None ↦ 0 | of_sc.Low ↦ 1 | of_sc.High ↦ 2 ] };
+    ghost rank = { rank_of metric.SC };
 
     ghost within = { Prim.search rules };
 
@@ -46,9 +43,9 @@ impl MetricValue for ConfidentialityImpactToTheSubsequentSystem {
 }
 
 impl fmt::Display for ConfidentialityImpactToTheSubsequentSystem {
-    ghost output = { λ value. Some (metric_component metric.SC (⟦<ConfidentialityImpactToTheSubsequentSystem as MetricValue>⟧.rank value)) };
+    ghost output = { λ value. Some (value_component metric.SC value) };
 
-    ghost styled_output = { λ value _. Some (metric_component metric.SC (⟦<ConfidentialityImpactToTheSubsequentSystem as MetricValue>⟧.rank value)) };
+    ghost styled_output = { λ value _. Some (value_component metric.SC value) };
 
     fn fmt<W: fmt::Write>(&self, f: &mut fmt::Formatter<W>) -> fmt::Result {
         self.write(f)
@@ -73,7 +70,7 @@ impl MetricValue for IntegrityImpactToTheSubsequentSystem {
 
     ghost KIND = { metric.SI };
 
-    ghost rank = { elim [ of_si.None ↦ 0 | of_si.Low ↦ 1 | of_si.High ↦ 2 ] };
+    ghost rank = { rank_of metric.SI };
 
     ghost within = { Prim.search rules };
 
@@ -92,9 +89,9 @@ impl MetricValue for IntegrityImpactToTheSubsequentSystem {
 }
 
 impl fmt::Display for IntegrityImpactToTheSubsequentSystem {
-    ghost output = { λ value. Some (metric_component metric.SI (⟦<IntegrityImpactToTheSubsequentSystem as MetricValue>⟧.rank value)) };
+    ghost output = { λ value. Some (value_component metric.SI value) };
 
-    ghost styled_output = { λ value _. Some (metric_component metric.SI (⟦<IntegrityImpactToTheSubsequentSystem as MetricValue>⟧.rank value)) };
+    ghost styled_output = { λ value _. Some (value_component metric.SI value) };
 
     fn fmt<W: fmt::Write>(&self, f: &mut fmt::Formatter<W>) -> fmt::Result {
         self.write(f)
@@ -120,7 +117,7 @@ impl MetricValue for AvailabilityImpactToTheSubsequentSystem {
 
     ghost KIND = { metric.SA };
 
-    ghost rank = { elim [ of_sa.None ↦ 0 | of_sa.Low ↦ 1 | of_sa.High ↦ 2 ] };
+    ghost rank = { rank_of metric.SA };
 
     ghost within = { Prim.search rules };
 
@@ -139,9 +136,9 @@ impl MetricValue for AvailabilityImpactToTheSubsequentSystem {
 }
 
 impl fmt::Display for AvailabilityImpactToTheSubsequentSystem {
-    ghost output = { λ value. Some (metric_component metric.SA (⟦<AvailabilityImpactToTheSubsequentSystem as MetricValue>⟧.rank value)) };
+    ghost output = { λ value. Some (value_component metric.SA value) };
 
-    ghost styled_output = { λ value _. Some (metric_component metric.SA (⟦<AvailabilityImpactToTheSubsequentSystem as MetricValue>⟧.rank value)) };
+    ghost styled_output = { λ value _. Some (value_component metric.SA value) };
 
     fn fmt<W: fmt::Write>(&self, f: &mut fmt::Formatter<W>) -> fmt::Result {
         self.write(f)

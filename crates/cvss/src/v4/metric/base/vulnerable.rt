@@ -3,10 +3,7 @@
 ghost use Rattle.std.specs.Prelude.{Some};
 ghost use Rattle.std.proofs.Common.{rules};
 ghost use Rattle.cvss_base.specs.declared.v4.MetricType.TheVariants as metric;
-ghost use Rattle.cvss.specs.declared.v4.metric.base.vulnerable.ConfidentialityImpactToTheVulnerableSystem.TheVariants as of_vc;
-ghost use Rattle.cvss.specs.declared.v4.metric.base.vulnerable.IntegrityImpactToTheVulnerableSystem.TheVariants as of_vi;
-ghost use Rattle.cvss.specs.declared.v4.metric.base.vulnerable.AvailabilityImpactToTheVulnerableSystem.TheVariants as of_va;
-ghost use Rattle.cvss_metric.specs.v4.Table.{metric_component};
+ghost use Rattle.cvss.specs.SpellingsV4.{rank_of, value_component};
 
 use crate::v4::metric::MetricEnum;
 use cvss_metric::v4::{MetricType, MetricValue};
@@ -26,7 +23,7 @@ impl MetricValue for ConfidentialityImpactToTheVulnerableSystem {
 
     ghost KIND = { metric.VC };
 
-    ghost rank = { elim [ of_vc.None ↦ 0 | of_vc.Low ↦ 1 | of_vc.High ↦ 2 ] };
+    ghost rank = { rank_of metric.VC };
 
     ghost within = { Prim.search rules };
 
@@ -45,9 +42,9 @@ impl MetricValue for ConfidentialityImpactToTheVulnerableSystem {
 }
 
 impl fmt::Display for ConfidentialityImpactToTheVulnerableSystem {
-    ghost output = { λ value. Some (metric_component metric.VC (⟦<ConfidentialityImpactToTheVulnerableSystem as MetricValue>⟧.rank value)) };
+    ghost output = { λ value. Some (value_component metric.VC value) };
 
-    ghost styled_output = { λ value _. Some (metric_component metric.VC (⟦<ConfidentialityImpactToTheVulnerableSystem as MetricValue>⟧.rank value)) };
+    ghost styled_output = { λ value _. Some (value_component metric.VC value) };
 
     fn fmt<W: fmt::Write>(&self, f: &mut fmt::Formatter<W>) -> fmt::Result {
         self.write(f)
@@ -72,7 +69,7 @@ impl MetricValue for IntegrityImpactToTheVulnerableSystem {
 
     ghost KIND = { metric.VI };
 
-    ghost rank = { elim [ of_vi.None ↦ 0 | of_vi.Low ↦ 1 | of_vi.High ↦ 2 ] };
+    ghost rank = { rank_of metric.VI };
 
     ghost within = { Prim.search rules };
 
@@ -91,9 +88,9 @@ impl MetricValue for IntegrityImpactToTheVulnerableSystem {
 }
 
 impl fmt::Display for IntegrityImpactToTheVulnerableSystem {
-    ghost output = { λ value. Some (metric_component metric.VI (⟦<IntegrityImpactToTheVulnerableSystem as MetricValue>⟧.rank value)) };
+    ghost output = { λ value. Some (value_component metric.VI value) };
 
-    ghost styled_output = { λ value _. Some (metric_component metric.VI (⟦<IntegrityImpactToTheVulnerableSystem as MetricValue>⟧.rank value)) };
+    ghost styled_output = { λ value _. Some (value_component metric.VI value) };
 
     fn fmt<W: fmt::Write>(&self, f: &mut fmt::Formatter<W>) -> fmt::Result {
         self.write(f)
@@ -118,7 +115,7 @@ impl MetricValue for AvailabilityImpactToTheVulnerableSystem {
 
     ghost KIND = { metric.VA };
 
-    ghost rank = { elim [ of_va.None ↦ 0 | of_va.Low ↦ 1 | of_va.High ↦ 2 ] };
+    ghost rank = { rank_of metric.VA };
 
     ghost within = { Prim.search rules };
 
@@ -137,9 +134,9 @@ impl MetricValue for AvailabilityImpactToTheVulnerableSystem {
 }
 
 impl fmt::Display for AvailabilityImpactToTheVulnerableSystem {
-    ghost output = { λ value. Some (metric_component metric.VA (⟦<AvailabilityImpactToTheVulnerableSystem as MetricValue>⟧.rank value)) };
+    ghost output = { λ value. Some (value_component metric.VA value) };
 
-    ghost styled_output = { λ value _. Some (metric_component metric.VA (⟦<AvailabilityImpactToTheVulnerableSystem as MetricValue>⟧.rank value)) };
+    ghost styled_output = { λ value _. Some (value_component metric.VA value) };
 
     fn fmt<W: fmt::Write>(&self, f: &mut fmt::Formatter<W>) -> fmt::Result {
         self.write(f)

@@ -4,12 +4,7 @@
 ghost use Rattle.std.specs.Prelude.{Some};
 ghost use Rattle.std.proofs.Common.{rules};
 ghost use Rattle.cvss_base.specs.declared.v4.MetricType.TheVariants as metric;
-ghost use Rattle.cvss.specs.declared.v4.metric.environmental.attack.ModifiedAttackVector.TheVariants as of_mav;
-ghost use Rattle.cvss.specs.declared.v4.metric.environmental.attack.ModifiedAttackComplexity.TheVariants as of_mac;
-ghost use Rattle.cvss.specs.declared.v4.metric.environmental.attack.ModifiedAttackRequirements.TheVariants as of_mat;
-ghost use Rattle.cvss.specs.declared.v4.metric.environmental.attack.ModifiedPrivilegesRequired.TheVariants as of_mpr;
-ghost use Rattle.cvss.specs.declared.v4.metric.environmental.attack.ModifiedUserInteraction.TheVariants as of_mui;
-ghost use Rattle.cvss_metric.specs.v4.Table.{metric_component};
+ghost use Rattle.cvss.specs.SpellingsV4.{rank_of, value_component};
 
 use crate::v4::metric::MetricEnum;
 use cvss_metric::v4::{MetricType, MetricValue};
@@ -31,7 +26,7 @@ impl MetricValue for ModifiedAttackVector {
 
     ghost KIND = { metric.MAV };
 
-    ghost rank = { elim [ of_mav.Physical ↦ 0 | of_mav.Local ↦ 1 | of_mav.Adjacent ↦ 2 | of_mav.Network ↦ 3 | of_mav.NotDefined ↦ 4 ] };
+    ghost rank = { rank_of metric.MAV };
 
     ghost within = { Prim.search rules };
 
@@ -52,9 +47,9 @@ impl MetricValue for ModifiedAttackVector {
 }
 
 impl fmt::Display for ModifiedAttackVector {
-    ghost output = { λ value. Some (metric_component metric.MAV (⟦<ModifiedAttackVector as MetricValue>⟧.rank value)) };
+    ghost output = { λ value. Some (value_component metric.MAV value) };
 
-    ghost styled_output = { λ value _. Some (metric_component metric.MAV (⟦<ModifiedAttackVector as MetricValue>⟧.rank value)) };
+    ghost styled_output = { λ value _. Some (value_component metric.MAV value) };
 
     fn fmt<W: fmt::Write>(&self, f: &mut fmt::Formatter<W>) -> fmt::Result {
         self.write(f)
@@ -79,7 +74,7 @@ impl MetricValue for ModifiedAttackComplexity {
 
     ghost KIND = { metric.MAC };
 
-    ghost rank = { elim [ of_mac.NotDefined ↦ 0 | of_mac.High ↦ 1 | of_mac.Low ↦ 2 ] };
+    ghost rank = { rank_of metric.MAC };
 
     ghost within = { Prim.search rules };
 
@@ -98,9 +93,9 @@ impl MetricValue for ModifiedAttackComplexity {
 }
 
 impl fmt::Display for ModifiedAttackComplexity {
-    ghost output = { λ value. Some (metric_component metric.MAC (⟦<ModifiedAttackComplexity as MetricValue>⟧.rank value)) };
+    ghost output = { λ value. Some (value_component metric.MAC value) };
 
-    ghost styled_output = { λ value _. Some (metric_component metric.MAC (⟦<ModifiedAttackComplexity as MetricValue>⟧.rank value)) };
+    ghost styled_output = { λ value _. Some (value_component metric.MAC value) };
 
     fn fmt<W: fmt::Write>(&self, f: &mut fmt::Formatter<W>) -> fmt::Result {
         self.write(f)
@@ -125,7 +120,7 @@ impl MetricValue for ModifiedAttackRequirements {
 
     ghost KIND = { metric.MAT };
 
-    ghost rank = { elim [ of_mat.NotDefined ↦ 0 | of_mat.Present ↦ 1 | of_mat.None ↦ 2 ] };
+    ghost rank = { rank_of metric.MAT };
 
     ghost within = { Prim.search rules };
 
@@ -144,9 +139,9 @@ impl MetricValue for ModifiedAttackRequirements {
 }
 
 impl fmt::Display for ModifiedAttackRequirements {
-    ghost output = { λ value. Some (metric_component metric.MAT (⟦<ModifiedAttackRequirements as MetricValue>⟧.rank value)) };
+    ghost output = { λ value. Some (value_component metric.MAT value) };
 
-    ghost styled_output = { λ value _. Some (metric_component metric.MAT (⟦<ModifiedAttackRequirements as MetricValue>⟧.rank value)) };
+    ghost styled_output = { λ value _. Some (value_component metric.MAT value) };
 
     fn fmt<W: fmt::Write>(&self, f: &mut fmt::Formatter<W>) -> fmt::Result {
         self.write(f)
@@ -172,7 +167,7 @@ impl MetricValue for ModifiedPrivilegesRequired {
 
     ghost KIND = { metric.MPR };
 
-    ghost rank = { elim [ of_mpr.NotDefined ↦ 0 | of_mpr.High ↦ 1 | of_mpr.Low ↦ 2 | of_mpr.None ↦ 3 ] };
+    ghost rank = { rank_of metric.MPR };
 
     ghost within = { Prim.search rules };
 
@@ -192,9 +187,9 @@ impl MetricValue for ModifiedPrivilegesRequired {
 }
 
 impl fmt::Display for ModifiedPrivilegesRequired {
-    ghost output = { λ value. Some (metric_component metric.MPR (⟦<ModifiedPrivilegesRequired as MetricValue>⟧.rank value)) };
+    ghost output = { λ value. Some (value_component metric.MPR value) };
 
-    ghost styled_output = { λ value _. Some (metric_component metric.MPR (⟦<ModifiedPrivilegesRequired as MetricValue>⟧.rank value)) };
+    ghost styled_output = { λ value _. Some (value_component metric.MPR value) };
 
     fn fmt<W: fmt::Write>(&self, f: &mut fmt::Formatter<W>) -> fmt::Result {
         self.write(f)
@@ -220,7 +215,7 @@ impl MetricValue for ModifiedUserInteraction {
 
     ghost KIND = { metric.MUI };
 
-    ghost rank = { elim [ of_mui.NotDefined ↦ 0 | of_mui.Active ↦ 1 | of_mui.Passive ↦ 2 | of_mui.None ↦ 3 ] };
+    ghost rank = { rank_of metric.MUI };
 
     ghost within = { Prim.search rules };
 
@@ -240,9 +235,9 @@ impl MetricValue for ModifiedUserInteraction {
 }
 
 impl fmt::Display for ModifiedUserInteraction {
-    ghost output = { λ value. Some (metric_component metric.MUI (⟦<ModifiedUserInteraction as MetricValue>⟧.rank value)) };
+    ghost output = { λ value. Some (value_component metric.MUI value) };
 
-    ghost styled_output = { λ value _. Some (metric_component metric.MUI (⟦<ModifiedUserInteraction as MetricValue>⟧.rank value)) };
+    ghost styled_output = { λ value _. Some (value_component metric.MUI value) };
 
     fn fmt<W: fmt::Write>(&self, f: &mut fmt::Formatter<W>) -> fmt::Result {
         self.write(f)

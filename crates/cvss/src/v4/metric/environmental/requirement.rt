@@ -4,10 +4,7 @@
 ghost use Rattle.std.specs.Prelude.{Some};
 ghost use Rattle.std.proofs.Common.{rules};
 ghost use Rattle.cvss_base.specs.declared.v4.MetricType.TheVariants as metric;
-ghost use Rattle.cvss.specs.declared.v4.metric.environmental.requirement.ConfidentialityRequirements.TheVariants as of_cr;
-ghost use Rattle.cvss.specs.declared.v4.metric.environmental.requirement.IntegrityRequirements.TheVariants as of_ir;
-ghost use Rattle.cvss.specs.declared.v4.metric.environmental.requirement.AvailabilityRequirements.TheVariants as of_ar;
-ghost use Rattle.cvss_metric.specs.v4.Table.{metric_component};
+ghost use Rattle.cvss.specs.SpellingsV4.{rank_of, value_component};
 
 use crate::v4::metric::MetricEnum;
 use cvss_metric::v4::{MetricType, MetricValue};
@@ -28,7 +25,7 @@ impl MetricValue for ConfidentialityRequirements {
 
     ghost KIND = { metric.CR };
 
-    ghost rank = { elim [ of_cr.NotDefined ↦ 0 | of_cr.Low ↦ 1 | of_cr.Medium ↦ 2 | of_cr.High ↦ 3 ] };
+    ghost rank = { rank_of metric.CR };
 
     ghost within = { Prim.search rules };
 
@@ -48,9 +45,9 @@ impl MetricValue for ConfidentialityRequirements {
 }
 
 impl fmt::Display for ConfidentialityRequirements {
-    ghost output = { λ value. Some (metric_component metric.CR (⟦<ConfidentialityRequirements as MetricValue>⟧.rank value)) };
+    ghost output = { λ value. Some (value_component metric.CR value) };
 
-    ghost styled_output = { λ value _. Some (metric_component metric.CR (⟦<ConfidentialityRequirements as MetricValue>⟧.rank value)) };
+    ghost styled_output = { λ value _. Some (value_component metric.CR value) };
 
     fn fmt<W: fmt::Write>(&self, f: &mut fmt::Formatter<W>) -> fmt::Result {
         self.write(f)
@@ -76,7 +73,7 @@ impl MetricValue for IntegrityRequirements {
 
     ghost KIND = { metric.IR };
 
-    ghost rank = { elim [ of_ir.NotDefined ↦ 0 | of_ir.Low ↦ 1 | of_ir.Medium ↦ 2 | of_ir.High ↦ 3 ] };
+    ghost rank = { rank_of metric.IR };
 
     ghost within = { Prim.search rules };
 
@@ -96,9 +93,9 @@ impl MetricValue for IntegrityRequirements {
 }
 
 impl fmt::Display for IntegrityRequirements {
-    ghost output = { λ value. Some (metric_component metric.IR (⟦<IntegrityRequirements as MetricValue>⟧.rank value)) };
+    ghost output = { λ value. Some (value_component metric.IR value) };
 
-    ghost styled_output = { λ value _. Some (metric_component metric.IR (⟦<IntegrityRequirements as MetricValue>⟧.rank value)) };
+    ghost styled_output = { λ value _. Some (value_component metric.IR value) };
 
     fn fmt<W: fmt::Write>(&self, f: &mut fmt::Formatter<W>) -> fmt::Result {
         self.write(f)
@@ -124,7 +121,7 @@ impl MetricValue for AvailabilityRequirements {
 
     ghost KIND = { metric.AR };
 
-    ghost rank = { elim [ of_ar.NotDefined ↦ 0 | of_ar.Low ↦ 1 | of_ar.Medium ↦ 2 | of_ar.High ↦ 3 ] };
+    ghost rank = { rank_of metric.AR };
 
     ghost within = { Prim.search rules };
 
@@ -144,9 +141,9 @@ impl MetricValue for AvailabilityRequirements {
 }
 
 impl fmt::Display for AvailabilityRequirements {
-    ghost output = { λ value. Some (metric_component metric.AR (⟦<AvailabilityRequirements as MetricValue>⟧.rank value)) };
+    ghost output = { λ value. Some (value_component metric.AR value) };
 
-    ghost styled_output = { λ value _. Some (metric_component metric.AR (⟦<AvailabilityRequirements as MetricValue>⟧.rank value)) };
+    ghost styled_output = { λ value _. Some (value_component metric.AR value) };
 
     fn fmt<W: fmt::Write>(&self, f: &mut fmt::Formatter<W>) -> fmt::Result {
         self.write(f)

@@ -4,10 +4,7 @@
 ghost use Rattle.std.specs.Prelude.{Some};
 ghost use Rattle.std.proofs.Common.{rules};
 ghost use Rattle.cvss_base.specs.declared.v4.MetricType.TheVariants as metric;
-ghost use Rattle.cvss.specs.declared.v4.metric.environmental.subsequent.ModifiedConfidentialityImpactToTheSubsequentSystem.TheVariants as of_msc;
-ghost use Rattle.cvss.specs.declared.v4.metric.environmental.subsequent.ModifiedIntegrityImpactToTheSubsequentSystem.TheVariants as of_msi;
-ghost use Rattle.cvss.specs.declared.v4.metric.environmental.subsequent.ModifiedAvailabilityImpactToTheSubsequentSystem.TheVariants as of_msa;
-ghost use Rattle.cvss_metric.specs.v4.Table.{metric_component};
+ghost use Rattle.cvss.specs.SpellingsV4.{rank_of, value_component};
 
 use crate::v4::metric::MetricEnum;
 use cvss_metric::v4::{MetricType, MetricValue};
@@ -29,7 +26,7 @@ impl MetricValue for ModifiedConfidentialityImpactToTheSubsequentSystem {
 
     ghost KIND = { metric.MSC };
 
-    ghost rank = { elim [ of_msc.NotDefined ↦ 0 | of_msc.Negligible ↦ 1 | of_msc.Low ↦ 2 | of_msc.High ↦ 3 ] };
+    ghost rank = { rank_of metric.MSC };
 
     ghost within = { Prim.search rules };
 
@@ -49,9 +46,9 @@ impl MetricValue for ModifiedConfidentialityImpactToTheSubsequentSystem {
 }
 
 impl fmt::Display for ModifiedConfidentialityImpactToTheSubsequentSystem {
-    ghost output = { λ value. Some (metric_component metric.MSC (⟦<ModifiedConfidentialityImpactToTheSubsequentSystem as MetricValue>⟧.rank value)) };
+    ghost output = { λ value. Some (value_component metric.MSC value) };
 
-    ghost styled_output = { λ value _. Some (metric_component metric.MSC (⟦<ModifiedConfidentialityImpactToTheSubsequentSystem as MetricValue>⟧.rank value)) };
+    ghost styled_output = { λ value _. Some (value_component metric.MSC value) };
 
     fn fmt<W: fmt::Write>(&self, f: &mut fmt::Formatter<W>) -> fmt::Result {
         self.write(f)
@@ -79,7 +76,7 @@ impl MetricValue for ModifiedIntegrityImpactToTheSubsequentSystem {
 
     ghost KIND = { metric.MSI };
 
-    ghost rank = { elim [ of_msi.NotDefined ↦ 0 | of_msi.Negligible ↦ 1 | of_msi.Low ↦ 2 | of_msi.High ↦ 3 | of_msi.Safety ↦ 4 ] };
+    ghost rank = { rank_of metric.MSI };
 
     ghost within = { Prim.search rules };
 
@@ -100,9 +97,9 @@ impl MetricValue for ModifiedIntegrityImpactToTheSubsequentSystem {
 }
 
 impl fmt::Display for ModifiedIntegrityImpactToTheSubsequentSystem {
-    ghost output = { λ value. Some (metric_component metric.MSI (⟦<ModifiedIntegrityImpactToTheSubsequentSystem as MetricValue>⟧.rank value)) };
+    ghost output = { λ value. Some (value_component metric.MSI value) };
 
-    ghost styled_output = { λ value _. Some (metric_component metric.MSI (⟦<ModifiedIntegrityImpactToTheSubsequentSystem as MetricValue>⟧.rank value)) };
+    ghost styled_output = { λ value _. Some (value_component metric.MSI value) };
 
     fn fmt<W: fmt::Write>(&self, f: &mut fmt::Formatter<W>) -> fmt::Result {
         self.write(f)
@@ -130,7 +127,7 @@ impl MetricValue for ModifiedAvailabilityImpactToTheSubsequentSystem {
 
     ghost KIND = { metric.MSA };
 
-    ghost rank = { elim [ of_msa.NotDefined ↦ 0 | of_msa.Negligible ↦ 1 | of_msa.Low ↦ 2 | of_msa.High ↦ 3 | of_msa.Safety ↦ 4 ] };
+    ghost rank = { rank_of metric.MSA };
 
     ghost within = { Prim.search rules };
 
@@ -151,9 +148,9 @@ impl MetricValue for ModifiedAvailabilityImpactToTheSubsequentSystem {
 }
 
 impl fmt::Display for ModifiedAvailabilityImpactToTheSubsequentSystem {
-    ghost output = { λ value. Some (metric_component metric.MSA (⟦<ModifiedAvailabilityImpactToTheSubsequentSystem as MetricValue>⟧.rank value)) };
+    ghost output = { λ value. Some (value_component metric.MSA value) };
 
-    ghost styled_output = { λ value _. Some (metric_component metric.MSA (⟦<ModifiedAvailabilityImpactToTheSubsequentSystem as MetricValue>⟧.rank value)) };
+    ghost styled_output = { λ value _. Some (value_component metric.MSA value) };
 
     fn fmt<W: fmt::Write>(&self, f: &mut fmt::Formatter<W>) -> fmt::Result {
         self.write(f)

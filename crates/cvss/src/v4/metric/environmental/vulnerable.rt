@@ -4,10 +4,7 @@
 ghost use Rattle.std.specs.Prelude.{Some};
 ghost use Rattle.std.proofs.Common.{rules};
 ghost use Rattle.cvss_base.specs.declared.v4.MetricType.TheVariants as metric;
-ghost use Rattle.cvss.specs.declared.v4.metric.environmental.vulnerable.ModifiedConfidentialityImpactToTheVulnerableSystem.TheVariants as of_mvc;
-ghost use Rattle.cvss.specs.declared.v4.metric.environmental.vulnerable.ModifiedIntegrityImpactToTheVulnerableSystem.TheVariants as of_mvi;
-ghost use Rattle.cvss.specs.declared.v4.metric.environmental.vulnerable.ModifiedAvailabilityImpactToTheVulnerableSystem.TheVariants as of_mva;
-ghost use Rattle.cvss_metric.specs.v4.Table.{metric_component};
+ghost use Rattle.cvss.specs.SpellingsV4.{rank_of, value_component};
 
 use crate::v4::metric::MetricEnum;
 use cvss_metric::v4::{MetricType, MetricValue};
@@ -29,7 +26,7 @@ impl MetricValue for ModifiedConfidentialityImpactToTheVulnerableSystem {
 
     ghost KIND = { metric.MVC };
 
-    ghost rank = { elim [ of_mvc.NotDefined ↦ 0 | of_mvc.None ↦ 1 | of_mvc.Low ↦ 2 | of_mvc.High ↦ 3 ] };
+    ghost rank = { rank_of metric.MVC };
 
     ghost within = { Prim.search rules };
 
@@ -49,9 +46,9 @@ impl MetricValue for ModifiedConfidentialityImpactToTheVulnerableSystem {
 }
 
 impl fmt::Display for ModifiedConfidentialityImpactToTheVulnerableSystem {
-    ghost output = { λ value. Some (metric_component metric.MVC (⟦<ModifiedConfidentialityImpactToTheVulnerableSystem as MetricValue>⟧.rank value)) };
+    ghost output = { λ value. Some (value_component metric.MVC value) };
 
-    ghost styled_output = { λ value _. Some (metric_component metric.MVC (⟦<ModifiedConfidentialityImpactToTheVulnerableSystem as MetricValue>⟧.rank value)) };
+    ghost styled_output = { λ value _. Some (value_component metric.MVC value) };
 
     fn fmt<W: fmt::Write>(&self, f: &mut fmt::Formatter<W>) -> fmt::Result {
         self.write(f)
@@ -78,7 +75,7 @@ impl MetricValue for ModifiedIntegrityImpactToTheVulnerableSystem {
 
     ghost KIND = { metric.MVI };
 
-    ghost rank = { elim [ of_mvi.NotDefined ↦ 0 | of_mvi.None ↦ 1 | of_mvi.Low ↦ 2 | of_mvi.High ↦ 3 ] };
+    ghost rank = { rank_of metric.MVI };
 
     ghost within = { Prim.search rules };
 
@@ -98,9 +95,9 @@ impl MetricValue for ModifiedIntegrityImpactToTheVulnerableSystem {
 }
 
 impl fmt::Display for ModifiedIntegrityImpactToTheVulnerableSystem {
-    ghost output = { λ value. Some (metric_component metric.MVI (⟦<ModifiedIntegrityImpactToTheVulnerableSystem as MetricValue>⟧.rank value)) };
+    ghost output = { λ value. Some (value_component metric.MVI value) };
 
-    ghost styled_output = { λ value _. Some (metric_component metric.MVI (⟦<ModifiedIntegrityImpactToTheVulnerableSystem as MetricValue>⟧.rank value)) };
+    ghost styled_output = { λ value _. Some (value_component metric.MVI value) };
 
     fn fmt<W: fmt::Write>(&self, f: &mut fmt::Formatter<W>) -> fmt::Result {
         self.write(f)
@@ -127,7 +124,7 @@ impl MetricValue for ModifiedAvailabilityImpactToTheVulnerableSystem {
 
     ghost KIND = { metric.MVA };
 
-    ghost rank = { elim [ of_mva.NotDefined ↦ 0 | of_mva.None ↦ 1 | of_mva.Low ↦ 2 | of_mva.High ↦ 3 ] };
+    ghost rank = { rank_of metric.MVA };
 
     ghost within = { Prim.search rules };
 
@@ -147,9 +144,9 @@ impl MetricValue for ModifiedAvailabilityImpactToTheVulnerableSystem {
 }
 
 impl fmt::Display for ModifiedAvailabilityImpactToTheVulnerableSystem {
-    ghost output = { λ value. Some (metric_component metric.MVA (⟦<ModifiedAvailabilityImpactToTheVulnerableSystem as MetricValue>⟧.rank value)) };
+    ghost output = { λ value. Some (value_component metric.MVA value) };
 
-    ghost styled_output = { λ value _. Some (metric_component metric.MVA (⟦<ModifiedAvailabilityImpactToTheVulnerableSystem as MetricValue>⟧.rank value)) };
+    ghost styled_output = { λ value _. Some (value_component metric.MVA value) };
 
     fn fmt<W: fmt::Write>(&self, f: &mut fmt::Formatter<W>) -> fmt::Result {
         self.write(f)

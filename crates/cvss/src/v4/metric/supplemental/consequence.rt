@@ -4,11 +4,7 @@
 ghost use Rattle.std.specs.Prelude.{Some};
 ghost use Rattle.std.proofs.Common.{rules};
 ghost use Rattle.cvss_base.specs.declared.v4.MetricType.TheVariants as metric;
-ghost use Rattle.cvss.specs.declared.v4.metric.supplemental.consequence.Safety.TheVariants as of_s;
-ghost use Rattle.cvss.specs.declared.v4.metric.supplemental.consequence.Recovery.TheVariants as of_r;
-ghost use Rattle.cvss.specs.declared.v4.metric.supplemental.consequence.Automatable.TheVariants as of_au;
-ghost use Rattle.cvss.specs.declared.v4.metric.supplemental.consequence.ValueDensity.TheVariants as of_v;
-ghost use Rattle.cvss_metric.specs.v4.Table.{metric_component};
+ghost use Rattle.cvss.specs.SpellingsV4.{rank_of, value_component};
 
 use crate::v4::metric::MetricEnum;
 use cvss_metric::v4::{MetricType, MetricValue};
@@ -28,7 +24,7 @@ impl MetricValue for Safety {
 
     ghost KIND = { metric.S };
 
-    ghost rank = { elim [ of_s.NotDefined ↦ 0 | of_s.Present ↦ 1 | of_s.Negligible ↦ 2 ] };
+    ghost rank = { rank_of metric.S };
 
     ghost within = { Prim.search rules };
 
@@ -47,9 +43,9 @@ impl MetricValue for Safety {
 }
 
 impl fmt::Display for Safety {
-    ghost output = { λ value. Some (metric_component metric.S (⟦<Safety as MetricValue>⟧.rank value)) };
+    ghost output = { λ value. Some (value_component metric.S value) };
 
-    ghost styled_output = { λ value _. Some (metric_component metric.S (⟦<Safety as MetricValue>⟧.rank value)) };
+    ghost styled_output = { λ value _. Some (value_component metric.S value) };
 
     fn fmt<W: fmt::Write>(&self, f: &mut fmt::Formatter<W>) -> fmt::Result {
         self.write(f)
@@ -75,7 +71,7 @@ impl MetricValue for Recovery {
 
     ghost KIND = { metric.R };
 
-    ghost rank = { elim [ of_r.NotDefined ↦ 0 | of_r.Automatic ↦ 1 | of_r.User ↦ 2 | of_r.Irrecoverable ↦ 3 ] };
+    ghost rank = { rank_of metric.R };
 
     ghost within = { Prim.search rules };
 
@@ -95,9 +91,9 @@ impl MetricValue for Recovery {
 }
 
 impl fmt::Display for Recovery {
-    ghost output = { λ value. Some (metric_component metric.R (⟦<Recovery as MetricValue>⟧.rank value)) };
+    ghost output = { λ value. Some (value_component metric.R value) };
 
-    ghost styled_output = { λ value _. Some (metric_component metric.R (⟦<Recovery as MetricValue>⟧.rank value)) };
+    ghost styled_output = { λ value _. Some (value_component metric.R value) };
 
     fn fmt<W: fmt::Write>(&self, f: &mut fmt::Formatter<W>) -> fmt::Result {
         self.write(f)
@@ -122,7 +118,7 @@ impl MetricValue for Automatable {
 
     ghost KIND = { metric.AU };
 
-    ghost rank = { elim [ of_au.NotDefined ↦ 0 | of_au.Yes ↦ 1 | of_au.No ↦ 2 ] };
+    ghost rank = { rank_of metric.AU };
 
     ghost within = { Prim.search rules };
 
@@ -141,9 +137,9 @@ impl MetricValue for Automatable {
 }
 
 impl fmt::Display for Automatable {
-    ghost output = { λ value. Some (metric_component metric.AU (⟦<Automatable as MetricValue>⟧.rank value)) };
+    ghost output = { λ value. Some (value_component metric.AU value) };
 
-    ghost styled_output = { λ value _. Some (metric_component metric.AU (⟦<Automatable as MetricValue>⟧.rank value)) };
+    ghost styled_output = { λ value _. Some (value_component metric.AU value) };
 
     fn fmt<W: fmt::Write>(&self, f: &mut fmt::Formatter<W>) -> fmt::Result {
         self.write(f)
@@ -168,7 +164,7 @@ impl MetricValue for ValueDensity {
 
     ghost KIND = { metric.V };
 
-    ghost rank = { elim [ of_v.NotDefined ↦ 0 | of_v.Diffuse ↦ 1 | of_v.Concentrated ↦ 2 ] };
+    ghost rank = { rank_of metric.V };
 
     ghost within = { Prim.search rules };
 
@@ -187,9 +183,9 @@ impl MetricValue for ValueDensity {
 }
 
 impl fmt::Display for ValueDensity {
-    ghost output = { λ value. Some (metric_component metric.V (⟦<ValueDensity as MetricValue>⟧.rank value)) };
+    ghost output = { λ value. Some (value_component metric.V value) };
 
-    ghost styled_output = { λ value _. Some (metric_component metric.V (⟦<ValueDensity as MetricValue>⟧.rank value)) };
+    ghost styled_output = { λ value _. Some (value_component metric.V value) };
 
     fn fmt<W: fmt::Write>(&self, f: &mut fmt::Formatter<W>) -> fmt::Result {
         self.write(f)

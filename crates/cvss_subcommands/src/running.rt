@@ -1,0 +1,211 @@
+//! A run of the command: what it does, what it reports, and its exit status.
+
+ghost use Rattle.std.specs.Prelude.{◌≡◌, ◌↔◌, ◌++◌, IsTrue, MatchResult, codes};
+ghost use Rattle.cvss_program.specs.Reports.{Reports, reported};
+ghost use Rattle.cvss_subcommands.specs.Done.{help_of};
+ghost use Rattle.cvss_subcommands.specs.Ending.{EndsBefore, EndsCommand, EndsServed, IsClosed, ReportsHint, ReportsNote, ReportsStop, ReportsWrite, fault_report, is_audit, is_silent, wrong_text};
+
+use crate::command::{last, run_command};
+use crate::help::{
+    AUDIT_USAGE, EXPLAIN_USAGE, FIND_USAGE, SCORE_USAGE, SET_USAGE, TRIAGE_USAGE, USAGE, VERSION,
+};
+use crate::hint::first_hint;
+use crate::subcommand::Subcommand;
+use cvss_lines::RunFault;
+use cvss_program::{
+    Files, Report, Served, WatchedReader, WatchedWriter, exit_status, report_error,
+};
+use std::alloc::{AllocError, Global};
+use std::io::{self, ErrorKind, Read, Write};
+
+/// Does what the arguments ask for, where there is memory for them, and reports what is to be said of it.
+/// The result is the exit status.
+pub fn run<F: Files, R: Read, W: Write, E: Write>(
+    alloc: Global,
+    arguments: Result<Vec<Vec<u8>>, AllocError>,
+    files: &F,
+    reader: &mut WatchedReader<R>,
+    writer: &mut WatchedWriter<W>,
+    report: &mut Report<E>,
+) -> u8
+    ensures { MatchResult arguments
+        (λ arguments. EndsCommand
+        (help_of USAGE.now SCORE_USAGE.now FIND_USAGE.now EXPLAIN_USAGE.now SET_USAGE.now TRIAGE_USAGE.now AUDIT_USAGE.now)
+        VERSION.now arguments.items (F.contents files.now)
+        (R.remaining reader.old.reader) (R.remaining reader.new.reader)
+        (W.contents writer.old.writer) (W.contents writer.new.writer)
+        writer.new.has_taken writer.new.error
+        (reported E.contents report.old) (reported E.contents report.new) result)
+        (λ _. EndsBefore (R.remaining reader.old.reader) (R.remaining reader.new.reader)
+        (W.contents writer.old.writer) (W.contents writer.new.writer)
+        (reported E.contents report.old) (reported E.contents report.new) result) }
+{
+    match arguments {
+        Ok(arguments) => run_with(alloc, &arguments, files, reader, writer, report),
+        Err(_) => {
+            report_fault(RunFault::Memory, report);
+            2
+        }
+    }
+}
+
+/// Does what the arguments ask for.
+fn run_with<F: Files, R: Read, W: Write, E: Write>(
+    alloc: Global,
+    arguments: &[Vec<u8>],
+    files: &F,
+    reader: &mut WatchedReader<R>,
+    writer: &mut WatchedWriter<W>,
+    report: &mut Report<E>,
+) -> u8
+    ensures { EndsCommand
+        (help_of USAGE.now SCORE_USAGE.now FIND_USAGE.now EXPLAIN_USAGE.now SET_USAGE.now TRIAGE_USAGE.now AUDIT_USAGE.now)
+        VERSION.now arguments.now (F.contents files.now)
+        (R.remaining reader.old.reader) (R.remaining reader.new.reader)
+        (W.contents writer.old.writer) (W.contents writer.new.writer)
+        writer.new.has_taken writer.new.error
+        (reported E.contents report.old) (reported E.contents report.new) result }
+{
+    match run_command(alloc, arguments, files, reader, writer, report) {
+        Ok(served) => end(arguments, writer.has_taken, writer.error, served, report),
+        Err(left) => {
+            report_wrong(last(arguments, left), report);
+            2
+        }
+    }
+}
+
+/// The exit status of a command that has served what it was asked for, and what is reported then.
+fn end<E: Write>(
+    arguments: &[Vec<u8>],
+    has_taken: bool,
+    error: Option<io::Error>,
+    served: Served,
+    report: &mut Report<E>,
+) -> u8
+    ensures { EndsServed arguments.now has_taken error served
+        (reported E.contents report.old) (reported E.contents report.new) result }
+{
+    report_hint(served.rejected, arguments, report);
+    report_stop(served.stopped, error, report);
+    let status = exit_status(served, is_closed(error));
+    report_note(
+        is_audit(arguments) && is_silent(status, has_taken, error),
+        report,
+    );
+    status
+}
+
+/// Reports the hint for the arguments, where a line is rejected and there is one.
+fn report_hint<E: Write>(rejected: bool, arguments: &[Vec<u8>], report: &mut Report<E>)
+    ensures { ReportsHint rejected arguments.now
+        (reported E.contents report.old) (reported E.contents report.new) }
+{
+    if rejected && let Some(hint) = first_hint(arguments) {
+        report.write(hint.text().as_bytes());
+    }
+}
+
+/// Reports why no more was answered.
+fn report_stop<E: Write>(
+    stopped: Option<RunFault>,
+    error: Option<io::Error>,
+    report: &mut Report<E>,
+)
+    ensures { ReportsStop stopped error
+        (reported E.contents report.old) (reported E.contents report.new) }
+{
+    match stopped {
+        Some(RunFault::Read) => report_fault(RunFault::Read, report),
+        Some(RunFault::Write) => report_write(error, report),
+        Some(RunFault::Memory) => report_fault(RunFault::Memory, report),
+        None => {}
+    }
+}
+
+/// Reports why the answers cannot be written. It is no error that their reader has closed the pipe.
+fn report_write<E: Write>(error: Option<io::Error>, report: &mut Report<E>)
+    ensures { ReportsWrite error
+        (reported E.contents report.old) (reported E.contents report.new) }
+{
+    match error {
+        Some(_) if is_closed(error) => {}
+        Some(error) => report_error(b"standard output", error, report),
+        None => report_fault(RunFault::Write, report),
+    }
+}
+
+fn report_fault<E: Write>(fault: RunFault, report: &mut Report<E>)
+    ensures { Reports (reported E.contents report.old) (reported E.contents report.new)
+        (fault_report fault) }
+{
+    report.write(fault_text(fault).as_bytes());
+}
+
+/// The line that is reported of a fault.
+fn fault_text(fault: RunFault) -> &'static str
+    ensures { result.now ≡ fault_report fault }
+{
+    match fault {
+        RunFault::Read => "cvss: read failed\n",
+        RunFault::Write => "cvss: write failed\n",
+        RunFault::Memory => "cvss: out of memory\n",
+    }
+}
+
+/// Whether the reader of the answers has closed the pipe.
+fn is_closed(error: Option<io::Error>) -> bool
+    ensures { IsTrue result ↔ IsClosed error }
+{
+    match error {
+        Some(error) => error.kind() == ErrorKind::BrokenPipe,
+        None => false,
+    }
+}
+
+/// Whether arguments ask for an audit.
+fn is_audit(arguments: &[Vec<u8>]) -> bool
+    ensures { result ≡ is_audit arguments.now }
+{
+    match arguments {
+        [word, ..] => word.as_slice() == Subcommand::Audit.name().as_bytes(),
+        [] => false,
+    }
+}
+
+/// Whether nothing disagrees, nothing was written and nothing failed.
+fn is_silent(status: u8, has_taken: bool, error: Option<io::Error>) -> bool
+    ensures { result ≡ is_silent status has_taken error }
+{
+    status == 0 && !has_taken && error.is_none()
+}
+
+fn report_note<E: Write>(noted: bool, report: &mut Report<E>)
+    ensures { ReportsNote noted (reported E.contents report.old) (reported E.contents report.new) }
+{
+    if noted {
+        report.write(b"cvss: no vector was found\n");
+    }
+}
+
+/// Reports the first of the arguments that are not understood, and the usage.
+fn report_wrong<E: Write>(wrong: &[Vec<u8>], report: &mut Report<E>)
+    ensures { Reports (reported E.contents report.old) (reported E.contents report.new)
+        (wrong_text USAGE.now wrong.now) }
+{
+    match wrong.split_first() {
+        Some((word, _)) => report_word(word, report),
+        None => report.write(USAGE.as_bytes()),
+    }
+}
+
+/// Reports a word that is not understood, and the usage.
+fn report_word<E: Write>(word: &[u8], report: &mut Report<E>)
+    ensures { Reports (reported E.contents report.old) (reported E.contents report.new)
+        (codes "cvss: not understood: " ++ word.now ++ codes "\n" ++ USAGE.now) }
+{
+    report.write(b"cvss: not understood: ");
+    report.write(word);
+    report.write(b"\n");
+    report.write(USAGE.as_bytes());
+}
