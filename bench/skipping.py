@@ -1,9 +1,11 @@
 """How tests in Python report what they skip, as the file `skipping` does for bash."""
 import functools
 import os
-import shutil
 import subprocess
 import sys
+from pathlib import Path
+
+_SKIPPING = Path(__file__).with_name("skipping")
 
 
 def skip(part, reason):
@@ -14,10 +16,9 @@ def skip(part, reason):
 
 
 def has(command, part):
-    if shutil.which(command):
-        return True
-    skip(part, f"{command} is not on this machine")
-    return False
+    """What `has` of the file `skipping` returns."""
+    sys.stdout.flush()
+    return not subprocess.call(["bash", "-c", '. "$0"; has "$@"', _SKIPPING, command, part])
 
 
 @functools.cache
@@ -28,5 +29,5 @@ def python_with(module, part):
         command = [python, "-c", f"import {module}"]
         if os.path.exists(python) and not subprocess.call(command, stderr=subprocess.DEVNULL):
             return python
-    skip(part, f"python3-{module} is not on this machine")
+    skip(part, f"python3-{module.split('.')[0]} is not on this machine")
     return None

@@ -1,7 +1,7 @@
 #!/usr/bin/env python3
 """Runs the examples and recipes of docs/BINDINGS.md and of the pages of the languages; of README.md the first commands and
-those of Python, Rust and the programs; and the examples of docs/PROGRAMS.md, docs/AUDIT.md and docs/EXPLANATIONS.md.
-Reports if docs/PERFORMANCE.md lacks a figure, or docs/BINDINGS.md a name or a command.
+those of Python, Rust and the programs; and the examples of docs/PROGRAMS.md, docs/AUDIT.md, docs/EXPLANATIONS.md and
+docs/THEOREMS.md. Reports if docs/PERFORMANCE.md lacks a figure, or docs/BINDINGS.md a name or a command.
 
 Usage: documents.py ROOT FOLDER. ROOT is the folder of the checkout, in which bindings/build has made the library; files
 are made only in FOLDER. An example says in comments what it prints. What needs a missing tool is skipped.
@@ -23,8 +23,10 @@ LANGUAGES = {name: (ROOT / f"docs/{name}.md").read_text() for name in ("C", "RUS
 # what they say to those who come from another package
 FROM = {name: page.partition("\n## From ")[2] for name, page in LANGUAGES.items()}
 PAGE = "\n".join([(ROOT / "docs/BINDINGS.md").read_text(), *(page.split("\n## From ")[0] for page in LANGUAGES.values())])
-PROGRAMS = "\n".join((ROOT / f"docs/{name}.md").read_text() for name in ("PROGRAMS", "AUDIT", "EXPLANATIONS"))
+PROGRAMS = "\n".join((ROOT / f"docs/{name}.md").read_text() for name in ("PROGRAMS", "AUDIT", "EXPLANATIONS", "THEOREMS"))
 PERFORMANCE = (ROOT / "docs/PERFORMANCE.md").read_text()
+# the line that the first command of `cvss_tool` answers
+LINE = "AV:N/AC:L/Au:N/C:N/I:N/A:C"
 # each valid, rejected and not UTF-8, and ended in each way that the program knows
 EDGES = [
     b"\xff", b"AV:N/AC:L/Au:N/C:N/I:N/A:C/\xe9", b"AV:N\rAC:L", b"\rAV:N", b"AV:N/AC:L/Au:N/C:N/I:N/A:C\r",
@@ -115,7 +117,7 @@ def try_go():
     module.mkdir()
     path = ROOT / "bindings/go"
     own = re.findall(r"^module (.*)$", (path / "go.mod").read_text(), re.M)[0]
-    assert f"replace {own} => " in PAGE, f"the page names no module {own}"
+    assert f"-replace={own}=" in PAGE, f"the page names no module {own}"
     (module / "go.mod").write_text(f"module example\n\ngo 1.19\n\nrequire {own} v0.0.0\n\nreplace {own} => {path}\n")
     for block in (blocks(FROM["GO"], "go")[0], blocks(PAGE, "go")[0]):
         body = f'package main\n\nimport (\n"errors"\n"fmt"\n\n"{own}"\n)\n\nfunc main() {{\n{block}}}\n'
@@ -156,7 +158,7 @@ def write_list():
 
 
 def try_dask(answers):
-    python = python_with("dask", "the example of dask")
+    python = python_with("dask.bag", "the example of dask")
     if python is None:
         return
     (FOLDER / "recipe.py").write_text(block_with("from dask", "python"))
@@ -190,9 +192,11 @@ def try_first_commands():
     assert unpacking.count("/tmp") == 2, unpacking
     compiling = re.findall(r"`(\(cd crates/cvss_tool && rt try [^`]*)`", readme)
     assert len(compiling) == 1, "README.md has no command of rt try"
-    with open(ROOT / "examples/vectors", "rb") as vectors:
-        wanted = run([sys.executable, "-B", ROOT / "reference/reference.py"], stdin=vectors).decode()
-    for command in (unpacking.replace("/tmp", str(FOLDER)), compiling[0]):
+    listed = (ROOT / "examples/vectors").read_text()
+    asked = "".join(f"{vector}\n" for vector in re.findall(r"(?:score|echo) (\S+)", unpacking))
+    assert "cvss score CVSS:3.1/" in unpacking and f"echo {LINE} | cvss_tool" in unpacking, unpacking
+    for command, lines in ((unpacking.replace("/tmp", str(FOLDER)), asked + listed), (compiling[0], listed)):
+        wanted = run([sys.executable, "-B", ROOT / "reference/reference.py"], input=lines.encode()).decode()
         done = subprocess.run(["bash", "-e", "-c", command], cwd=ROOT, stdout=subprocess.PIPE, stderr=subprocess.PIPE)
         check(done.stdout, wanted, command)
         assert done.returncode == 1, f"status {done.returncode}: {command}"

@@ -1,5 +1,5 @@
 #!/usr/bin/env python3
-"""Checks two lists that become out of date.
+"""Checks three lists that become out of date.
 
 Each public type that derives PartialEq or Clone has a law for it: two values are equal exactly if they are the same or
 report the same, and a clone is that value; and if the type is Copy, that a clone needs no memory. A law is a clause of
@@ -7,7 +7,11 @@ a module `laws` or of `cvss_laws` that names the type's impl; of a metric, that 
 
 docs/CONTRACTS.md lists exactly the public calls with preconditions, by the last part of their names.
 
-usage: docs/check_promises.py    prints each type without a law and each wrong call; status 1 if there are some
+Each contract that a row of docs/CONTRACTS.md names exists. If it is a clause, it is one of a function that the row names,
+or of any function if the row names a module or a type; otherwise it is a law, a trait or a definition.
+
+usage: docs/check_promises.py    prints each type without a law, each wrong call and each wrong contract; status 1 if
+                                 there are some
 """
 import re
 import sys
@@ -20,6 +24,9 @@ SCORING = "cvss_score/src/v4/scoring"
 DERIVED = re.compile(r"^#\[derive\(([^)]*)\)\]\n(?:#\[[^\n]*\n)*pub (?:struct|enum) (\w+)", re.M)
 LAW = re.compile(r"⟦<(?:\w+::)?(\w+)(?:<'static>|<NUMBER>)? as (?:PartialEq|Clone)>⟧\.(eq|is_clone|is_infallible)")
 METRIC = re.compile(r"^impl(?:<[^>]*>)? MetricEnum for (\w+)", re.M)
+CLAUSE = re.compile(r"\b(?:ensures|requires) (\w+)")
+DECLARED = re.compile(r"\b(?:fn|ghost|struct|trait|enum) (\w+)")
+DEFINED = re.compile(r"^ *(?:(?:pub|abbrev|unfoldable|record|data) )+(\w+)", re.M)
 CALL = re.compile(r"^    (?:final )?fn (\w+)(.*?)(?=^    [{}]|;$|{$)", re.M | re.S)
 
 
@@ -80,8 +87,31 @@ def listed():
     return {call.split("::")[-1] for row in rows for call in re.findall(r"`([\w:]+)`", row)} - {*crates()}
 
 
+def text_of(pattern):
+    """The text of all files of a pattern in `crates/`."""
+    return "\n".join(path.read_text(encoding="utf-8") for path in (ROOT / "crates").glob(pattern))
+
+
+def wrong_contracts():
+    """Each contract that a row of docs/CONTRACTS.md names, and that does not exist there."""
+    code, clauses, calls = text_of("*/src/**/*.rt"), {}, []
+    parts = re.split(r"\bfn (\w+)", code)
+    for function, said in zip(parts[1::2], parts[2::2]):
+        clauses.setdefault(function, set()).update(CLAUSE.findall(said))
+    named = {*DECLARED.findall(code), *DEFINED.findall(text_of("*/specs/**/*.antt")), *crates(), "ensures"}
+    text = (ROOT / "docs" / "CONTRACTS.md").read_text(encoding="utf-8").split("## Each call")[1].split("\n## ")[0]
+    for row in re.findall(r"^\| (?!call )(.*) \|$", text, re.M):
+        call, *_, contracts = row.split(" | ")
+        calls = [name.split("::")[-1] for name in re.findall(r"`([\w:]+)`", call)] or calls
+        functions = calls if all(name in clauses or name in crates() for name in calls) else clauses
+        said = set().union(*(clauses.get(name, set()) for name in functions))
+        for name in re.findall(r"`([\w:]+)`", contracts):
+            if name.split("::")[-1] not in said | named:
+                yield f"CONTRACTS.md names {name} as a contract of {', '.join(calls)}, which has no such"
+
+
 def main():
-    wrong = list(without_law())
+    wrong = list(without_law()) + list(wrong_contracts())
     wrong += [f"CONTRACTS.md does not list the preconditions of {call}" for call in sorted({*asking()} - listed())]
     wrong += [f"CONTRACTS.md lists {call}, which has no precondition" for call in sorted(listed() - {*asking()})]
     sys.exit("\n".join(wrong) or None)

@@ -70,8 +70,9 @@ def try_hints():
     expect(1, rejected * 2 + V2_ANSWER, version, "score", bare, bare, V2)
     expect(1, rejected, version, "set", "A:N", "--", bare)
     capitals = b"cvss: hint: write its prefix in capitals, as `CVSS:3.1/`\n"
-    for prefix in (b"cvss:3.1/", b"Cvss:3.0/"):
-        expect(1, b"error: invalid CVSS string prefix: `" + prefix[:4] + b"`\n", capitals, "score", prefix + bare)
+    v4 = b"AV:N/AC:L/AT:N/PR:N/UI:N/VC:L/VI:H/VA:N/SC:N/SI:N/SA:N"
+    for prefix, metrics in ((b"cvss:3.1/", bare), (b"Cvss:3.0/", bare), (b"cvSS:4.0/", v4)):
+        expect(1, b"error: invalid CVSS string prefix: `" + prefix[:4] + b"`\n", capitals, "score", prefix + metrics)
     for text in (b"(" + V2 + b").", b'"' + V2 + b'"', b" " + V2):
         done = subprocess.run([PROGRAM, "score", text], capture_output=True, check=False)
         assert (done.returncode, done.stderr) == (1, b"cvss: hint: `cvss find` finds vectors among other text\n"), done
@@ -111,6 +112,19 @@ def try_operands(room):
     folder = os.open(room, os.O_RDONLY)
     expect(2, V2_ANSWER, b"cvss: -: Is a directory (os error 21)\n", "score", "-", V2, stdin=folder)
     os.close(folder)
+
+
+def try_long_names(room):
+    """A name of 255 bytes opens, and so does a path of more; a longer name is one that the system rejects."""
+    name = "n" * 255
+    (room / name).write_bytes(V2)
+    expect(0, V2_ANSWER, b"", "score", name, cwd=room)
+    path = Path("d" * 200) / ("e" * 200)
+    (room / path).mkdir(parents=True)
+    (room / path / "list").write_bytes(V2)
+    expect(0, V2_ANSWER, b"", "score", path / "list", cwd=room)
+    error = b"n: File name too long (os error 36)\n"
+    expect(2, b"", b"cvss: " + name.encode() + error, "score", name + "n", cwd=room)
 
 
 def try_help(room):
@@ -162,6 +176,7 @@ def main():
         try_hints()
         try_notes()
         try_operands(room)
+        try_long_names(room)
         try_help(room)
         try_header(room)
         try_columns(room)

@@ -1,6 +1,7 @@
 #!/usr/bin/env python3
 """Tries each subcommand of the built command `cvss` over its operands, from outside: files that there are and are not,
-names of any bytes, ten thousand files, a file of 10 GB, input in pieces, and streams that are closed or full.
+names of any bytes, ten thousand files, a file of 10 GB, the longest texts, input in pieces, and streams that are closed
+or full. An error is reported only if it happened: not for a long text while there is memory, and not after many bytes.
 
 The expected answers are those of reference/.
 
@@ -19,13 +20,14 @@ from pathlib import Path
 from typing import Callable
 
 ROOT = Path(__file__).resolve().parents[2]
-sys.path[:0] = [str(ROOT / "reference")]
+sys.path[:0] = [str(ROOT / "reference"), str(ROOT / "bench/inputs")]
 
 import accounts
 import complete
 import documents
 import explained
 import finding
+from long_texts import WHOLE
 
 PROGRAM = ROOT / "crates/cvss_command/out/cvss_command"
 ACCEPTED = b"AV:N/AC:L/Au:N/C:N/I:N/A:C"
@@ -90,6 +92,8 @@ def json_text(value):
     """A JSON value without spaces, its members in the order of their names, and numbers as explanations have them."""
     if isinstance(value, dict):
         return "{" + ",".join(f"{json.dumps(name)}:{json_text(value[name])}" for name in sorted(value)) + "}"
+    if isinstance(value, list):
+        return "[" + ",".join(map(json_text, value)) + "]"
     return explained.decimal(value) if isinstance(value, Fraction) else json.dumps(value, ensure_ascii=False)
 
 
@@ -175,6 +179,23 @@ def try_many(command, room):
     assert done.stdout == answers, "a file is left open"
 
 
+def try_long(command, room):
+    """The longest vectors of each version, long rejected texts, and a line after many bytes: from standard input and from a
+    file, which have the same answers."""
+    vectors = [text.encode() for text in WHOLE.values()]
+    for size in (151, 4_000, 70_000):
+        long = b"q" * size
+        vectors += [long, b"AV:N/" + long + b":N", b"CVSS:3.1/AV:" + long, b"CVSS:" + long + b"/AV:N", long + b":3.1/AV:N"]
+    lines = [command.accepted.replace(ACCEPTED, vector) for vector in vectors]
+    for given in (lines, [command.accepted, b"q" * (17 << 20), command.accepted]):
+        answers = command.answers(given)
+        status = int(any(word in answers for word in (b"error: ", b'"refused":')))
+        assert status or command.name == "find", command.name
+        (room / "long texts").write_bytes(b"\n".join(given))
+        command.expect(status, answers, b"", given=b"\n".join(given) + b"\n")
+        command.expect(status, answers, b"", "long texts", cwd=room)
+
+
 def try_large(command, room):
     """A file of 10 GB without a line end, in little memory."""
     with open(room / "zeros", "wb") as zeros:
@@ -230,11 +251,12 @@ def main():
             try_files(command, room)
             try_permission(command, room)
             try_streams(command, room)
+            try_long(command, room)
             try_large(command, room)
             try_many(command, room)
         try_chunks(command, draw)
     print(", ".join(f"cvss {command.name}: {command.tried} runs" for command in SUBCOMMANDS)
-          + f", and each over {MANY} files, 10 GB and drawn pieces: they end as they should")
+          + f", and each over {MANY} files, 10 GB, long texts and drawn pieces: they end as they should")
 
 
 if __name__ == "__main__":

@@ -17,7 +17,8 @@ Only these answers may be `out of memory`: in `test_vectors` those to a rejected
 quotes the text, and rows of triage; and the steps of `test_json` that build a string or copy such an
 error. So a valid text is accepted whichever request is refused, and `cvss_tool` and `cvss find`
 answer each text as always. If a line can't be read or a buffer can't grow, the run ends early, and
-what it has written are the whole answers to the first lines.
+what it has written are the whole answers to the first lines. Then the programs report it on standard
+error, by their names and `out of memory`, and otherwise nothing but a hint of `cvss find`.
 
 It needs cc and python3 in addition to the toolchain.
 
@@ -35,6 +36,7 @@ ROOT = Path(__file__).resolve().parents[2]
 sys.path.insert(0, str(ROOT / "reference"))
 
 import finding
+from compare_found import HINT
 
 # Runs the program with ample memory, and then once for each request, which is refused, each time in
 # a new process over the whole input. Reports a line for each run, on the descriptor REPORT: the
@@ -197,9 +199,22 @@ def found(text):
             yield [f"{number}:{place + 1} {answer}"]
 
 
+# What a program writes on standard error when it runs out of memory, and what it may write before that.
+LACKING = {"cvss_tool": (b"", b"cvss_tool: out of memory\n"), "cvss_command find": (HINT, b"cvss: out of memory\n"),
+           "cvss_command audit": (b"", b"cvss: out of memory\n")}
+
+
+def is_reported(program, ended, message):
+    """Whether standard error says how a run ended. The programs of tests end with a message of the toolchain."""
+    if program not in LACKING:
+        return True
+    hint, lacking = LACKING[program]
+    return message in (lacking, hint + lacking) if ended else message == hint
+
+
 def check(program, turn, run, wanted, statuses):
     """Whether the run ended early, and which answers are `out of memory`."""
-    status, written, _ = run
+    status, written, message = run
     answers = written.decode("utf-8").split("\n")
     whole = answers.pop() == ""
     ended = len(answers) < len(wanted)
@@ -207,8 +222,9 @@ def check(program, turn, run, wanted, statuses):
     lacking = [at for at, (got, allowed) in enumerate(zip(answers, wanted)) if got != allowed[0]]
     # One request is refused, so at most one answer changes.
     if not (whole and fits and len(answers) <= len(wanted) and status == statuses[ended]
-            and ended + len(lacking) <= (turn > 0)):
-        sys.exit(f"{program}, turn {turn}: status {status}, wrote {written[:2000]!r}")
+            and ended + len(lacking) <= (turn > 0) and is_reported(program, ended, message)):
+        sys.exit(f"{program}, turn {turn}: status {status}, wrote {written[:2000]!r} "
+                 f"and on standard error {message[:500]!r}")
     return ended, lacking
 
 
@@ -231,8 +247,11 @@ def refuse_in_turn(shim, program, tries, statuses, what="texts"):
                 sys.exit(f"{program}: `{allowed[0]}` takes no memory")
     if requests == 0:
         sys.exit(f"{program}: no request was refused: nothing was tried")
+    if program in LACKING and ended == 0:
+        sys.exit(f"{program}: no run ended early, so none reported an error")
     print(f"{program}: {requests} requests refused in turn over {count} {what}: {ended} runs ended "
-          f"early, {lacking} answers became `out of memory`, all else stayed", flush=True)
+          f"early{' and said why' if program in LACKING else ''}, {lacking} answers became `out of memory`, "
+          "all else stayed", flush=True)
 
 
 def in_batches(pairs):
@@ -255,15 +274,18 @@ def refuse_in_turn_over_documents(shim):
         if now != following:
             ends.add(place)
     ample, *others = runs(shim, "cvss_command", given, "audit")
-    if ample[:2] != (1, whole):
+    program = "cvss_command audit"
+    if ample[:2] != (1, whole) or not is_reported(program, False, ample[2]):
         sys.exit("cvss audit: the run with ample memory is not the stored one")
-    for turn, (status, written, _) in enumerate(others, 1):
-        if status != 2 or len(written) not in ends or not whole.startswith(written):
-            sys.exit(f"cvss audit, turn {turn}: status {status}, wrote {written[:2000]!r}")
+    for turn, (status, written, message) in enumerate(others, 1):
+        if (status != 2 or len(written) not in ends or not whole.startswith(written)
+                or not is_reported(program, True, message)):
+            sys.exit(f"cvss audit, turn {turn}: status {status}, wrote {written[:2000]!r} "
+                     f"and on standard error {message[:500]!r}")
     if not others:
         sys.exit("cvss audit: no request was refused: nothing was tried")
     print(f"cvss audit: {len(others)} requests refused in turn over {given.count(bytes([10]))} "
-          "documents: each run ended early, with the whole answers to the first lines")
+          "documents: each run ended early and said why, with the whole answers to the first lines")
 
 
 def main():

@@ -18,14 +18,13 @@ import tempfile
 from pathlib import Path
 
 ROOT = Path(__file__).resolve().parents[2]
-sys.path.insert(0, str(ROOT / "reference"))
+sys.path[:0] = [str(ROOT / "reference"), str(ROOT / "bench/inputs")]
 
 import accounts
 import ranking
 import reference
-import v2
-import v3
 import v4
+from long_texts import WHOLE
 from streams import FIRST, LOW, SHIM, V2, Runs, agreed
 
 SIZES = (1, 100, 70_000, 1_000_000)
@@ -80,14 +79,6 @@ def reason(read, text):
         return str(refused)
 
 
-def whole(front, metrics):
-    """The longest text of a version: each metric with its longest spelling."""
-    return "/".join(front + [f"{name}:{max(spellings, key=len)}"
-                             for name, (_, spellings) in metrics.items()])
-
-
-WHOLE = {"v2": whole([], v2.METRICS), "v3": whole(["CVSS:3.1"], v3.METRICS),
-         "v4": whole(["CVSS:4.0"], v4.METRICS)}
 READ = {"v2": reference.read_v2, "v3": reference.read_v3, "v4": reference.read_v4,
         "cvss": reference.read}
 
@@ -126,9 +117,22 @@ def try_refusals(runs):
         for text, _ in lines:
             _, ((_, words),) = ranking.rank([text.encode()], [], False)
             runs.expect("cvss_command", f"{LOW}\n{text}".encode(), (1, b"", f"cvss: line 2: {words}\n"), ["triage"])
+        try_triage(runs, "q" * size)
         try_unknown(runs, "q" * size)
     for word in ("unknown", "Nonee", "non", ""):
         try_unknown(runs, word)
+
+
+def try_triage(runs, part):
+    """The errors of triage and of overrides, which quote a long part of an override or of a text."""
+    reasons = {part: f"invalid CVSS metric group component: `{part}`",
+               f"{part}:N": f"unknown CVSS metric name: `{part.upper()}`",
+               f"MAV:{part}": f"invalid CVSSv4 MAV (Modified Attack Vector) metric: `{part.upper()}`"}
+    given = answers = ""
+    for override, words in reasons.items():
+        given += f"rank +{override} ={LOW}\noverrides {override}\nrank ={LOW} ={LOW}/{override}\n"
+        answers += f"error: override 0: {words}\n" * 2 + f"error: text 1: {words}\n"
+    runs.expect("test_vectors", given.encode(), (0, answers.encode(), ""))
 
 
 def try_unknown(runs, word):
@@ -187,6 +191,7 @@ def try_much(runs):
     runs.expect("cvss_command", f"{LOW}\n".encode() * SLOW_ROWS, (0, row(LOW, []) * SLOW_ROWS, ""), ["triage"],
                 WRITE_SLOWLY=1, READ_STEP=1)
     runs.expect("cvss_command", f"{LOW}\n".encode() * ROWS, (0, row(LOW, []) * ROWS, ""), ["triage"])
+    runs.expect("cvss_command", b"\n" * LONG[1] + b"CVSS:4.0/CR:H\n", (0, row(LOW, ["CR:H"]), ""), ["triage", "--profile", "-", LOW])
     reason = b"error: invalid CVSS metric group component: `\0`\n"
     runs.expect("cvss_tool", b"\0\n" + LINE + b"\0\n", (1, reason + FIRST.encode() + reason, ""))
     runs.expect("cvss_tool", LINE + b"\0\n", (1, FIRST.encode() + reason, ""), READ_STEP=len(LINE))

@@ -3,7 +3,8 @@
 
 The figures are those of two scorers that were written independently of each other and of this library:
 how many scores there are, their sum in tenths, a checksum that depends on their order, and how many are
-0, below 4.0, below 7.0, below 9.0, and above. Metrics are in printing order, the first changing slowest.
+0, below 4.0, below 7.0, below 9.0, and above. Metrics are in printing order, the first changing slowest. How many base
+vectors have each score is compared with reference/base_scores.tsv, which the second implementation on fractions has counted.
 
 usage: bench/checks/whole_sets.py
 """
@@ -89,6 +90,19 @@ def compare(name, told, expected):
     print(f"{name}: {told[0]} vectors, the sum of the scores is that from outside")
 
 
+def compare_base(version, texts, expected):
+    """The scores of all base vectors, by their sum and by how many have each score."""
+    tenths = published(texts)
+    compare(f"{version}, base", checksum(tenths), expected)
+    head, *rows = [row.split("\t") for row in (ROOT / "reference/base_scores.tsv").read_text().splitlines()]
+    place = next(place for place, versions in enumerate(head) if version in versions.split(", "))
+    counted = Counter(tenths)
+    for score, row in enumerate(rows):
+        if counted[score] != int(row[place]):
+            sys.exit(f"{version}: {counted[score]} base vectors score {row[0]}, and not {row[place]}")
+    print(f"{version}, base: as many vectors have each score as the second implementation counts")
+
+
 def published(texts):
     """The tenths of the scores that `cvss_tool` publishes; each text is canonical."""
     found = []
@@ -159,16 +173,16 @@ def compare_records(name, texts):
 
 
 def main():
-    compare("v2, base", checksum(published(base_of_v2())), BASE_OF_V2)
+    compare_base("v2", base_of_v2(), BASE_OF_V2)
     required = environmental(with_requirements(v2.METRICS, base_of_v2()))
     compare("v2, with requirements", checksum(required), REQUIRED_OF_V2)
     for version, expected in REQUIRED_OF_V3.items():
         texts = base_of_v3(version)
-        compare(f"{version}, base", checksum(published(texts)), BASE_OF_V3)
+        compare_base(version.replace("CVSS:", "v"), texts, BASE_OF_V3)
         environmental(texts)
         required = environmental(with_requirements(v3.METRICS, texts))
         compare(f"{version}, with requirements", checksum(required), expected)
-    compare("v4.0, base", checksum(published(base_of_v4())), BASE_OF_V4)
+    compare_base("v4.0", base_of_v4(), BASE_OF_V4)
     compare_effective()
     compare_records("v2", base_of_v2())
     compare_records("v3.1", base_of_v3("CVSS:3.1"))

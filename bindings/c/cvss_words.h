@@ -45,19 +45,19 @@ typedef struct CvssMetricType {
 } CvssMetricType;
 
 static const CvssValueType cvss_v20_AV[] = {
-    {"N", "Network", "Anywhere: the attack works over a network."},
+    {"N", "Network", "The attack works over a network."},
     {"A", "Adjacent network", "On the same local network, or in radio range."},
-    {"L", "Local", "On the system: through an account, or at the device."}};
+    {"L", "Local", "On the system, through an account, or at the device."}};
 
 static const CvssValueType cvss_v20_AC[] = {
-    {"L", "Low", "Not at all: the attack works against the default configuration."},
-    {"M", "Medium", "Somewhat: the configuration is not the default, or information must be gathered first."},
-    {"H", "High", "Very: a narrow race, a rare configuration, or victims who would easily notice."}};
+    {"L", "Low", "The attack works against the default configuration."},
+    {"M", "Medium", "The configuration is not the default, or information must be gathered first."},
+    {"H", "High", "There is a narrow race, a rare configuration, or victims who would easily notice."}};
 
 static const CvssValueType cvss_v20_Au[] = {
-    {"N", "None", "Never."},
-    {"S", "Single", "Once."},
-    {"M", "Multiple", "Twice or more, even with the same credentials."}};
+    {"N", "None", "The attacker need not log in."},
+    {"S", "Single", "The attacker must log in once."},
+    {"M", "Multiple", "The attacker must log in twice or more, even with the same credentials."}};
 
 static const CvssValueType cvss_v20_C[] = {
     {"C", "Complete", "All data on the system can be read."},
@@ -75,54 +75,54 @@ static const CvssValueType cvss_v20_A[] = {
     {"N", "None", "It keeps working as before."}};
 
 static const CvssValueType cvss_v20_E[] = {
-    {"ND", "Not defined", "Not known: it counts as High."},
+    {"ND", "Not defined", "It counts as High."},
     {"H", "High", "Autonomous exploit code exists, or none is needed."},
     {"F", "Functional", "Working exploit code exists."},
     {"POC", "Proof of concept", "A proof of concept exists, which needs work before it can be used in an attack."},
     {"U", "Unproven", "No exploit code is known, or the attack is theoretical."}};
 
 static const CvssValueType cvss_v20_RL[] = {
-    {"ND", "Not defined", "Not known: it counts as Unavailable."},
+    {"ND", "Not defined", "It counts as Unavailable."},
     {"U", "Unavailable", "There is no fix, or it cannot be applied."},
     {"W", "Workaround", "There is an unofficial workaround."},
     {"TF", "Temporary fix", "There is an official but temporary fix."},
     {"OF", "Official fix", "The vendor has a complete fix."}};
 
 static const CvssValueType cvss_v20_RC[] = {
-    {"ND", "Not defined", "Not specified: it counts as Confirmed."},
+    {"ND", "Not defined", "It counts as Confirmed."},
     {"C", "Confirmed", "The vendor has confirmed it, or it is exploited."},
     {"UR", "Uncorroborated", "Several unofficial sources report it, and may disagree."},
     {"UC", "Unconfirmed", "One source reports it, or several that contradict each other."}};
 
 static const CvssValueType cvss_v20_CDP[] = {
-    {"ND", "Not defined", "Not specified: it counts as None."},
-    {"N", "None", "Nothing."},
-    {"L", "Low", "Little."},
-    {"LM", "Low to medium", "A moderate amount."},
-    {"MH", "Medium to high", "A significant amount."},
+    {"ND", "Not defined", "It counts as None."},
+    {"N", "None", "Nothing else can be lost."},
+    {"L", "Low", "Little can be lost."},
+    {"LM", "Low to medium", "A moderate amount can be lost."},
+    {"MH", "Medium to high", "A significant amount can be lost."},
     {"H", "High", "Losses can be catastrophic."}};
 
 static const CvssValueType cvss_v20_TD[] = {
-    {"ND", "Not defined", "Not specified: it counts as High."},
-    {"N", "None", "None, or only systems in a laboratory."},
-    {"L", "Low", "Up to a quarter."},
-    {"M", "Medium", "A quarter to three quarters."},
-    {"H", "High", "More than three quarters."}};
+    {"ND", "Not defined", "It counts as High."},
+    {"N", "None", "At most systems in a laboratory are targets."},
+    {"L", "Low", "Up to a quarter of them are targets."},
+    {"M", "Medium", "A quarter to three quarters of them are targets."},
+    {"H", "High", "More than three quarters of them are targets."}};
 
 static const CvssValueType cvss_v20_CR[] = {
-    {"ND", "Not defined", "Not specified: it counts as Medium."},
+    {"ND", "Not defined", "It counts as Medium."},
     {"L", "Low", "A loss of confidentiality has only limited effects on the organisation."},
     {"M", "Medium", "A loss of confidentiality has serious effects on the organisation."},
     {"H", "High", "A loss of confidentiality can be catastrophic for the organisation."}};
 
 static const CvssValueType cvss_v20_IR[] = {
-    {"ND", "Not defined", "Not specified: it counts as Medium."},
+    {"ND", "Not defined", "It counts as Medium."},
     {"L", "Low", "A loss of integrity has only limited effects on the organisation."},
     {"M", "Medium", "A loss of integrity has serious effects on the organisation."},
     {"H", "High", "A loss of integrity can be catastrophic for the organisation."}};
 
 static const CvssValueType cvss_v20_AR[] = {
-    {"ND", "Not defined", "Not specified: it counts as Medium."},
+    {"ND", "Not defined", "It counts as Medium."},
     {"L", "Low", "A loss of availability has only limited effects on the organisation."},
     {"M", "Medium", "A loss of availability has serious effects on the organisation."},
     {"H", "High", "A loss of availability can be catastrophic for the organisation."}};
@@ -158,27 +158,27 @@ static const CvssMetricType cvss_v20_types[] = {
      "How bad is a loss of availability?", cvss_v20_AR, 4}};
 
 static const CvssValueType cvss_v31_AV[] = {
-    {"N", "Network", "Anywhere: the attack works over a network, across routers."},
-    {"A", "Adjacent", "Nearby: on the same link, in radio range, or inside the same administrative network."},
-    {"L", "Local", "On the system: through an account, a console, or a file that a user opens."},
-    {"P", "Physical", "At the device: the attacker must touch or handle it."}};
+    {"N", "Network", "The attack works over a network, across routers."},
+    {"A", "Adjacent", "On the same link, in radio range, or inside the same administrative network."},
+    {"L", "Local", "On the system, through an account, a console, or a file that a user opens."},
+    {"P", "Physical", "The attacker must touch or handle the device."}};
 
 static const CvssValueType cvss_v31_AC[] = {
-    {"L", "Low", "No: the attack can be repeated at will."},
-    {"H", "High", "Yes: the attacker must first gather knowledge, prepare the target, or intercept traffic."}};
+    {"L", "Low", "The attack can be repeated at will."},
+    {"H", "High", "The attacker must first gather knowledge, prepare the target, or intercept traffic."}};
 
 static const CvssValueType cvss_v31_PR[] = {
-    {"N", "None", "None: no account is needed."},
+    {"N", "None", "No account is needed."},
     {"L", "Low", "Those of an ordinary user."},
     {"H", "High", "Those of an administrator, or close to them."}};
 
 static const CvssValueType cvss_v31_UI[] = {
-    {"N", "None", "No: the attacker acts alone."},
+    {"N", "None", "The attacker acts alone."},
     {"R", "Required", "A user must do something first, such as opening a file."}};
 
 static const CvssValueType cvss_v31_S[] = {
-    {"U", "Unchanged", "No: it stays within the security authority of the vulnerable component."},
-    {"C", "Changed", "Yes: it reaches resources of another security authority."}};
+    {"U", "Unchanged", "The impact stays within the security authority of the vulnerable component."},
+    {"C", "Changed", "The impact reaches resources of another security authority."}};
 
 static const CvssValueType cvss_v31_C[] = {
     {"H", "High", "All data can be read, or data whose disclosure does serious harm."},
@@ -196,70 +196,70 @@ static const CvssValueType cvss_v31_A[] = {
     {"N", "None", "It keeps working as before."}};
 
 static const CvssValueType cvss_v31_E[] = {
-    {"X", "Not defined", "Not known: it counts as High."},
+    {"X", "Not defined", "It counts as High."},
     {"H", "High", "Autonomous exploit code exists, or none is needed."},
     {"F", "Functional", "Working exploit code exists."},
     {"P", "Proof of concept", "A proof of concept exists, which needs work before it can be used in an attack."},
     {"U", "Unproven", "No exploit code is known, or the attack is theoretical."}};
 
 static const CvssValueType cvss_v31_RL[] = {
-    {"X", "Not defined", "Not known: it counts as Unavailable."},
+    {"X", "Not defined", "It counts as Unavailable."},
     {"U", "Unavailable", "There is no fix, or it cannot be applied."},
     {"W", "Workaround", "There is an unofficial workaround."},
     {"T", "Temporary fix", "There is an official but temporary fix."},
     {"O", "Official fix", "The vendor has a complete fix."}};
 
 static const CvssValueType cvss_v31_RC[] = {
-    {"X", "Not defined", "Not specified: it counts as Confirmed."},
+    {"X", "Not defined", "It counts as Confirmed."},
     {"C", "Confirmed", "It was reproduced, or the vendor has confirmed it."},
     {"R", "Reasonable", "Much is known, but the cause is not fully certain."},
     {"U", "Unknown", "There are reports, but the cause is unknown."}};
 
 static const CvssValueType cvss_v31_CR[] = {
-    {"X", "Not defined", "Not specified: it counts as Medium."},
+    {"X", "Not defined", "It counts as Medium."},
     {"H", "High", "A loss of confidentiality can be catastrophic for the organisation."},
     {"M", "Medium", "A loss of confidentiality has serious effects on the organisation."},
     {"L", "Low", "A loss of confidentiality has only limited effects on the organisation."}};
 
 static const CvssValueType cvss_v31_IR[] = {
-    {"X", "Not defined", "Not specified: it counts as Medium."},
+    {"X", "Not defined", "It counts as Medium."},
     {"H", "High", "A loss of integrity can be catastrophic for the organisation."},
     {"M", "Medium", "A loss of integrity has serious effects on the organisation."},
     {"L", "Low", "A loss of integrity has only limited effects on the organisation."}};
 
 static const CvssValueType cvss_v31_AR[] = {
-    {"X", "Not defined", "Not specified: it counts as Medium."},
+    {"X", "Not defined", "It counts as Medium."},
     {"H", "High", "A loss of availability can be catastrophic for the organisation."},
     {"M", "Medium", "A loss of availability has serious effects on the organisation."},
     {"L", "Low", "A loss of availability has only limited effects on the organisation."}};
 
 static const CvssValueType cvss_v31_MAV[] = {
     {"X", "Not defined", "The same as AV."},
-    {"N", "Network", "Anywhere: the attack works over a network, across routers."},
-    {"A", "Adjacent", "Nearby: on the same link, in radio range, or inside the same administrative network."},
-    {"L", "Local", "On the system: through an account, a console, or a file that a user opens."},
-    {"P", "Physical", "At the device: the attacker must touch or handle it."}};
+    {"N", "Network", "The attack works over a network, across routers."},
+    {"A", "Adjacent", "On the same link, in radio range, or inside the same administrative network."},
+    {"L", "Local", "On the system, through an account, a console, or a file that a user opens."},
+    {"P", "Physical", "The attacker must touch or handle the device."}};
 
 static const CvssValueType cvss_v31_MAC[] = {
     {"X", "Not defined", "The same as AC."},
-    {"L", "Low", "No: the attack can be repeated at will."},
-    {"H", "High", "Yes: the attacker must first gather knowledge, prepare the target, or intercept traffic."}};
+    {"L", "Low", "The attack can be repeated at will."},
+    {"H", "High", "The attacker must first gather knowledge, prepare the target, or intercept traffic."}};
 
 static const CvssValueType cvss_v31_MPR[] = {
     {"X", "Not defined", "The same as PR."},
-    {"N", "None", "None: no account is needed."},
+    {"N", "None", "No account is needed."},
     {"L", "Low", "Those of an ordinary user."},
     {"H", "High", "Those of an administrator, or close to them."}};
 
 static const CvssValueType cvss_v31_MUI[] = {
     {"X", "Not defined", "The same as UI."},
-    {"N", "None", "No: the attacker acts alone."},
+    {"N", "None", "The attacker acts alone."},
     {"R", "Required", "A user must do something first, such as opening a file."}};
 
 static const CvssValueType cvss_v31_MS[] = {
     {"X", "Not defined", "The same as S."},
-    {"U", "Unchanged", "No: it stays within the security authority of the vulnerable component."},
-    {"C", "Changed", "Yes: it reaches resources of another security authority."}};
+    {"U", "Unchanged", "The impact stays within the security authority of the vulnerable component."},
+    {"C", "Changed", "The impact reaches resources of another security authority."}};
 
 static const CvssValueType cvss_v31_MC[] = {
     {"X", "Not defined", "The same as C."},
@@ -326,38 +326,38 @@ static const CvssMetricType cvss_v31_types[] = {
      "Can the attacker stop it?", cvss_v31_MA, 4}};
 
 static const CvssValueType cvss_v40_AV[] = {
-    {"N", "Network", "Anywhere: the attack works over a network, across routers."},
-    {"A", "Adjacent", "Nearby: on the same link, in radio range, or inside the same administrative network."},
-    {"L", "Local", "On the system: through an account, a console, or a file that a user opens."},
-    {"P", "Physical", "At the device: the attacker must touch or handle it."}};
+    {"N", "Network", "The attack works over a network, across routers."},
+    {"A", "Adjacent", "On the same link, in radio range, or inside the same administrative network."},
+    {"L", "Local", "On the system, through an account, a console, or a file that a user opens."},
+    {"P", "Physical", "The attacker must touch or handle the device."}};
 
 static const CvssValueType cvss_v40_AC[] = {
-    {"L", "Low", "No: the attack can be repeated at will."},
-    {"H", "High", "Yes: a security measure must be overcome, such as address randomisation or a secret."}};
+    {"L", "Low", "The attack can be repeated at will."},
+    {"H", "High", "A security measure must be overcome, such as address randomisation or a secret."}};
 
 static const CvssValueType cvss_v40_AT[] = {
-    {"N", "None", "No: the attack works against most deployments, most of the time."},
-    {"P", "Present", "Yes: a race condition must be won, or the system must be configured in a certain way."}};
+    {"N", "None", "The attack works against most deployments, most of the time."},
+    {"P", "Present", "A race condition must be won, or the system must be configured in a certain way."}};
 
 static const CvssValueType cvss_v40_PR[] = {
-    {"N", "None", "None: no account is needed."},
+    {"N", "None", "No account is needed."},
     {"L", "Low", "Those of an ordinary user."},
     {"H", "High", "Those of an administrator, or close to them."}};
 
 static const CvssValueType cvss_v40_UI[] = {
-    {"N", "None", "No: the attacker acts alone."},
+    {"N", "None", "The attacker acts alone."},
     {"P", "Passive", "A user does something ordinary, such as opening a page, unaware of the attack."},
     {"A", "Active", "A user does something unusual, such as dismissing a warning."}};
 
 static const CvssValueType cvss_v40_VC[] = {
     {"H", "High", "All of its data can be read, or data whose disclosure does serious harm."},
     {"L", "Low", "Some of its data can be read, but the attacker does not choose which."},
-    {"N", "None", "None of its data can be read."}};
+    {"N", "None", "Its data cannot be read."}};
 
 static const CvssValueType cvss_v40_VI[] = {
     {"H", "High", "All of its data can be changed, or data whose change does serious harm."},
     {"L", "Low", "Some data can be changed, without direct serious harm."},
-    {"N", "None", "None of its data can be changed."}};
+    {"N", "None", "Its data cannot be changed."}};
 
 static const CvssValueType cvss_v40_VA[] = {
     {"H", "High", "It can be stopped completely, or its most important part can."},
@@ -380,55 +380,55 @@ static const CvssValueType cvss_v40_SA[] = {
     {"N", "None", "Other systems keep working as before."}};
 
 static const CvssValueType cvss_v40_E[] = {
-    {"X", "Not defined", "Not known: the score assumes Attacked."},
+    {"X", "Not defined", "The score assumes Attacked."},
     {"A", "Attacked", "Attacks were reported, or a ready-made exploit is available."},
     {"P", "Proof of concept", "A proof of concept is public, and no attack was reported."},
     {"U", "Unreported", "Neither a proof of concept nor an attack is known."}};
 
 static const CvssValueType cvss_v40_CR[] = {
-    {"X", "Not defined", "Not specified: it counts as High."},
+    {"X", "Not defined", "It counts as High."},
     {"H", "High", "A loss of confidentiality can be catastrophic for the organisation."},
     {"M", "Medium", "A loss of confidentiality has serious effects on the organisation."},
     {"L", "Low", "A loss of confidentiality has only limited effects on the organisation."}};
 
 static const CvssValueType cvss_v40_IR[] = {
-    {"X", "Not defined", "Not specified: it counts as High."},
+    {"X", "Not defined", "It counts as High."},
     {"H", "High", "A loss of integrity can be catastrophic for the organisation."},
     {"M", "Medium", "A loss of integrity has serious effects on the organisation."},
     {"L", "Low", "A loss of integrity has only limited effects on the organisation."}};
 
 static const CvssValueType cvss_v40_AR[] = {
-    {"X", "Not defined", "Not specified: it counts as High."},
+    {"X", "Not defined", "It counts as High."},
     {"H", "High", "A loss of availability can be catastrophic for the organisation."},
     {"M", "Medium", "A loss of availability has serious effects on the organisation."},
     {"L", "Low", "A loss of availability has only limited effects on the organisation."}};
 
 static const CvssValueType cvss_v40_MAV[] = {
     {"X", "Not defined", "The same as AV."},
-    {"N", "Network", "Anywhere: the attack works over a network, across routers."},
-    {"A", "Adjacent", "Nearby: on the same link, in radio range, or inside the same administrative network."},
-    {"L", "Local", "On the system: through an account, a console, or a file that a user opens."},
-    {"P", "Physical", "At the device: the attacker must touch or handle it."}};
+    {"N", "Network", "The attack works over a network, across routers."},
+    {"A", "Adjacent", "On the same link, in radio range, or inside the same administrative network."},
+    {"L", "Local", "On the system, through an account, a console, or a file that a user opens."},
+    {"P", "Physical", "The attacker must touch or handle the device."}};
 
 static const CvssValueType cvss_v40_MAC[] = {
     {"X", "Not defined", "The same as AC."},
-    {"L", "Low", "No: the attack can be repeated at will."},
-    {"H", "High", "Yes: a security measure must be overcome, such as address randomisation or a secret."}};
+    {"L", "Low", "The attack can be repeated at will."},
+    {"H", "High", "A security measure must be overcome, such as address randomisation or a secret."}};
 
 static const CvssValueType cvss_v40_MAT[] = {
     {"X", "Not defined", "The same as AT."},
-    {"N", "None", "No: the attack works against most deployments, most of the time."},
-    {"P", "Present", "Yes: a race condition must be won, or the system must be configured in a certain way."}};
+    {"N", "None", "The attack works against most deployments, most of the time."},
+    {"P", "Present", "A race condition must be won, or the system must be configured in a certain way."}};
 
 static const CvssValueType cvss_v40_MPR[] = {
     {"X", "Not defined", "The same as PR."},
-    {"N", "None", "None: no account is needed."},
+    {"N", "None", "No account is needed."},
     {"L", "Low", "Those of an ordinary user."},
     {"H", "High", "Those of an administrator, or close to them."}};
 
 static const CvssValueType cvss_v40_MUI[] = {
     {"X", "Not defined", "The same as UI."},
-    {"N", "None", "No: the attacker acts alone."},
+    {"N", "None", "The attacker acts alone."},
     {"P", "Passive", "A user does something ordinary, such as opening a page, unaware of the attack."},
     {"A", "Active", "A user does something unusual, such as dismissing a warning."}};
 
@@ -436,13 +436,13 @@ static const CvssValueType cvss_v40_MVC[] = {
     {"X", "Not defined", "The same as VC."},
     {"H", "High", "All of its data can be read, or data whose disclosure does serious harm."},
     {"L", "Low", "Some of its data can be read, but the attacker does not choose which."},
-    {"N", "None", "None of its data can be read."}};
+    {"N", "None", "Its data cannot be read."}};
 
 static const CvssValueType cvss_v40_MVI[] = {
     {"X", "Not defined", "The same as VI."},
     {"H", "High", "All of its data can be changed, or data whose change does serious harm."},
     {"L", "Low", "Some data can be changed, without direct serious harm."},
-    {"N", "None", "None of its data can be changed."}};
+    {"N", "None", "Its data cannot be changed."}};
 
 static const CvssValueType cvss_v40_MVA[] = {
     {"X", "Not defined", "The same as VA."},
@@ -471,31 +471,31 @@ static const CvssValueType cvss_v40_MSA[] = {
     {"N", "Negligible", "Other systems keep working as before, or nearly so."}};
 
 static const CvssValueType cvss_v40_S[] = {
-    {"X", "Not defined", "Not specified."},
+    {"X", "Not defined", "The provider does not say."},
     {"P", "Present", "Injuries can be more than negligible (IEC 61508: marginal or worse)."},
     {"N", "Negligible", "Injuries are negligible at most (IEC 61508)."}};
 
 static const CvssValueType cvss_v40_AU[] = {
-    {"X", "Not defined", "Not specified."},
+    {"X", "Not defined", "The provider does not say."},
     {"N", "No", "Some step of the attack cannot be automated."},
     {"Y", "Yes", "Every step can be automated, from reconnaissance to exploitation, as a worm does."}};
 
 static const CvssValueType cvss_v40_R[] = {
-    {"X", "Not defined", "Not specified."},
+    {"X", "Not defined", "The provider does not say."},
     {"A", "Automatic", "It recovers by itself."},
     {"U", "User", "Somebody has to restore it."},
     {"I", "Irrecoverable", "It cannot be restored."}};
 
 static const CvssValueType cvss_v40_V[] = {
-    {"X", "Not defined", "Not specified."},
-    {"D", "Diffuse", "Few: such as one person's device."},
-    {"C", "Concentrated", "Many: such as a central server."}};
+    {"X", "Not defined", "The provider does not say."},
+    {"D", "Diffuse", "Few resources, such as one person's device."},
+    {"C", "Concentrated", "Many resources, such as those of a central server."}};
 
 static const CvssValueType cvss_v40_RE[] = {
-    {"X", "Not defined", "Not specified."},
-    {"L", "Low", "Little: a change of settings, or an automatic update."},
-    {"M", "Moderate", "Some: an update that needs care, with a short interruption."},
-    {"H", "High", "Much: a difficult or long change, or a replacement of hardware."}};
+    {"X", "Not defined", "The provider does not say."},
+    {"L", "Low", "A change of settings, or an automatic update."},
+    {"M", "Moderate", "An update that needs care, with a short interruption."},
+    {"H", "High", "A difficult or long change, or a replacement of hardware."}};
 
 static const CvssValueType cvss_v40_U[] = {
     {"X", "Not defined", "The provider does not say."},

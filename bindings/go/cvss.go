@@ -8,7 +8,7 @@ package cvss
 // #cgo CFLAGS: -I${SRCDIR}
 // #cgo amd64 LDFLAGS: ${SRCDIR}/libcvss.a
 // #cgo arm64 LDFLAGS: ${SRCDIR}/libcvss_arm64.a
-// #include "cvss.h"
+// #include "library.h"
 // static size_t read_text(_GoString_ text, CvssScores *scores, void *buffer, size_t size)
 // {
 //     return cvss_read(_GoStringPtr(text), _GoStringLen(text), scores, buffer, size);

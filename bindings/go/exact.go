@@ -2,7 +2,7 @@
 
 package cvss
 
-// #include "cvss.h"
+// #include "library.h"
 import "C"
 
 import (
@@ -53,10 +53,13 @@ func componentRefusal(version Version, metrics []Metric) error {
 }
 
 // Rounded is a number rounded to tenths as V20, V30 or V31 rounds scores. The error is for another version, and for a number
-// that is a million or more from 0.
+// that is nil, or a million or more from 0.
 func Rounded(number *big.Rat, version Version) (*big.Rat, error) {
 	if numberOf(version) == 0 || version == V40 {
 		return nil, errors.New("cvss: a number is rounded as V20, V30 or V31 rounds scores")
+	}
+	if number == nil {
+		return nil, errors.New("cvss: there is no number to round: the *big.Rat is nil")
 	}
 	own, ok := numberFrom(number)
 	var tenths C.int32_t
@@ -67,11 +70,14 @@ func Rounded(number *big.Rat, version Version) (*big.Rat, error) {
 }
 
 // TemporalWithImpact is the temporal score of the vector of V20 with these metrics, as of NumbersOf, and with an impact in
-// place of its own. It may be below 0.
+// place of its own. It may be below 0. An impact that is nil, or a million or more from 0, is an error.
 func TemporalWithImpact(metrics []Metric, impact *big.Rat) (*big.Rat, error) {
 	text, err := joined(metrics)
 	if err != nil {
 		return nil, err
+	}
+	if impact == nil {
+		return nil, errors.New("cvss: there is no impact: the *big.Rat is nil")
 	}
 	own, ok := numberFrom(impact)
 	if !ok {

@@ -81,6 +81,18 @@ func TestNumbersAreRounded(t *testing.T) {
 			}
 		}
 	}
+	for _, version := range []cvss.Version{cvss.V20, cvss.V30, cvss.V31} {
+		own, err := cvss.Rounded(nil, version)
+		if err == nil || own != nil || err.Error() != "cvss: there is no number to round: the *big.Rat is nil" {
+			t.Error(version, own, err)
+		}
+	}
+	for _, metrics := range [][]cvss.Metric{nil, complete} {
+		own, err := cvss.TemporalWithImpact(metrics, nil)
+		if err == nil || own != nil || err.Error() != "cvss: there is no impact: the *big.Rat is nil" {
+			t.Error(metrics, own, err)
+		}
+	}
 	if own, err := cvss.TemporalWithImpact(nil, rat("1")); err != nil || own.Cmp(rat("-1.1")) != 0 {
 		t.Error(own, err)
 	}

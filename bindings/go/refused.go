@@ -1,6 +1,6 @@
 package cvss
 
-// #include "cvss.h"
+// #include "library.h"
 import "C"
 
 import (

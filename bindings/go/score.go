@@ -2,7 +2,7 @@
 
 package cvss
 
-// #include "cvss.h"
+// #include "library.h"
 import "C"
 
 import (

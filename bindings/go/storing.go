@@ -26,6 +26,12 @@ func (v *Vector) UnmarshalText(text []byte) error {
 	return nil
 }
 
+// MarshalBinary is MarshalText: a gob of a Vector has its canonical text alone.
+func (v Vector) MarshalBinary() ([]byte, error) { return v.MarshalText() }
+
+// UnmarshalBinary is UnmarshalText: what a gob has is parsed anew, so the scores are those of the text.
+func (v *Vector) UnmarshalBinary(text []byte) error { return v.UnmarshalText(text) }
+
 // Value is what a database keeps of the vector: its canonical text, and NULL for the zero Vector.
 func (v Vector) Value() (driver.Value, error) {
 	if v.IsZero() {

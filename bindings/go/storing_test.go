@@ -1,9 +1,11 @@
 package cvss_test
 
 import (
+	"bytes"
 	"database/sql"
 	"database/sql/driver"
 	"encoding"
+	"encoding/gob"
 	"encoding/json"
 	"errors"
 	"flag"
@@ -18,8 +20,11 @@ import (
 var (
 	_ encoding.TextMarshaler   = cvss.Vector{}
 	_ encoding.TextUnmarshaler = (*cvss.Vector)(nil)
+	_ encoding.BinaryMarshaler = cvss.Vector{}
 	_ driver.Valuer            = cvss.Vector{}
 	_ sql.Scanner              = (*cvss.Vector)(nil)
+
+	_ encoding.BinaryUnmarshaler = (*cvss.Vector)(nil)
 )
 
 const stored = "CVSS:3.1/AV:N/AC:L/PR:N/UI:N/S:U/C:H/I:H/A:H"
@@ -118,6 +123,63 @@ func TestVectorsAreJSONStrings(t *testing.T) {
 	var refused *cvss.RefusedError
 	if err := json.Unmarshal([]byte(`{"Vector":"AV:Q"}`), &back); !errors.As(err, &refused) || back.Vector.IsZero() {
 		t.Errorf("%v, %v", back, err)
+	}
+}
+
+// encoded is what a gob has of a value.
+func encoded(t *testing.T, value any) []byte {
+	t.Helper()
+	var buffer bytes.Buffer
+	if err := gob.NewEncoder(&buffer).Encode(value); err != nil {
+		t.Fatal(err)
+	}
+	return buffer.Bytes()
+}
+
+func TestVectorsAreGobs(t *testing.T) {
+	other := parsed(t, "AV:N/AC:L/Au:N/C:N/I:N/A:C/E:ND")
+	for _, value := range []advisory{
+		{ID: "X-1", Vector: parsed(t, stored)},
+		{ID: "X-2"},
+		{Vector: parsed(t, "CVSS:4.0/AV:N/AC:L/AT:N/PR:N/UI:N/VC:H/VI:H/VA:H/SC:N/SI:N/SA:N/E:U"), Vectors: map[cvss.Vector]int{other: 1}, Other: &other},
+	} {
+		var back advisory
+		if err := gob.NewDecoder(bytes.NewReader(encoded(t, value))).Decode(&back); err != nil {
+			t.Fatal(err)
+		}
+		if back.ID != value.ID || back.Vector != value.Vector || back.Vectors[other] != value.Vectors[other] {
+			t.Errorf("%v, and not %v", back, value)
+		}
+		if (back.Other == nil) != (value.Other == nil) || back.Other != nil && *back.Other != other {
+			t.Errorf("%v", back.Other)
+		}
+	}
+	back := other
+	if err := gob.NewDecoder(bytes.NewReader(encoded(t, cvss.Vector{}))).Decode(&back); err != nil || !back.IsZero() {
+		t.Errorf("%v, %v", back, err)
+	}
+}
+
+// A gob has the text alone, so it brings no score that is not the text's.
+func TestAGobIsReadAnew(t *testing.T) {
+	vector := parsed(t, stored)
+	if code, err := vector.MarshalBinary(); err != nil || string(code) != stored {
+		t.Errorf("%q, %v", code, err)
+	}
+	if code := encoded(t, vector); !bytes.Contains(code, []byte(stored)) || len(code) > len(stored)+40 {
+		t.Errorf("%q", code)
+	}
+	var back cvss.Vector
+	err := back.UnmarshalBinary([]byte("CVSS:3.1/A:H/I:H/C:H/S:U/UI:N/PR:N/AC:L/AV:N"))
+	if err != nil || back != vector || back.Score() != 9.8 {
+		t.Errorf("%v, %v", back, err)
+	}
+	var refused *cvss.RefusedError
+	if err := back.UnmarshalBinary([]byte("AV:\xff")); !errors.As(err, &refused) || refused.Kind != cvss.NotUTF8 {
+		t.Error(err)
+	}
+	if back != vector {
+		t.Errorf("%v", back)
 	}
 }
 

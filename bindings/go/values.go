@@ -1,6 +1,6 @@
 package cvss
 
-// #include "cvss.h"
+// #include "library.h"
 // static int32_t score_text(_GoString_ text)
 // {
 //     return cvss_score(_GoStringPtr(text), _GoStringLen(text));

@@ -28,14 +28,20 @@ export type Kind =
   | "missing metric"
   | "not UTF-8";
 
-/** A string, or the bytes of a text. A string with a lone surrogate is rejected, since it has no UTF-8. */
+/**
+ * A string, or the bytes of a text, which each call copies once. A string with a lone surrogate is rejected, since it has no
+ * UTF-8. A text is a `RangeError` if it is too long for memory, or its result for a string (of 512 MiB in Node).
+ */
 export type Text = string | Uint8Array;
 
 /** Metrics by their abbreviations, such as `{ E: "A" }`. */
 export type Metrics = Readonly<Record<string, string>>;
 
 export interface Options {
-  /** Rejects a vector of v3 that lacks base metrics, with the first missing one. Without it such a vector is scored. */
+  /**
+   * Rejects a vector of v3 that lacks base metrics, with the first missing one. Without it such a vector is scored. It is a
+   * property of the object itself: one that the object inherits does not count.
+   */
   readonly strict?: boolean;
 }
 
@@ -105,8 +111,10 @@ export class CvssError extends Error {
   readonly kind: Kind;
   /** The abbreviation of the metric whose value is invalid, or that occurs twice or is missing; else null. */
   readonly metric: string | null;
-  /** The part of the text that the message quotes; null where it quotes none. */
+  /** The part of the text that the message quotes, which may be empty; null where it quotes none. */
   readonly value: string | null;
+  /** What JSON has of the error: its own properties and the message. */
+  toJSON(): { kind: Kind; metric: string | null; value: string | null; message: string };
 }
 
 /** The vector that a text denotes. It never changes. */

@@ -12,6 +12,7 @@ import pickle
 import re
 import subprocess
 import sys
+import weakref
 from concurrent.futures import ThreadPoolExecutor
 from decimal import Decimal
 from fractions import Fraction
@@ -220,6 +221,7 @@ def check_texts_of_subclasses() -> None:
         # an object that calls itself a text
         posing: Any = type("Posing", (), {"__class__": property(lambda _: kind)})()
         assert raises(TypeError, lambda: Vector(posing)) and raises(TypeError, lambda: answers([posing])), kind
+        assert scores([posing, TEXT]) == [None, 7.8], kind
     assert Vector(memoryview(code + code)[: len(code)]).text == TEXT
     assert Vector(memoryview(bytes(byte for pair in zip(code, code) for byte in pair))[::2]).text == TEXT
 
@@ -238,6 +240,11 @@ def check_many_texts() -> None:
         assert answers(iter(texts)) == answers(tuple(texts)), texts
     code = TEXT.encode()
     one_text: Tuple[Any, ...] = (TEXT, "", code, b"", bytearray(code), memoryview(code))
+    # what a column of a table has next to texts
+    cells: Tuple[Any, ...] = (None, float("nan"), 7.8, 5, Decimal("NaN"), [TEXT], {TEXT: TEXT}, object())
+    for cell in cells:
+        assert scores([TEXT, cell, "AV:N", code]) == [7.8, None, None, 7.8] and scores([cell]) == [None], cell
+        assert scores(iter([cell, "x\n", TEXT])) == [None, None, 7.8], cell
     calls: Tuple[Tuple[Callable[[Any], object], str], ...] = ((answers, "answer"), (scores, "score"))
     for other in one_text:
         for call, name in calls:
@@ -729,6 +736,52 @@ def check_copies() -> None:
     assert all(copied == tuples for copied in copies(tuples))
 
 
+class Forged:
+    """Pickled as a vector that is made without its constructor, with a state that was not taken from one."""
+
+    def __init__(self, kind: Type[Vector], state: object) -> None:
+        self.kind, self.state = kind, state
+
+    def __reduce__(self) -> Tuple[Any, ...]:
+        return (object.__new__, (self.kind,), self.state)
+
+
+def check_forged_pickles() -> None:
+    """Whatever a pickle says, the scores of its vector are those of its text."""
+    other = Vector(V4)
+    parts = {name: getattr(other, name) for name in ("_code", "_decoded", "_numbers")}
+    texts: Tuple[Text, ...] = (TEXT.encode(), TEXT, "CVSS:3.1/A:H/I:H/C:H/S:U/UI:N/PR:N/AC:L/AV:N")
+    for kind in (Vector, Own, Slotted):
+        for text in texts:
+            pickled = pickle.dumps(Forged(kind, (None, {**parts, "_code": text})))
+            vector = pickle.loads(pickled)
+            own = Vector(text)
+            assert (type(vector), vector, vector.text) == (kind, own, own.text), (kind, vector)
+            assert (vector.scores, vector.severity, vector.record()) == (own.scores, own.severity, own.record())
+        for refused in ("", "AV:N", b"\xff"):
+            pickled = pickle.dumps(Forged(kind, (None, {**parts, "_code": refused})))
+            assert raises(CvssError, lambda: pickle.loads(pickled)), (kind, refused)
+        for state in ((None, {"_numbers": parts["_numbers"]}), (None, {}), {}):
+            pickled = pickle.dumps(Forged(kind, state))
+            assert raises(AttributeError, lambda: pickle.loads(pickled)), (kind, state)
+    made = copy.copy(other)
+    made.__setstate__((None, {"_numbers": Vector(TEXT)._numbers, "_decoded": TEXT}))
+    assert (made, made.scores) == (other, other.scores)
+
+
+def check_weak_references() -> None:
+    """A vector can be referred to weakly, as by a cache."""
+    kinds: Tuple[Type[Vector], ...] = (Vector, Own, Slotted)
+    for kind in kinds:
+        vector = kind(TEXT)
+        cache = weakref.WeakValueDictionary({TEXT: vector})
+        assert weakref.ref(vector)() is vector is cache[TEXT]
+        for copied in copies(vector):
+            assert copied == vector and weakref.getweakrefcount(copied) == 0
+        del vector, copied
+        assert TEXT not in cache, kind
+
+
 def check_docstrings() -> None:
     """Each example in a docstring prints what follows it."""
     runner = doctest.DocTestRunner()
@@ -842,6 +895,8 @@ if __name__ == "__main__":
     check_overrides()
     check_subclasses()
     check_copies()
+    check_forged_pickles()
+    check_weak_references()
     check_records(Path(sys.argv[1]))
     check_accounts(Path(sys.argv[1]))
     check_finding(Path(sys.argv[1]))

@@ -41,10 +41,10 @@ fn main() {
     println!("cargo:rerun-if-changed={}", library.display());
     if !library.is_file() {
         fail(&format!(
-            "{} is missing. Make it by bindings/build in a checkout of the repository. Without the \
-             Rattle kit, unpack the archive in dist/, and set CVSS_LIBRARY_FOLDER to the absolute \
-             path of its folder lib. A crate that depends on this one by git sets it to that \
-             folder too, or to a checkout's bindings/out",
+            "{} is missing. Without the Rattle kit, unpack the archive in dist/ of the repository: \
+             its crate share/yuntabek/rust finds the library. Any other copy of this crate finds it \
+             if CVSS_LIBRARY_FOLDER is the absolute path of the archive's folder lib. With the kit, \
+             run bindings/build in the checkout",
             library.display()
         ));
     }

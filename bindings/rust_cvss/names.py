@@ -5,14 +5,18 @@ the path of an item, its fields, variants, methods and constants, and the traits
 usage: names.py FOLDER     FOLDER is what cargo doc has written for the package
        names.py FOLDER -   prints the lines of FOLDER
 """
+import html
 import re
 import sys
 import urllib.parse
 from pathlib import Path
 
 NAMES = Path(__file__).parent / "names"
-ITEM = re.compile(r"(?:struct|enum|trait|constant)\.(\w+)\.html")
+ITEM = re.compile(r"(?:struct|enum|trait|constant|fn|type|macro)\.(\w+)\.html")
 PART = re.compile(r'<(?:section|span) id="(?:variant|structfield|method|tymethod|associatedconstant)\.(\w+)"')
+# what an item declares, and then each of its own methods and constants
+DECLARED = re.compile(r'<pre class="rust (?:item-decl|macro)"><code>(.*?)</code></pre>|'
+                      r'<section id="[^"]*" class="(?:method|associatedconstant)">.*?<h4 class="code-header">(.*?)</h4>', re.S)
 IMPL = re.compile(r'<section id="impl-([^"]+?)-for-[^"]*" class="impl"')
 # what rustdoc lists of each type, whatever its author wrote, and the methods of std's traits
 AUTOMATIC = re.compile(r"(Freeze|RefUnwindSafe|Send|Sync|Unpin|UnsafeUnpin|UnwindSafe|StructuralPartialEq|Any|Borrow<T>|BorrowMut<T>|"
@@ -22,15 +26,33 @@ INHERITED = set("""assert_receiver_is_total_eq borrow borrow_mut cause clamp clo
                 try_from try_into type_id""".split())
 
 
-def names_in(folder):
-    """The names of each item, and its traits, by its path."""
+def pages_in(folder):
+    """The page of each item, and its traits, by its path."""
     for page in folder.rglob("*.html"):
         item = ITEM.fullmatch(page.name)
         text = page.read_text(encoding="utf-8")
         if item and "<p>Redirecting to" not in text:
-            path = "::".join(["cvss", *page.relative_to(folder).parts[:-1], item[1]])
+            path = "::".join([folder.name, *page.relative_to(folder).parts[:-1], item[1]])
             traits = {urllib.parse.unquote(name) for name in IMPL.findall(text)}
-            yield path, set(PART.findall(text)) - INHERITED, {name for name in traits if not AUTOMATIC.fullmatch(name)}
+            yield path, text, {name for name in traits if not AUTOMATIC.fullmatch(name)}
+
+
+def names_in(folder):
+    """The names of each item, and its traits, by its path."""
+    for path, text, traits in pages_in(folder):
+        yield path, set(PART.findall(text)) - INHERITED, traits
+
+
+def declared_in(folder):
+    """The lines that declare each item and its own methods, and its traits, by its path."""
+    for path, text, traits in pages_in(folder):
+        lines = []
+        for item, method in DECLARED.findall(text):
+            plain = html.unescape(re.sub(r"<summary.*?</summary>|<[^>]*>", "", item or method, flags=re.S))
+            # a long list of arguments is in lines of its own
+            plain = plain.replace("]pub", "]\npub") if item else " ".join(plain.split()).replace("( ", "(").replace(", )", ")")
+            lines += plain.splitlines()
+        yield path, lines, traits
 
 
 def main():

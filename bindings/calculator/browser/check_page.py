@@ -11,6 +11,7 @@ from pathlib import Path
 
 import answers
 import explaining
+import guiding
 import ranging
 import reading
 import using
@@ -82,6 +83,7 @@ def check_everywhere(page: Page, root: Path, clicked: int, pasted: int, every: i
     using.check_links(page)
     using.check_keyboard(page)
     using.check_hostile(page)
+    guiding.check_guiding(page, root)
     report_times(page)
 
 

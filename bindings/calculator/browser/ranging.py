@@ -35,12 +35,16 @@ INCOMPLETE = (
     "CVSS:3.0/AV:A/PR:H/S:C/C:H/I:H/A:H/E:F/RL:W/RC:R",
     "CVSS:3.0/AC:H/UI:R/C:L/I:L/A:L/AR:H/MS:C/MAC:L",
     "CVSS:3.0/E:U",
+    # neither the least nor the most severe completion scores the most
+    "CVSS:3.0/AV:P/AC:H/PR:H/UI:R/S:C/C:H/I:H/CR:H/IR:L/AR:L",
     "AV:N/AC:L/Au:N",
     "AV:L/C:P/I:P/A:P/E:U/RL:OF",
     "AC:H/Au:M/C:C/CDP:H/TD:L",
     "Au:S/I:N/A:N/CR:H/IR:L/RC:UC",
     "AV:A/AC:M/E:ND/TD:ND",
     "CDP:MH",
+    # nor does one of them score the least
+    "AV:L/AC:H/Au:M/I:N/A:N/CDP:L/TD:H/CR:L",
 )
 # Complete vectors, of which each value of each metric is tried.
 COMPLETE = (

@@ -16,10 +16,11 @@ function drawValue(metric, [letter, title, sentence]) {
 function drawMetric(metric) {
   const values = metric.values.map((value) => drawValue(metric, value));
   const legend = make("legend", {}, `${metric.title} `, make("abbr", { title: metric.title }, metric.name));
-  const ask = make("p", { className: "sentence ask" }, metric.ask);
+  const ask = make("p", { className: "ask", id: `ask-${metric.name}` }, metric.ask);
   const labels = make("div", { className: "values" }, ...values.map(({ label }) => label));
-  const words = values.map((value) => value.words);
-  return make("fieldset", { className: "metric", id: `metric-${metric.name}` }, legend, labels, ask, ...words);
+  const words = make("div", { className: "sentences" }, ...values.map((value) => value.words));
+  const own = { className: "metric", id: `metric-${metric.name}`, "aria-describedby": ask.id };
+  return make("fieldset", own, legend, ask, labels, words);
 }
 
 function drawGroup(group) {
@@ -29,8 +30,16 @@ function drawGroup(group) {
   return make("details", { className: "group", "aria-label": group.title }, summary, cards);
 }
 
+// FIRST's document that defines the metrics and the scores of a version.
+function drawStandard(version) {
+  const isOld = version === "2.0";
+  at("standard").href = `https://www.first.org/cvss/${isOld ? "v2/guide" : `v${version}/specification-document`}`;
+  at("standard").textContent = `FIRST's ${isOld ? "guide to" : "specification of"} CVSS v${version}`;
+}
+
 function drawForm() {
   at("groups").replaceChildren(...tableOf(state.version).map(drawGroup));
+  drawStandard(state.version);
   for (const input of document.getElementsByName("version")) input.checked = input.value === state.version;
 }
 
@@ -42,7 +51,7 @@ function markedLetter(metric) {
 
 function explainValue(metric, letter) {
   for (const words of at(`metric-${metric.name}`).querySelectorAll(".sentence")) {
-    words.hidden = words.id !== (letter ? `${metric.name}-${letter}` : "");
+    words.hidden = words.id !== `${metric.name}-${letter}`;
     words.classList.toggle("chosen", words.id === `${metric.name}-${markedLetter(metric)}`);
   }
 }

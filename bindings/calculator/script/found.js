@@ -11,13 +11,27 @@ function visible(text) {
   return text.length <= MOST_SHOWN ? shown : `${shown}… (${text.length.toLocaleString("en")} characters)`;
 }
 
+// Links to NVD's calculators. The vector in one has no prefix, and for v2 parentheses.
+const NVD_LINK = /https?:\/\/nvd\.nist\.gov\/[^\s<>"'`]*[?&;]vector=[^\s<>"'`]*/gi;
+const VERSION_OF_PAGE = { 2: "2.0", 3: "3.1", 4: "4.0" };
+
+// The vector of such a link, with its prefix; the link itself if it has none.
+function vectorOfLink(link) {
+  const given = new URL(link.replaceAll("&amp;", "&")).searchParams;
+  const vector = given.get("vector")?.replace(/^[\s(]+|[\s).,;]+$/g, "");
+  if (!vector) return link;
+  const page = /v([234])-calculator/i.exec(link)?.[1] ?? 2;
+  const version = /\d\.\d/.exec(given.get("version"))?.[0] ?? VERSION_OF_PAGE[page];
+  return version === "2.0" || /^cvss:/i.test(vector) ? vector : `CVSS:${version}/${vector}`;
+}
+
 // The vectors in a text, in its order. Where there is none, the whole text with the reason why it is none.
 function readText(text) {
   const found = [...cvss.find(text)];
   if (found.length) return found;
   const whole = text.trim();
   const { ok, vector, error } = cvss.Vector.parse(whole);
-  return [ok ? { text: whole, vector } : { text: whole, error }];
+  return [ok ? { text: whole, vector } : { text: whole, error, isWhole: true }];
 }
 
 function foundRow({ text, vector, error }) {
@@ -101,8 +115,16 @@ function partOf(text, error) {
   return { version, metrics };
 }
 
+// Whether a text has parts of a vector: a prefix or a metric next to a slash, or two metrics.
+function hasParts(text) {
+  const own = `(?:${NAMES.join("|")}):[a-z]`;
+  const isNextToSlash = new RegExp(`\\bCVSS:\\d\\.\\d/|\\b${own}+/|/${own}`, "i").test(text);
+  return isNextToSlash || text.match(new RegExp(`\\b${own}`, "gi"))?.length > 1;
+}
+
 // Why a text is rejected, after the part that was read as a vector if the text has more.
-function rejectionOf({ text, error }, whole) {
+function rejectionOf({ text, error, isWhole }, whole) {
+  if (isWhole && !hasParts(text)) return "There is no CVSS vector in this text.";
   const isPart = text && text !== whole.trim() && text.length <= MOST_SHOWN / 2;
   return visible(isPart ? `${text}: ${error.message}` : error.message);
 }

@@ -40,6 +40,7 @@ const ofVersions = (isChosen) => Object.fromEntries(Object.entries(tables).map((
   [version, sections.filter(isChosen).flatMap(({ metrics }) => metrics)]));
 const allMetrics = ofVersions(() => true);
 const baseMetrics = ofVersions(({ group }) => group === "base");
+const NAMES = [...new Set(Object.values(allMetrics).flat().map(({ name }) => name))];
 const tableOf = (version) => tables[TABLE_OF[version]];
 const metricsOf = (version) => allMetrics[TABLE_OF[version]];
 const baseOf = (version) => baseMetrics[TABLE_OF[version]];

@@ -4,10 +4,12 @@
 // Whether the last entry of the history was typed into the field.
 let wasTyped = false;
 
-// Takes the metrics of a version into the form, with the vector that they are, if they are one.
+// Takes the metrics of a version into the form, with the vector that they are, if they are one. What was chosen before,
+// also in other versions, belonged to another vector.
 function adopt({ version, metrics }, vector) {
   const isOther = version !== state.version;
   state.version = version;
+  for (const table of Object.keys(state.chosen)) state.chosen[table] = {};
   state.chosen[TABLE_OF[version]] = { ...metrics };
   if (isOther) drawForm();
   markForm();
@@ -23,7 +25,8 @@ function read(text, keepsFound) {
     reject("");
     return false;
   }
-  const found = readText(text);
+  const given = text.replace(NVD_LINK, vectorOfLink);
+  const found = readText(given);
   const [first] = found;
   const isOne = found.length === 1;
   reject(isOne && !first.vector ? rejectionOf(first, text) : "", first.text);
@@ -93,8 +96,14 @@ function choose(name, letter) {
   remember(false);
 }
 
+// The metrics that v3 and v4.0 have with the same values keep them.
 function changeVersion(version) {
+  const before = chosen();
+  const isShared = state.version !== "2.0" && version !== "2.0";
   state.version = version;
+  for (const name of isShared ? ["AV", "AC", "PR"] : []) {
+    if (before[name] !== undefined) chosen()[name] = before[name];
+  }
   drawForm();
   showChosen();
   remember(false);

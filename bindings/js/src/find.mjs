@@ -13,21 +13,21 @@ function unitsIn(begin, end) {
   return units;
 }
 
-// The matches in a text: where each begins, in units of UTF-16 or in bytes, and its text. No match has a lone surrogate,
-// nor what takes its place.
+// The texts of the matches, by where each begins, in units of UTF-16 or in bytes. No match has a lone surrogate, nor what
+// takes its place.
 function matchesIn(text) {
   ready();
   const isString = typeof text === "string";
   const length = isString ? putEncoded(text, first) : put(text, first);
   const hasByteUnits = !isString || length === text.length;
-  const matches = [];
+  const matches = new Map();
   let end = 0;
   let index = 0;
   while (wasm.cvss_find(first, length, end, field, field + 8) !== 0) {
     const begin = numbers[field >> 2] >>> 0;
     const size = numbers[(field >> 2) + 2] >>> 0;
     index += hasByteUnits ? begin - end : unitsIn(end, begin);
-    matches.push({ index, text: decoded(first + begin, size) });
+    matches.set(index, decoded(first + begin, size));
     index += size;
     end = begin + size;
   }
@@ -35,9 +35,10 @@ function matchesIn(text) {
 }
 
 function* vectorsOf(matches, options) {
-  for (const match of matches) {
-    const { ok, ...read } = Vector.parse(match.text, options);
-    yield { ...match, ...read };
+  for (const index of matches.keys()) {
+    const text = matches.get(index);
+    const { ok, ...read } = Vector.parse(text, options);
+    yield { index, text, ...read };
   }
 }
 

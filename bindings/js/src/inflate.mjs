@@ -48,29 +48,30 @@ function readerOf(source) {
 
 // The codes of a block, which begin it.
 function codesOfBlock({ take, symbolOf }) {
-  const literals = take(5) + 257;
-  const all = literals + take(5) + 1;
+  const count = take(5) + 257;
+  const all = count + take(5) + 1;
   const used = take(4) + 4;
-  const lengths = new Array(19).fill(0);
+  const lengths = new Uint8Array(19);
   for (let next = 0; next < used; next += 1) lengths[ORDER[next]] = take(3);
   const codes = codesOf(lengths);
-  const read = [];
-  while (read.length < all) {
+  const read = new Uint8Array(all);
+  for (let size = 0; size < all;) {
     const symbol = symbolOf(codes);
-    if (symbol < 16) read.push(symbol);
+    if (symbol < 16) read[size++] = symbol;
     else {
       const repeats = symbol === 16 ? 3 + take(2) : symbol === 17 ? 3 + take(3) : 11 + take(7);
-      const repeated = symbol === 16 ? read[read.length - 1] : 0;
-      for (let left = repeats; left > 0; left -= 1) read.push(repeated);
+      const repeated = symbol === 16 ? read[size - 1] : 0;
+      read.fill(repeated, size, size + repeats);
+      size += repeats;
     }
   }
-  return [codesOf(read.slice(0, literals)), codesOf(read.slice(literals))];
+  return { literals: codesOf(read.subarray(0, count)), distances: codesOf(read.subarray(count)) };
 }
 
 // The codes of a block that brings none.
 function fixedCodes() {
-  const lengths = new Array(288).fill(8).fill(9, 144, 256).fill(7, 256, 280);
-  return [codesOf(lengths), codesOf(new Array(30).fill(5))];
+  const lengths = new Uint8Array(288).fill(8).fill(9, 144, 256).fill(7, 256, 280);
+  return { literals: codesOf(lengths), distances: codesOf(new Uint8Array(30).fill(5)) };
 }
 
 // So many bytes, each compressed: no block is stored as it is.
@@ -83,7 +84,7 @@ export function inflate(source, length) {
     isLast = take(1);
     const kind = take(2);
     if (kind !== 1 && kind !== 2) throw new Error("a block is not compressed");
-    const [literals, distances] = kind === 1 ? fixedCodes() : codesOfBlock(reader);
+    const { literals, distances } = kind === 1 ? fixedCodes() : codesOfBlock(reader);
     for (let symbol = symbolOf(literals); symbol !== 256; symbol = symbolOf(literals)) {
       if (symbol < 256) bytes[size++] = symbol;
       else {

@@ -2,29 +2,34 @@
 //
 // Free memory begins with a field of numbers, which functions write. After it are the texts of a call, and then its
 // buffer. A call has ended before the next begins, so all calls share this memory. It grows for a large text.
+//
+// Other code may have added properties to Object.prototype and Array.prototype, such as setters. So the package reads no
+// property that an object may lack, and assigns none that it lacks: no array is pushed to, none is destructured (which reads
+// `return`), and options and descriptors have no prototype.
 
 import { wasmModule } from "./module.mjs";
 
 const PAGE = 65536;
 const FIELD = 1024; // bytes of the field of numbers
+const ROOM = PAGE / 2; // bytes in which most strings are encoded
 
 export let wasm = null; // the exports of the one instance
 export let octets = null; // its memory, as bytes
 export let numbers = null; // the same memory, as 32-bit numbers
 export let field = 0; // the address of the field of numbers
 export let first = 0; // the address of the first text
-let room = null; // the memory from there on
+let room = null; // the memory from there on, where most strings are encoded
 
 const typedArray = Object.getPrototypeOf(Uint8Array.prototype);
 const kindOf = Object.getOwnPropertyDescriptor(typedArray, Symbol.toStringTag).get;
 const lengthOf = Object.getOwnPropertyDescriptor(typedArray, "length").get;
 const encoder = new TextEncoder();
-const decoder = new TextDecoder("utf-8", { ignoreBOM: true });
+const decoder = new TextDecoder("utf-8", { __proto__: null, fatal: false, ignoreBOM: true });
 
 function look() {
   octets = new Uint8Array(wasm.memory.buffer);
   numbers = new Int32Array(wasm.memory.buffer);
-  room = octets.subarray(first);
+  room = octets.subarray(first, first + ROOM);
 }
 
 export function start(module) {
@@ -44,7 +49,11 @@ export function ready() {
 // Makes room up to an address.
 export function reserve(end) {
   if (end <= octets.length) return;
-  wasm.memory.grow(Math.ceil((end - octets.length) / PAGE));
+  try {
+    wasm.memory.grow(Math.ceil((end - octets.length) / PAGE));
+  } catch {
+    throw new RangeError(`this text is too long: there is no memory for ${end - first} bytes`);
+  }
   look();
 }
 
@@ -60,8 +69,13 @@ function putBytes(bytes, address) {
 
 // Copies a string as UTF-8, with U+FFFD in place of a lone surrogate.
 export function putEncoded(text, address) {
-  reserve(address + 3 * text.length);
-  return encoder.encodeInto(text, address === first ? room : octets.subarray(address)).written;
+  const most = 3 * text.length;
+  reserve(address + most);
+  // no more than is needed: engines encode nothing into 2 GiB
+  const part = address === first && most <= ROOM ? room : octets.subarray(address, address + most);
+  const { read, written } = encoder.encodeInto(text, part);
+  if (read !== text.length) throw new RangeError(`this text is too long: ${read} of its ${text.length} units were encoded`);
+  return written;
 }
 
 // Copies a text to an address. Returns its length in bytes.
@@ -74,24 +88,45 @@ export function put(text, address) {
   return 1;
 }
 
-// A text in memory.
+// A text in memory, which is UTF-8. Where it is longer than a string can be, Node throws an error, and Chromium gives an
+// empty string; a unit of UTF-16 is at most three bytes.
 export function decoded(address, length) {
-  return decoder.decode(octets.subarray(address, address + length));
+  let text = "";
+  try {
+    text = decoder.decode(octets.subarray(address, address + length));
+  } catch {}
+  if (3 * text.length < length) {
+    throw new RangeError(`this text is too long: no string holds the ${length} bytes of the result`);
+  }
+  return text;
 }
 
-// What a function writes into its buffer. It is given numbers, texts and the buffer, in this order.
-export function written(name, texts, ...words) {
-  ready();
-  let end = first;
-  for (const text of texts) {
-    const length = put(text, end);
-    words.push(end, length);
-    end += length;
-  }
-  let length = wasm[name](...words, end, octets.length - end);
+// What a function writes into its buffer, after the texts in memory. It is given these words and the buffer.
+function writtenAt(end, name, ...words) {
+  let length = wasm[name](...words, end, octets.length - end) >>> 0;
   if (length > octets.length - end) {
     reserve(end + length);
-    length = wasm[name](...words, end, octets.length - end);
+    length = wasm[name](...words, end, octets.length - end) >>> 0;
   }
   return decoded(end, length);
+}
+
+// The same for the one text that is in memory.
+export function writtenOf(name, length) {
+  return writtenAt(first + length, name, first, length);
+}
+
+// The same for a text, or for a number and a text.
+export function written(name, text, ...numbers) {
+  ready();
+  const length = put(text, first);
+  return writtenAt(first + length, name, ...numbers, first, length);
+}
+
+// The same for two texts.
+export function writtenOfTwo(name, text, other) {
+  ready();
+  const second = first + put(text, first);
+  const length = put(other, second);
+  return writtenAt(second + length, name, first, second - first, second, length);
 }

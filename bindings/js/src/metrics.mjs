@@ -2,7 +2,7 @@
 
 import { TABLES } from "./generated.mjs";
 
-const valueOf = ([value, title, description]) => Object.freeze({ value, title, description });
+const valueOf = (row) => Object.freeze({ value: row[0], title: row[1], description: row[2] });
 
 // A modified metric has the values of its base metric, or others in their place, and X.
 function modified({ others = [] }, base) {
@@ -23,11 +23,13 @@ function typeOf(metric, group, base) {
 function tableOf(groups) {
   const known = new Map();
   for (const { group, metrics } of groups) {
-    for (const metric of metrics) known.set(metric.name, typeOf(metric, group, known.get(metric.of)));
+    // what a metric of the table lacks is not found in a prototype
+    const own = metrics.map((metric) => ({ __proto__: null, ...metric }));
+    for (const metric of own) known.set(metric.name, typeOf(metric, group, known.get(metric.of)));
   }
   return Object.freeze([...known.values()]);
 }
 
-const [v2, v3, v4] = ["2.0", "3.1", "4.0"].map((version) => tableOf(TABLES[version]));
+const v3 = tableOf(TABLES["3.1"]);
 
-export const metrics = Object.freeze({ "2.0": v2, "3.0": v3, "3.1": v3, "4.0": v4 });
+export const metrics = Object.freeze({ "2.0": tableOf(TABLES["2.0"]), "3.0": v3, "3.1": v3, "4.0": tableOf(TABLES["4.0"]) });

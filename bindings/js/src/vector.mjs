@@ -2,10 +2,10 @@
 
 import { CvssError, errorOf, errorOfMetrics, missingOf } from "./error.mjs";
 import { metrics } from "./metrics.mjs";
-import { field, first, numbers, put, ready, wasm, written } from "./memory.mjs";
+import { field, first, numbers, put, ready, wasm, written, writtenOf, writtenOfTwo } from "./memory.mjs";
 
 const VERSIONS = new Map([[20, "2.0"], [30, "3.0"], [31, "3.1"], [40, "4.0"]]);
-const NUMBERS = new Map([...VERSIONS].map(([number, version]) => [version, number]));
+const NUMBERS = new Map([...VERSIONS].map((pair) => [pair[1], pair[0]]));
 const SEVERITIES = ["none", "low", "medium", "high", "critical"];
 const NOMENCLATURES = ["CVSS-B", "CVSS-BE", "CVSS-BT", "CVSS-BTE"];
 // The numbers of the struct CvssScores of cvss.h.
@@ -20,13 +20,13 @@ const NOMENCLATURE = 7;
 const IS_COMPLETE = 8;
 
 const scoreOf = (tenths) => (tenths < 0 ? null : tenths / 10);
-const severityOf = (number) => SEVERITIES[number] ?? null;
+const severityOf = (number) => (number < 0 ? null : SEVERITIES[number]);
 
-// Whether a text denotes a vector; then its scores are in the field of numbers.
-function readScores(text) {
-  ready();
-  return wasm.cvss_scores(first, put(text, first), field) !== 0;
-}
+// Whether the text in memory denotes a vector; then its scores are in the field of numbers.
+const isRead = (length) => wasm.cvss_scores(first, length, field) !== 0;
+
+// An option that is given, and not one that is in a prototype.
+const isSet = (options, name) => options != null && Object.hasOwn(options, name) && Boolean(options[name]);
 
 function numberOf(version) {
   const number = NUMBERS.get(version);
@@ -34,12 +34,19 @@ function numberOf(version) {
   return number;
 }
 
+// Whether an object is a list, a map or the like. What other code has given to all objects does not count.
+function isIterable(object) {
+  const iterator = object[Symbol.iterator];
+  return iterator !== undefined && iterator !== Object.prototype[Symbol.iterator];
+}
+
 // Metrics as components joined by slashes.
 function componentsOf(metrics) {
-  if (metrics === null || typeof metrics !== "object" || Symbol.iterator in metrics) {
+  if (metrics === null || typeof metrics !== "object" || isIterable(metrics)) {
     throw new TypeError('metrics are an object of names and values, such as { E: "A" }');
   }
-  const components = Object.entries(metrics).map(([name, value]) => {
+  const components = Object.keys(metrics).map((name) => {
+    const value = metrics[name];
     if (typeof value !== "string") throw new TypeError(`the value of ${name} is a string, not ${typeof value}`);
     const component = `${name}:${value}`;
     if (component.includes("/")) throw errorOfMetrics(`invalid CVSS metric group component: \`${component}\``);
@@ -49,11 +56,16 @@ function componentsOf(metrics) {
 }
 
 export class Vector {
+  // a property, so that what compares objects by their properties tells vectors apart
+  source;
   #numbers;
   #text = null;
 
   constructor(text, options) {
-    if (!readScores(text)) throw errorOf(text);
+    ready();
+    // bytes may change at any time if another thread has them too, so they are copied once
+    const length = put(text, first);
+    if (!isRead(length)) throw errorOf(length);
     const own = field >> 2;
     this.#numbers = [
       numbers[own + VERSION],
@@ -66,18 +78,14 @@ export class Vector {
       numbers[own + NOMENCLATURE],
       numbers[own + IS_COMPLETE],
     ];
-    // a property, so that what compares objects by their properties tells vectors apart
-    const source = typeof text === "string" ? text : written("cvss_canonical", [text]);
-    if (new.target === Vector) {
-      this.source = source;
-      Object.freeze(this);
-    } else {
-      // a subclass may add fields
-      Object.defineProperty(this, "source", { value: source, enumerable: true });
-    }
-    if (options?.strict && !this.isComplete) {
+    this.source = typeof text === "string" ? text : writtenOf("cvss_canonical", length);
+    // a subclass may add fields
+    if (new.target === Vector) Object.freeze(this);
+    else Object.defineProperty(this, "source", { __proto__: null, writable: false, configurable: false });
+    if (isSet(options, "strict") && !this.isComplete) {
       const known = this.metrics;
-      throw missingOf(metrics[this.version].find(({ name, isMandatory }) => isMandatory && !(name in known)).name);
+      const isMissing = ({ name, isMandatory }) => isMandatory && !Object.hasOwn(known, name);
+      throw missingOf(metrics[this.version].find(isMissing).name);
     }
   }
 
@@ -93,13 +101,13 @@ export class Vector {
   static from(version, metrics) {
     const number = numberOf(version);
     const components = componentsOf(metrics);
-    const text = written("cvss_build", [components], number);
+    const text = written("cvss_build", components, number);
     if (text !== "") return new this(text);
-    throw errorOfMetrics(written("cvss_build_reason", [components], number));
+    throw errorOfMetrics(written("cvss_build_reason", components, number));
   }
 
   get text() {
-    return (this.#text ??= written("cvss_canonical", [this.source]));
+    return (this.#text ??= written("cvss_canonical", this.source));
   }
 
   get version() {
@@ -133,7 +141,8 @@ export class Vector {
   }
 
   get nomenclature() {
-    return NOMENCLATURES[this.#numbers[NOMENCLATURE]] ?? null;
+    const number = this.#numbers[NOMENCLATURE];
+    return number < 0 ? null : NOMENCLATURES[number];
   }
 
   get nomenclatureScores() {
@@ -146,41 +155,37 @@ export class Vector {
   }
 
   get metrics() {
-    const components = this.text.split("/");
-    if (this.version !== "2.0") components.shift();
-    const own = {};
-    for (const component of components) {
-      const colon = component.indexOf(":");
-      own[component.slice(0, colon)] = component.slice(colon + 1);
-    }
-    return Object.freeze(own);
+    const components = this.version === "2.0" ? this.text : this.text.slice("CVSS:3.1/".length);
+    // faster than entries, and no setter of a prototype is called
+    return Object.freeze(JSON.parse(`{"${components.replaceAll(":", '":"').replaceAll("/", '","')}"}`));
   }
 
   get described() {
     const table = metrics[this.version];
-    return Object.entries(this.metrics).map(([name, letters]) => {
+    const own = this.metrics;
+    return Object.keys(own).map((name) => {
       const metric = table.find((each) => each.name === name);
-      return { metric, value: metric.values.find(({ value }) => value === letters) };
+      return { metric, value: metric.values.find(({ value }) => value === own[name]) };
     });
   }
 
   replace(metrics) {
     const components = componentsOf(metrics);
-    const text = written("cvss_with", [this.text, components]);
+    const text = writtenOfTwo("cvss_with", this.text, components);
     if (text !== "") return new this.constructor(text);
-    throw errorOfMetrics(written("cvss_with_reason", [this.text, components]));
+    throw errorOfMetrics(writtenOfTwo("cvss_with_reason", this.text, components));
   }
 
   withoutUndefined() {
-    return new this.constructor(written("cvss_without_undefined", [this.text]));
+    return new this.constructor(written("cvss_without_undefined", this.text));
   }
 
   record() {
-    return JSON.parse(written("cvss_record", [this.text]));
+    return JSON.parse(written("cvss_record", this.text));
   }
 
   explain() {
-    return JSON.parse(written("cvss_account", [this.text]));
+    return JSON.parse(written("cvss_account", this.text));
   }
 
   toString() {
@@ -193,7 +198,8 @@ export class Vector {
 }
 
 export function score(text) {
-  return readScores(text) ? numbers[(field >> 2) + BASE] / 10 : null;
+  ready();
+  return isRead(put(text, first)) ? numbers[(field >> 2) + BASE] / 10 : null;
 }
 
 // The rating of a score, which has one decimal.
@@ -209,5 +215,5 @@ export function rating(version, score) {
 }
 
 export function answer(text) {
-  return written("cvss_answer", [text]);
+  return written("cvss_answer", text);
 }

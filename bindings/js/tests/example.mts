@@ -11,6 +11,7 @@ const made: Vector = Vector.from("4.0", vector.metrics);
 
 const parsed = Vector.parse("CVSS:3.1/AV:Q");
 const said: string = parsed.ok ? parsed.vector.text : `${parsed.error.kind} ${parsed.error.metric} ${parsed.error.value}`;
+const told: string = parsed.ok ? parsed.vector.toJSON() : parsed.error.toJSON().message;
 
 function textOf(found: Found): string {
   return found.vector ? found.vector.text : found.error.message;
@@ -45,7 +46,7 @@ export async function start(): Promise<string> {
   await init();
   await init(wasmModule());
   await init(new Uint8Array(8).buffer);
-  return [severity, tenths, nomenclature, temporal, changed, made, said, texts, bytes, answer("x"), rating("3.1", 7.5), version].join();
+  return [severity, tenths, nomenclature, temporal, changed, made, said, told, texts, bytes, answer("x"), rating("3.1", 7.5), version].join();
 }
 
 export { isUrgent, titles, urgencies };

@@ -20,6 +20,10 @@ function checkSizes() {
     // what differs is not printed
     assert(error.value === text && error.message === `invalid CVSS metric group component: \`${text}\``);
   }
+  // about where a string no longer fits into the memory in which most are encoded
+  for (const size of [10_921, 10_922, 10_923, 16_384, 16_385, 21_845, 21_846, 32_768, 32_769, 65_536]) {
+    for (const letter of ["x", "é", "€"]) assert(Vector.parse(letter.repeat(size)).error.value === letter.repeat(size), `${size}`);
+  }
   assert.deepEqual([...find(wide + V3)].map(({ index }) => index), [1 << 20]);
   const many = [...find(`${V3}, `.repeat(100_000))];
   assert.equal(many.length, 100_000);

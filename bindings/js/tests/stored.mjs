@@ -50,7 +50,7 @@ const MARKS = {
   without: (text) => Vector.parse(text).vector?.withoutUndefined().text ?? "-",
   record: (text) => Vector.parse(text).vector?.record() ?? "-",
   account: (text) => Vector.parse(text).vector?.explain() ?? "-",
-  value: (text) => Vector.parse(text).error?.value ?? "-",
+  value: (text) => Vector.parse(text).error?.value || "-",
   groups: (text) => Object.values(Vector.parse(text).vector?.nomenclatureScores ?? {}).map((own) => Math.round(10 * own)).join(" ") || "-",
   with: (text) => {
     const [vector, metrics] = String(text).split(/ (.*)/s);

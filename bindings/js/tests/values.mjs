@@ -34,7 +34,31 @@ function checkUnicode() {
   // a byte-order mark is quoted too
   rejects(() => new Vector("CVSS:3.1/\ufeffAV:N"), "unknown metric", null, "\ufeffAV", "unknown CVSS metric name: `\ufeffAV`");
   rejects(() => new Vector("CVSS:3.1/AV:q"), "invalid value", "AV", "Q", "invalid CVSSv3 AV (Attack Vector) metric: `Q`");
-  rejects(() => new Vector(""), "invalid component", null, null, "invalid CVSS metric group component: ``");
+  rejects(() => new Vector(""), "invalid component", null, "", "invalid CVSS metric group component: ``");
+}
+
+// What the message quotes may be empty, and is null where it quotes nothing. As JSON an error has its message too.
+function checkErrors() {
+  const rows = [
+    ["AV:N/", "invalid component", null, "", "invalid CVSS metric group component: ``"],
+    [`:${V3}`, "invalid prefix", null, "", "invalid CVSS string prefix: ``"],
+    ["CVSS:3.1/:N", "unknown metric", null, "", "unknown CVSS metric name: ``"],
+    ["CVSS:3.1/AV:", "invalid value", "AV", "", "invalid CVSSv3 AV (Attack Vector) metric: ``"],
+    ["CVSS:9.9/AV:N", "unsupported version", null, "9.9", "unsupported CVSS version: 9.9"],
+    ["AV:N/AV:N", "duplicate metric", "AV", null, "duplicate CVSSv2 AV (Access Vector) metric"],
+    [TEXT.slice(0, -4), "missing metric", "A", null, "missing mandatory CVSSv2 A (Availability Impact) metric"],
+  ];
+  for (const [text, kind, metric, value, message] of rows) {
+    rejects(() => new Vector(text), kind, metric, value, message);
+    const { error } = Vector.parse(text);
+    assert.deepEqual(JSON.parse(JSON.stringify({ error })), { error: { kind, metric, value, message } });
+  }
+  const { error } = Vector.parse("x");
+  const line = { ...JSON.parse(JSON.stringify(Object.assign(error, { line: 3 }))) };
+  assert.deepEqual([line.line, line.message], [3, error.message]);
+  assert.deepEqual(Object.keys(error), ["kind", "metric", "value", "line"]);
+  const made = JSON.stringify(new CvssError("words", "invalid value"));
+  assert.deepEqual(JSON.parse(made), { kind: "invalid value", metric: null, value: null, message: "words" });
 }
 
 function checkVectors() {
@@ -60,6 +84,10 @@ function checkVectors() {
   }
   assert.deepEqual([new Accessed(V3).text, new Accessed(V3).source], [V3, V3]);
   assert.deepEqual(Vector.parse(V3), { ok: true, vector: new Vector(V3) });
+  // an option is a property of the object itself
+  for (const [options, ok] of [[{ strict: true }, false], [Object.create({ strict: true }), true], [null, true], [{ strict: 0 }, true]]) {
+    assert.equal(Vector.parse("CVSS:3.1/AV:N", options).ok, ok);
+  }
   assert.equal(Vector.parse("x").error.kind, "invalid component");
 }
 
@@ -89,6 +117,8 @@ function checkReplacing() {
     [{ E: "A", e: "P" }, "duplicate metric", "E", null, "duplicate CVSSv4 E (Exploit Maturity) metric"],
     [{ E: "A:N" }, "invalid component", null, "E:A:N", "invalid CVSS metric group component: `E:A:N`"],
     [{ E: "A/MSI:S" }, "invalid component", null, "E:A/MSI:S", "invalid CVSS metric group component: `E:A/MSI:S`"],
+    [{ E: "" }, "invalid value", "E", "", "invalid CVSSv4 E (Exploit Maturity) metric: ``"],
+    [{ "": "N" }, "unknown metric", null, "", "unknown CVSS metric name: ``"],
     [{ E: "\ud800" }, "not UTF-8", null, null, "not UTF-8"],
   ];
   for (const [metrics, ...expected] of rows) {
@@ -100,7 +130,7 @@ function checkReplacing() {
   }
   rejects(() => Vector.from("4.0", { AV: "N" }), "missing metric", "AC", null,
     "missing mandatory CVSSv4 AC (Attack Complexity) metric");
-  rejects(() => Vector.from("3.1", {}), "invalid component", null, null, "invalid CVSS metric group component: ``");
+  rejects(() => Vector.from("3.1", {}), "invalid component", null, "", "invalid CVSS metric group component: ``");
   for (const other of [null, undefined, 5, "E:A", ["E:A"], new Map([["E", "A"]])]) {
     assert.throws(() => new Vector(V4).replace(other), TypeError);
     assert.throws(() => Vector.from("4.0", other), TypeError);
@@ -167,6 +197,7 @@ function checkMetrics() {
 
 checkTexts();
 checkUnicode();
+checkErrors();
 checkVectors();
 checkChanges();
 checkReplacing();

@@ -10,7 +10,7 @@ import ctypes
 import os
 import struct
 from pathlib import Path
-from typing import Any, Callable, Iterator, List, Optional, Tuple, Union
+from typing import Any, Callable, Iterator, List, Optional, Tuple, Union, cast
 
 Text = Union[str, bytes, bytearray, memoryview]
 
@@ -136,6 +136,11 @@ def bytes_of(text: Text) -> bytes:
     if isinstance(text, (bytes, bytearray, memoryview)):
         return memoryview(text).tobytes()
     raise TypeError(f"a text is str, bytes, bytearray or memoryview, and not {type(text).__name__}")
+
+
+def text_or_empty(value: object) -> Text:
+    """A value if it is a text, and otherwise the empty text, which is no vector."""
+    return cast(Text, value) if issubclass(type(value), (str, bytes, bytearray, memoryview)) else ""
 
 
 # What a call writes: of cvss_read a struct, and of each a text; and the last arguments, which point to them.

@@ -7,7 +7,7 @@ import re
 from collections import abc
 from functools import total_ordering
 from types import MemberDescriptorType
-from typing import Any, Dict, Iterable, List, Mapping, NamedTuple, Optional, Tuple, Type, TypeVar
+from typing import Any, Dict, Iterable, List, Mapping, NamedTuple, Optional, Tuple, Type, TypeVar, cast
 
 from . import _library, _words
 from ._error import CvssError
@@ -66,7 +66,7 @@ class Vector:
     True
     """
 
-    __slots__ = ("_code", "_decoded", "_numbers")
+    __slots__ = ("_code", "_decoded", "_numbers", "__weakref__")
 
     _code: bytes
     _decoded: Optional[str]
@@ -340,6 +340,15 @@ class Vector:
             return (Vector, (self._text,))
         return (self._copied, (self._text,), _state_of_subclass(self))
 
+    def __setstate__(self, state: Any) -> None:
+        """Sets the attributes of a subclass, and parses the text again: a pickle cannot bring scores that are not its text's."""
+        members, slots = state if isinstance(state, tuple) else (state, None)
+        if members:
+            self.__dict__.update(members)
+        for name, value in (slots or {}).items():
+            setattr(self, name, value)
+        Vector.__init__(self, self._code)
+
     def __eq__(self, other: object) -> bool:
         if not isinstance(other, Vector):
             return NotImplemented
@@ -424,7 +433,7 @@ def answer(text: Text) -> str:
     return _library.answer(_library.bytes_of(text))
 
 
-def _check_many(texts: Iterable[Text], for_one: str) -> None:
+def _check_many(texts: Iterable[object], for_one: str) -> None:
     """A single text is a `TypeError`, which names the call for it."""
     if isinstance(texts, (str, bytes, bytearray, memoryview)):
         told = type(texts).__name__
@@ -456,13 +465,19 @@ def answers(texts: Iterable[Text]) -> List[str]:
     return _library.answers(lines).decode("utf-8", "replace").split("\n")[:-1]
 
 
-def scores(texts: Iterable[Text]) -> List[Optional[float]]:
-    """The score of each text, and None for one that is rejected, in one call of the library.
+def scores(texts: Iterable[object]) -> List[Optional[float]]:
+    """The score of each text, in one call of the library. It is None for a text that is rejected, and for what is no text,
+    such as the NaN or None of a missing value in a column of pandas.
 
     A single text is a `TypeError`: use `score`.
 
-    >>> scores(["AV:N/AC:L/Au:N/C:N/I:N/A:C", "AV:N"])
-    [7.8, None]
+    >>> scores(["AV:N/AC:L/Au:N/C:N/I:N/A:C", "AV:N", float("nan")])
+    [7.8, None, None]
     """
     _check_many(texts, "score")
-    return [None if line.startswith("error: ") else float(line.split(" ")[1]) for line in answers(texts)]
+    given = list(texts)
+    try:
+        lines = answers(cast(List[Text], given))
+    except TypeError:
+        lines = answers([_library.text_or_empty(text) for text in given])
+    return [None if line.startswith("error: ") else float(line.split(" ")[1]) for line in lines]
