@@ -33,13 +33,25 @@ _PREFERENCES = {
     "dom.disable_open_during_load": False,
     "security.sandbox.content.level": 0,
 }
-_SECONDS = 60
+# How long an answer may take. A machine that does other work at the same time has been seen to take a minute to start.
+_SECONDS = 300
+_STARTS = 3
 
 
 class Firefox:
     """A browser that runs scripts in a page, and presses keys."""
 
     def __init__(self, command: str) -> None:
+        for start in range(1, _STARTS + 1):
+            try:
+                self._start(command)
+                return
+            except (OSError, AssertionError) as error:
+                if start == _STARTS:
+                    raise
+                print(f"Page: Firefox is started again: {error}", flush=True)
+
+    def _start(self, command: str) -> None:
         self._profile = Path(tempfile.mkdtemp(prefix="calculator-firefox-"))
         lines = [f'user_pref("{name}", {json.dumps(value)});\n' for name, value in _PREFERENCES.items()]
         (self._profile / "user.js").write_text("".join(lines))
@@ -54,6 +66,7 @@ class Firefox:
             self._file = self._socket.makefile("rb")
             self._read()
             self.send("WebDriver:NewSession", {"capabilities": {"alwaysMatch": {"acceptInsecureCerts": False}}})
+            self.send("WebDriver:SetTimeouts", {"script": 120_000})
         except BaseException:
             self._end()
             raise
