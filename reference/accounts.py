@@ -16,6 +16,8 @@ from math import floor
 
 import complete
 import reference
+import scores
+import setting
 import v2
 import v3
 import v4
@@ -60,7 +62,7 @@ def account_of_v2(vector):
 
 
 def scored(number, tenths):
-    """A number, the score that it is rounded to, and its rating."""
+    """A number, the score that it is rounded to, and its severity."""
     return {"number": number, "score": in_tenths(tenths), "severity": v3.severity(tenths)}
 
 
@@ -99,17 +101,17 @@ def digits(classes):
 
 
 def group_of_v4(name, own, macro, lower):
-    """One group of metrics: its class, and what is taken on the way to the next lower one."""
+    """One group of metrics: its class, and its share, which is subtracted on the way to the next lower one."""
     group = GROUPS[name]
     distance, depth = v4.distance(group, v4.values_of(group, own)) if group else (0, 1)
     classes = [macro[int(letter) - 1] for letter in name.replace("EQ", "").split("+")]
     told = {"group": name, "class": digits(classes), "distance": distance, "depth": depth,
-            "next": None, "nextValue": None, "gap": None, "taken": None}
+            "next": None, "nextValue": None, "gap": None, "share": None}
     if group in lower:
         below = v4.value_of(*lower[group])
         gap = in_tenths(v4.value_of(*macro) - below)
         told |= {"next": digits(lower[group]), "nextValue": in_tenths(below), "gap": gap,
-                 "taken": gap * distance / depth}
+                 "share": gap * distance / depth}
     return told
 
 
@@ -118,32 +120,30 @@ def account_of_v4(vector):
     macro = v4.macro_vector(own)
     lower = v4.lower_classes(macro)
     groups = [group_of_v4(name, own, macro, lower) for name in GROUPS] if v4.has_impact(own) else []
-    taken = [group["taken"] for group in groups if group["taken"] is not None]
+    shares = [group["share"] for group in groups if group["share"] is not None]
     return {
         "nomenclature": v4.nomenclature(vector),
         "effective": {name: own[name] for name in EFFECTIVE},
         "macroVector": digits(macro),
         "value": in_tenths(v4.value_of(*macro)),
         "groups": groups,
-        "mean": Fraction(sum(taken), max(1, len(taken))),
+        "mean": Fraction(sum(shares), max(1, len(shares))),
         "number": v4.number(vector) / 10,
     }
 
 
 def account(text):
-    """The account of a text that is accepted, its decimals exact."""
-    canonical, score, severity = reference.read(text)
-    pieces = [piece.split(":") for piece in canonical.split("/")]
-    version = pieces.pop(0)[1] if pieces[0][0] == "CVSS" else "2.0"
-    vector = dict(pieces)
-    if version == "2.0":
+    """The explanation of a text that is accepted, its decimals exact."""
+    version, vector = setting.read(text)
+    score, severity = scores.overall(version, vector)
+    if version == 20:
         told = account_of_v2(vector)
-    elif version == "4.0":
+    elif version == 40:
         told = account_of_v4(vector)
     else:
-        told = account_of_v3(int(version[2:]), vector)
-    return {"vector": canonical, "version": version, "score": in_tenths(score),
-            "severity": severity, **told}
+        told = account_of_v3(version % 10, vector)
+    return {"vector": reference.read(text)[0], "version": f"{version // 10}.{version % 10}",
+            "score": in_tenths(score), "severity": severity, **told}
 
 
 def answer(number, line, allow_incomplete=True):
@@ -156,7 +156,7 @@ def answer(number, line, allow_incomplete=True):
         return {"line": number, **numbers}
     except reference.Refused as reason:
         given = {} if reason.kind == "encoding" else {"given": line.decode("utf-8")}
-        return {"line": number, **given, "refused": str(reason)}
+        return {"line": number, **given, "error": str(reason)}
 
 
 def is_exact(told):

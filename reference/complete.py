@@ -1,13 +1,14 @@
 #!/usr/bin/env python3
-"""A second implementation of what `cvss score` and `cvss set` answer, written from the public standards alone.
+"""A second implementation of what `cvss score` and `cvss set` print, written from the public standards alone.
 
-Reads lines on standard input and writes the answer to each on standard output.
+Reads lines on standard input and writes the score line of each on standard output.
 
-usage: reference/complete.py [--allow-incomplete] | METRIC:VALUE..
+usage: reference/complete.py [--allow-incomplete] [--base] [METRIC:VALUE..]
 """
 import sys
 
 import reference
+import scores
 import setting
 import v3
 from reference import Refused
@@ -20,8 +21,8 @@ def find_missing(text):
         reference.find_missing("v3", v3.METRICS, v3.BASE, vector)
 
 
-def answer(line, metrics=None, allow_incomplete=False):
-    """The answer to a line, whose vector may have metrics set."""
+def answer(line, metrics=None, allow_incomplete=False, base=False):
+    """The score line of a line, whose vector may have metrics set: with the score of all metrics, or the base score."""
     try:
         if metrics is not None:
             text = setting.with_metrics(line, metrics)
@@ -32,15 +33,18 @@ def answer(line, metrics=None, allow_incomplete=False):
             find_missing(text)
     except Refused as reason:
         return f"error: {str(reason).split(': ', 1)[1] if str(reason).startswith('metric ') else reason}"
-    return reference.answer(text.encode("utf-8"))
+    version, vector = setting.read(text)
+    score, severity = (scores.base if base else scores.overall)(version, vector)
+    return f"{reference.read(text)[0]} {score // 10}.{score % 10} {severity}"
 
 
 def main():
-    given = sys.argv[1:]
-    allow_incomplete = given == ["--allow-incomplete"]
-    metrics = None if allow_incomplete or not given else "/".join(given).encode("utf-8")
+    flags = {word for word in sys.argv[1:] if word in ("--allow-incomplete", "--base")}
+    given = [word for word in sys.argv[1:] if word not in flags]
+    metrics = "/".join(given).encode("utf-8") if given else None
     for line in reference.lines_of(sys.stdin.buffer.read()):
-        sys.stdout.buffer.write(answer(line, metrics, allow_incomplete).encode("utf-8") + b"\n")
+        text = answer(line, metrics, "--allow-incomplete" in flags, "--base" in flags)
+        sys.stdout.buffer.write(text.encode("utf-8") + b"\n")
 
 
 if __name__ == "__main__":

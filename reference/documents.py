@@ -1,5 +1,5 @@
 #!/usr/bin/env python3
-"""A second implementation of what `cvss audit` answers, written from the public schemas alone.
+"""A second implementation of what `cvss audit` prints, written from the public schemas alone.
 
 Reads JSON documents, one per line of standard input, or as one document with `--document`, and writes
 the answer to each: a JSON object for each location of a vector. It shares no code with the crates: its
@@ -16,6 +16,7 @@ from math import floor, isinf
 from pathlib import Path
 
 import reference
+import scores
 import setting
 import v2
 import v3
@@ -43,11 +44,12 @@ DEEPEST = 127
 
 
 class Vector:
-    """A vector with its scores in tenths."""
+    """A vector with its scores in tenths: `score` as a record says it, `overall` with all metrics in the vector."""
 
     def __init__(self, text):
         self.version, self.metrics = setting.read(text)
-        self.canonical, self.score, self.severity = reference.read(text)
+        self.canonical, self.score, _ = reference.read(text)
+        self.overall, self.severity = scores.overall(self.version, self.metrics)
         self.groups = {"base": self.score}
         if self.version == 20:
             own = v2.scores(self.metrics)
@@ -56,7 +58,7 @@ class Vector:
         if self.version < 40:
             self.groups = dict(zip(("base", "temporal", "environmental"), own))
 
-    def rating(self, tenths):
+    def severity_of(self, tenths):
         return (v2 if self.version == 20 else v3).severity(tenths)
 
     def missing(self):
@@ -86,7 +88,7 @@ class Vector:
         for group, tenths in self.groups.items():
             members[f"{group}Score"] = tenths / 10
             if self.version != 20:
-                members[f"{group}Severity"] = self.rating(tenths).upper()
+                members[f"{group}Severity"] = self.severity_of(tenths).upper()
         return members
 
 
@@ -124,7 +126,7 @@ def number_difference(holder, member, tenths):
 
 def severity_difference(holder, member, vector):
     if holder.get(member) != "unknown":
-        yield from text_difference(holder, member, vector.rating(vector.score))
+        yield from text_difference(holder, member, vector.severity_of(vector.score))
 
 
 def of_record(vector, holder):
@@ -198,7 +200,7 @@ def of_parent(vector, name, parent):
         yield difference(name, name, VERSION_NAMES[vector.version])
     if name == "cvssData":
         if vector.version == 20:
-            yield from text_difference(parent, "baseSeverity", vector.rating(vector.score).upper())
+            yield from text_difference(parent, "baseSeverity", vector.severity_of(vector.score).upper())
         for member, tenths in vector.sub_scores().items():
             yield from number_difference(parent, member, tenths)
 
@@ -232,9 +234,10 @@ def locations(value, at="", own_id=None, name=None, parent=None):
 
 
 def scores_of(vector):
+    score = {"score": vector.overall / 10}
     if vector.version == 40:
-        return {"nomenclature": v4.nomenclature(vector.metrics), "score": vector.score / 10}
-    return {group: tenths / 10 for group, tenths in vector.groups.items()}
+        return {"nomenclature": v4.nomenclature(vector.metrics)} | score
+    return {group: tenths / 10 for group, tenths in vector.groups.items()} | score
 
 
 def answer_location(source, location, allow_incomplete):
@@ -244,12 +247,12 @@ def answer_location(source, location, allow_incomplete):
     if own_id is not None:
         members["id"] = own_id
     if not isinstance(text, str):
-        return {**members, "refused": "not a string"}, False
+        return {**members, "error": "not a string"}, False
     members["given"] = text
     try:
         vector = vector_of(text)
     except reference.Refused as reason:
-        return {**members, "refused": str(reason)}, False
+        return {**members, "error": str(reason)}, False
     members |= {"vector": vector.canonical, "scores": scores_of(vector), "severity": vector.severity}
     missing, differs = vector.missing(), disagreeing(vector)
     if missing:
@@ -305,9 +308,9 @@ def answer(source, text, allow_incomplete=False):
     try:
         document = parsed(text.decode("utf-8"))
     except UnicodeDecodeError:
-        return [{**source, "refused": "not UTF-8"}], False
+        return [{**source, "error": "not UTF-8"}], False
     except ValueError:
-        return [{**source, "refused": "not JSON"}], False
+        return [{**source, "error": "not JSON"}], False
     answers = [answer_location(source, each, allow_incomplete) for each in locations(document)]
     return [members for members, _ in answers], all(agree for _, agree in answers)
 
@@ -315,7 +318,7 @@ def answer(source, text, allow_incomplete=False):
 def is_by_line(text):
     """Whether a file has one document a line: its first line that is not blank is one, or there is no such line."""
     first = text.lstrip(b" \t\r\n").split(b"\n")[0]
-    return not first or answer({}, first)[0] not in ([{"refused": "not UTF-8"}], [{"refused": "not JSON"}])
+    return not first or answer({}, first)[0] not in ([{"error": "not UTF-8"}], [{"error": "not JSON"}])
 
 
 def main():

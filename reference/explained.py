@@ -97,8 +97,8 @@ def row(title, *parts):
     return [f"  {title:<36}", *parts]
 
 
-def score_row(title, scored, rating=""):
-    return row(title, Fraction(scored), f" {rating}" if rating else "")
+def score_row(title, scored, severity=""):
+    return row(title, Fraction(scored), f" {severity}" if severity else "")
 
 
 def lines_of_v2(vector):
@@ -155,7 +155,7 @@ def group_line(group):
     distance = f"distance {group['distance']} of {group['depth']}, "
     if group["next"] is None:
         return row(title, distance + "no lower level")
-    return row(title, distance + "gap ", group["gap"], f" to {group['next']}, share ", group["taken"])
+    return row(title, distance + "gap ", group["gap"], f" to {group['next']}, share ", group["share"])
 
 
 def lines_of_v4(vector):
@@ -175,11 +175,9 @@ def lines_of_v4(vector):
 
 
 def explanation(line):
-    """The lines that explain the score of a text that is accepted."""
-    text = reference.text_of(line)
-    canonical, score, severity = reference.read(text)
-    version, vector = setting.read(text)
-    heading = [f"{canonical} {score / 10:.1f} {severity}"]
+    """The lines that explain the scores of a text that is accepted, after its score line."""
+    version, vector = setting.read(reference.text_of(line))
+    heading = [complete.answer(line, allow_incomplete=True)]
     if version == 20:
         return [heading, *lines_of_v2(vector)]
     return [heading, *(lines_of_v4(vector) if version == 40 else lines_of_v3(version - 30, vector))]

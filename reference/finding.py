@@ -2,10 +2,10 @@
 """Finds the vectors in lines of any text, with the implementation in reference.py.
 
 Reads lines on standard input, and writes on standard output for each match the line's number, its
-column in bytes, both from 1, and the answer to it, as `cvss find` does. It shares no code with the
+column in bytes, both from 1, and its score line, as `cvss find` does. It shares no code with the
 crates: its answers are expected values for them.
 
-usage: reference/finding.py [--allow-incomplete] < TEXT
+usage: reference/finding.py [--allow-incomplete] [--base] < TEXT
 """
 import re
 import sys
@@ -70,15 +70,15 @@ def matches(line, allow_incomplete=False):
         yield place, whole if cut else mention
 
 
-def reported(line, allow_incomplete=False):
-    """The offset and the answer of each match in a line."""
+def reported(line, allow_incomplete=False, base=False):
+    """The offset and the score line of each match in a line."""
     for place, match in matches(line, allow_incomplete):
-        yield place, complete.answer(decoded(match), allow_incomplete=allow_incomplete)
+        yield place, complete.answer(decoded(match), allow_incomplete=allow_incomplete, base=base)
 
 
-def annotated(line, is_all=False, allow_incomplete=False):
-    """A line with a tab and the answer of its first match after it, or of each."""
-    fields = [answer.encode("utf-8") for _, answer in reported(line, allow_incomplete)]
+def annotated(line, is_all=False, allow_incomplete=False, base=False):
+    """A line with a tab and the score line of its first match after it, or of each."""
+    fields = [answer.encode("utf-8") for _, answer in reported(line, allow_incomplete, base)]
     return b"\t".join([line, *(fields if is_all else fields[:1])])
 
 
@@ -90,16 +90,15 @@ def objects(number, line, allow_incomplete=False, file=None):
         yield ({} if file is None else {"file": file}) | {"line": number, "column": place + 1, "text": match} | of_score
 
 
-def answers(data, allow_incomplete=False):
+def answers(data, allow_incomplete=False, base=False):
     """What is written for these lines."""
     for number, line in enumerate(reference.lines_of(data), 1):
-        for place, answer in reported(line, allow_incomplete):
+        for place, answer in reported(line, allow_incomplete, base):
             yield f"{number}:{place + 1} {answer}\n"
 
 
 def main():
-    allow_incomplete = sys.argv[1:] == ["--allow-incomplete"]
-    for answer in answers(sys.stdin.buffer.read(), allow_incomplete):
+    for answer in answers(sys.stdin.buffer.read(), "--allow-incomplete" in sys.argv, "--base" in sys.argv):
         sys.stdout.buffer.write(answer.encode("utf-8"))
 
 

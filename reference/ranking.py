@@ -1,7 +1,7 @@
 #!/usr/bin/env python3
-"""A second implementation of what `cvss triage` answers, written from the public standards alone.
+"""A second implementation of what `cvss triage` prints, written from the public standards alone.
 
-usage: reference/ranking.py [--set METRIC:VALUE].. [--profile FILE].. [--keep-going] [--allow-incomplete] [FILE]..
+usage: reference/ranking.py [--set METRIC:VALUE].. [--profile FILE].. [--keep-going] [--base] [--allow-incomplete] [FILE]..
 """
 import sys
 
@@ -9,32 +9,13 @@ import complete
 import finding
 import reference
 import setting
-import v2
-import v3
-import v4
 from reference import Refused
+from scores import base as base_score, overall
 
-TEMPORAL = ("E", "RL", "RC")
-ENVIRONMENTAL = {2: ("CDP", "TD", "CR", "IR", "AR"),
-                 3: ("CR", "IR", "AR", "MAV", "MAC", "MPR", "MUI", "MS", "MC", "MI", "MA")}
 # A vector of each version, by the number of its family.
 EXAMPLES = {2: b"AV:N/AC:L/Au:N/C:N/I:N/A:N", 3: b"CVSS:3.1/AV:N",
             4: b"CVSS:4.0/AV:N/AC:L/AT:N/PR:N/UI:N/VC:N/VI:N/VA:N/SC:N/SI:N/SA:N"}
 PREFIXES = {b"CVSS:4.0/": 4, b"CVSS:3.1/": 3, b"CVSS:3.0/": 3}
-
-
-def overall(version, vector):
-    """The score in tenths that counts all defined metrics of the vector, and its rating."""
-    if version == 40:
-        score = v4.score(vector)
-        return score, v3.severity(score)
-    defined = {name for name, value in vector.items() if value not in ("X", "ND")}
-    group = 2 if defined & set(ENVIRONMENTAL[version // 10]) else 1 if defined & set(TEMPORAL) else 0
-    if version == 20:
-        score = v2.scores(vector)[group]
-        return score, v2.severity(score)
-    score = (v3.base, v3.temporal, v3.environmental)[group](version % 10, vector)
-    return score, v3.severity(score)
 
 
 def family(text):
@@ -65,14 +46,14 @@ def vector_of(line, allow_incomplete):
     if not found:
         raise Refused("none", "no vector")
     if len(found) > 1:
-        raise Refused("several", "several vectors")
+        raise Refused("several", "more than one vector on this line")
     canonical = reference.read(reference.text_of(found[0][1]))[0]
     if not allow_incomplete:
         complete.find_missing(canonical)
     return canonical
 
 
-def rank(lines, overrides, allow_incomplete):
+def rank(lines, overrides, allow_incomplete, base=False):
     """The rows of the lines in their order, and the lines that have none with their indices."""
     rows, bad = [], []
     for index, line in enumerate(lines):
@@ -83,7 +64,7 @@ def rank(lines, overrides, allow_incomplete):
             continue
         for given, metrics in overrides:
             text = holds(given, metrics, text) or text
-        score, severity = overall(*setting.read(text))
+        score, severity = (base_score if base else overall)(*setting.read(text))
         rows.append((-score, line, severity, text))
     return sorted(rows), bad
 
@@ -114,11 +95,11 @@ def overrides_of(settings, read):
     """Each override with what is reported of it if no vector takes it."""
     for kind, word in settings:
         if kind == b"--set":
-            yield b"not a metric of any version: " + word, (None, word)
+            yield b"no CVSS version has " + word, (None, word)
             continue
         for number, line in enumerate(reference.lines_of(read(word)), 1):
             if line.strip(b" \t"):
-                yield word + b": line %d: not a metric of any version: " % number + line, override(line)
+                yield word + b": line %d: no CVSS version has " % number + line, override(line)
 
 
 def run(words, read):
@@ -134,7 +115,7 @@ def run(words, read):
         front = name + b": " if len(operands) > 1 else b""
         places += [front + b"line %d: " % number for number in range(1, len(own) + 1)]
         lines += own
-    rows, bad = rank(lines, [override for _, override in overrides], b"--allow-incomplete" in flags)
+    rows, bad = rank(lines, [override for _, override in overrides], b"--allow-incomplete" in flags, b"--base" in flags)
     reports = b"".join(b"cvss: " + places[index] + reason.encode("utf-8") + b"\n" for index, reason in bad)
     shown = rows if not bad or b"--keep-going" in flags else []
     return int(bool(bad)), b"".join(map(row_text, shown)), reports

@@ -1,5 +1,5 @@
 #!/usr/bin/env python3
-"""A second implementation of what `cvss score --tsv` and `cvss score --json` answer, written from the public standards
+"""A second implementation of what `cvss score --tsv` and `cvss score --json` print, written from the public standards
 alone.
 
 Reads lines on standard input and writes a row for each on standard output, without the header.
@@ -22,9 +22,9 @@ ESCAPES = str.maketrans({"\t": "\\t", "\n": "\\n", "\r": "\\r", "\\": "\\\\"})
 
 
 def scores_of(version, vector):
-    """The base, temporal and environmental score in tenths, of the versions that have them."""
+    """The base, temporal and environmental score in tenths; of v4.0 the score of CVSS-B alone."""
     if version == 40:
-        return [None] * 3
+        return v4.score_by(vector, "CVSS-B"), None, None
     return v2.scores(vector) if version == 20 else v3.scores(version - 30, vector)
 
 

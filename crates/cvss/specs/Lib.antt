@@ -9,13 +9,19 @@ pub mod private
 pub use Rattle.cvss_vector.specs.Answers
 pub use Rattle.cvss_vector.specs.Bytes
 pub use Rattle.cvss_vector.specs.Dispatch
+pub use Rattle.cvss_vector.specs.Evaluation
 pub use Rattle.cvss_vector.specs.MetricTypes
 pub use Rattle.cvss_vector.specs.MetricsLeft
 pub use Rattle.cvss_vector.specs.Published
+pub use Rattle.cvss_vector.specs.Scores
 pub use Rattle.cvss_vector.specs.declared.vector.Cvss as CvssType
 pub use Rattle.cvss_vector.specs.declared.bytes_error.BytesError as BytesErrorType
 pub use Rattle.cvss_vector.specs.declared.published.Bounds as BoundsType
 pub use Rattle.cvss_vector.specs.declared.published.Published as PublishedType
+pub use Rattle.cvss_vector.specs.declared.evaluation.Evaluation as EvaluationType
+pub use Rattle.cvss_vector.specs.declared.evaluation.Rated as RatedType
+pub use Rattle.cvss_vector.specs.declared.group.Group as GroupType
+pub use Rattle.cvss_vector.specs.declared.scoring.Scoring as ScoringType
 pub use Rattle.cvss_vector.specs.declared.metric_type.MetricType as MetricTypeAny
 pub use Rattle.cvss_base.specs.Equality
 pub use Rattle.cvss_base.specs.ErrorText

@@ -9,21 +9,22 @@ ghost use Rattle.cvss.specs.laws.JsonErrors.{ReportTheSame};
 
 use crate::json::JsonError;
 use crate::{
-    Bounds, BytesError, Cvss, Error, Message, MetricType, OneDecimal, Published, ReadError,
-    Refusal, Segment, SetError, Version, v2, v3, v4,
+    Bounds, BytesError, Cvss, Error, Evaluation, Group, Message, MetricType, OneDecimal, Published,
+    Rated, ReadError, Refusal, Scoring, Segment, SetError, Version, v2, v3, v4,
 };
 pub use cvss_laws::any::{
     errors_print_their_reasons, scores_are_unique, texts_denote_one_vector,
     texts_have_one_first_refusal,
 };
 
-/// Two vectors of any version, two metrics, what is published of two vectors, or two counts to be
-/// printed, are equal exactly if they are one value, and two errors exactly if they say the same.
+/// Two vectors of any version, two metrics, what is published of two vectors, two choices of a score, or
+/// two counts to be printed, are equal exactly if they are one value, and two errors exactly if they say the same.
 pub fn equality_is_that_of_values()
     ensures vector { EqualsByValue ⟦<Cvss as PartialEq>⟧.eq }
     ensures metric { EqualsByValue ⟦<MetricType as PartialEq>⟧.eq }
     ensures published { EqualsByValue ⟦<Published as PartialEq>⟧.eq }
     ensures bounds { EqualsByValue ⟦<Bounds as PartialEq>⟧.eq }
+    ensures scoring { EqualsByValue ⟦<Scoring as PartialEq>⟧.eq }
     ensures version { EqualsByValue ⟦<Version as PartialEq>⟧.eq }
     ensures decimal { EqualsByValue ⟦<OneDecimal as PartialEq>⟧.eq }
     ensures json { (x y : JsonError) → IsTrue (⟦<JsonError as PartialEq>⟧.eq x y)
@@ -38,13 +39,17 @@ pub fn equality_is_that_of_values()
     v4::laws::equality_is_that_of_values();
 }
 
-/// A clone of a vector, a metric, what is published or a count is that value, and a clone of an error
-/// says the same.
+/// A clone of a vector, a metric, what is told of its scores or a count is that value, and a clone of an
+/// error says the same.
 pub fn clones_are_equal()
     ensures vector { ClonesByValue ⟦<Cvss as Clone>⟧.is_clone }
     ensures metric { ClonesByValue ⟦<MetricType as Clone>⟧.is_clone }
     ensures published { ClonesByValue ⟦<Published as Clone>⟧.is_clone }
     ensures bounds { ClonesByValue ⟦<Bounds as Clone>⟧.is_clone }
+    ensures scoring { ClonesByValue ⟦<Scoring as Clone>⟧.is_clone }
+    ensures group { ClonesByValue ⟦<Group as Clone>⟧.is_clone }
+    ensures rated { ClonesByValue ⟦<Rated as Clone>⟧.is_clone }
+    ensures evaluation { ClonesByValue ⟦<Evaluation as Clone>⟧.is_clone }
     ensures decimal { ClonesByValue ⟦<OneDecimal as Clone>⟧.is_clone }
     ensures segment { ClonesByValue ⟦<Segment<'static> as Clone>⟧.is_clone }
     ensures message { ClonesByValue ⟦<Message<'static> as Clone>⟧.is_clone }
@@ -62,12 +67,17 @@ pub fn clones_are_equal()
     cvss_laws::base::clones_are_equal();
 }
 
-/// To clone a vector, a metric, what is published or a count takes no memory, so it is never refused.
+/// To clone a vector, a metric, what is told of its scores or a count takes no memory, so it is never
+/// refused.
 pub fn values_are_cloned_without_memory()
     ensures vector { ClonesAlways ⟦<Cvss as Clone>⟧.is_infallible }
     ensures metric { ClonesAlways ⟦<MetricType as Clone>⟧.is_infallible }
     ensures published { ClonesAlways ⟦<Published as Clone>⟧.is_infallible }
     ensures bounds { ClonesAlways ⟦<Bounds as Clone>⟧.is_infallible }
+    ensures scoring { ClonesAlways ⟦<Scoring as Clone>⟧.is_infallible }
+    ensures group { ClonesAlways ⟦<Group as Clone>⟧.is_infallible }
+    ensures rated { ClonesAlways ⟦<Rated as Clone>⟧.is_infallible }
+    ensures evaluation { ClonesAlways ⟦<Evaluation as Clone>⟧.is_infallible }
     ensures decimal { ClonesAlways ⟦<OneDecimal as Clone>⟧.is_infallible }
     ensures segment { ClonesAlways ⟦<Segment<'static> as Clone>⟧.is_infallible }
     ensures message { ClonesAlways ⟦<Message<'static> as Clone>⟧.is_infallible }

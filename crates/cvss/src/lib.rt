@@ -13,6 +13,6 @@ pub mod v4;
 
 pub use cvss_base::{Error, LIMIT, MetricGroup, ONE, OneDecimal, PREFIX, Severity, tenths};
 pub use cvss_vector::{
-    Bounds, BytesError, Cvss, Message, MetricType, Metrics, Published, ReadError, Refusal, Segment,
-    SetError, Version,
+    Bounds, BytesError, Cvss, Evaluation, Group, Message, MetricType, Metrics, Published, Rated,
+    ReadError, Refusal, Scoring, Segment, SetError, Version,
 };

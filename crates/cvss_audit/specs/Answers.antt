@@ -8,18 +8,18 @@ use Rattle.cvss_base.specs.ErrorText.{error_text}
 use Rattle.cvss_base.specs.declared.error.Error.{Error}
 use Rattle.cvss_base.specs.declared.error.Error.TheVariants.{OutOfMemory}
 use Rattle.cvss_base.specs.Reported.{ReportsFirst}
+use Rattle.cvss_vector.specs.Evaluation.{IsEvaluation}
+use Rattle.cvss_vector.specs.declared.evaluation.Evaluation.{Evaluation}
 use Rattle.cvss_vector.specs.declared.vector.Cvss.{Cvss}
 use Rattle.cvss_lines.specs.Answers.{Answer, Accepted, Refused, Rule, written_text}
 use Rattle.cvss_lines.specs.Streaming.{Beginning}
 use Rattle.cvss_json_tree.specs.Texts.{IsTextOf}
 use Rattle.cvss_document.specs.Differences.{AreDifferencesAt, Difference}
-use Rattle.cvss_json_record.specs.Groups.{AreScoresOf}
 use Rattle.cvss_json_tree.specs.Objects.{object_of}
 use Rattle.cvss_document.specs.Places.{Place, places_in}
-use Rattle.cvss_json_record.specs.declared.score.Scores.{Scores}
 use Rattle.serde_json.specs.Data.{Data}
 use Rattle.serde_json.specs.Read.{read}
-use Rattle.cvss_audit.specs.Objects.{accepted_members, place_members, refusal_member, refusal_value}
+use Rattle.cvss_audit.specs.Objects.{accepted_members, place_members, error_member, error_value}
 use Rattle.cvss_audit.specs.Inputs.{Input, line_of}
 
 -- nothing differs
@@ -34,25 +34,25 @@ is_allowed input cvss = input.2 || not (is_some (first_missing cvss))
 -- the text denotes a vector, and the object says what it is and where the document says otherwise
 pub record IsAcceptedPlace (input : Input) (place : Place) (text : List ℕ) (value : Data) (agrees : Bool) : Type 0 where
   pub cvss : Cvss
-  pub scores : Scores
+  pub scores : Evaluation
   pub differences : List Difference
   pub denoted : DenotesCvss text cvss
-  pub are_scores : AreScoresOf cvss scores
+  pub are_scores : IsEvaluation cvss scores
   pub are_differences : AreDifferencesAt cvss place differences
   pub is : value ≡ object_of (place_members input place ++ accepted_members cvss scores differences)
   pub reported : agrees ≡ (nothing_differs differences && is_allowed input cvss)
 
 -- the text denotes no vector, and the object says the first reason
-pub record IsRefusedPlace (input : Input) (place : Place) (text : List ℕ) (value : Data) (agrees : Bool) : Type 0 where
+pub record IsRejectedPlace (input : Input) (place : Place) (text : List ℕ) (value : Data) (agrees : Bool) : Type 0 where
   pub error : Error
   pub first : ReportsFirst cvss_reason (IsFirstRefusalCvss text) error
   pub no_want : error ≢ OutOfMemory
-  pub is : value ≡ object_of (place_members input place ++ refusal_member (error_text error) ∷ [])
+  pub is : value ≡ object_of (place_members input place ++ error_member (error_text error) ∷ [])
   pub reported : agrees ≡ false
 
 -- where a vector should be there is no string, and the object says so
 pub record IsNoString (input : Input) (place : Place) (value : Data) (agrees : Bool) : Type 0 where
-  pub is : value ≡ object_of (place_members input place ++ refusal_member (codes "not a string") ∷ [])
+  pub is : value ≡ object_of (place_members input place ++ error_member (codes "not a string") ∷ [])
   pub reported : agrees ≡ false
 
 -- what is written for a place, and whether its vector is accepted and allowed and nothing differs
@@ -63,7 +63,7 @@ pub record Found : Type 0 where
 -- the object says of what is at the place
 abbrev pub IsObjectOf : Input → Place → Option (List ℕ) → Data → Bool → Type 0
 IsObjectOf input place (Some text) value agrees =
-    IsAcceptedPlace input place text value agrees ⊎ IsRefusedPlace input place text value agrees
+    IsAcceptedPlace input place text value agrees ⊎ IsRejectedPlace input place text value agrees
 IsObjectOf input place None value agrees = IsNoString input place value agrees
 
 -- this is found at the place
@@ -121,23 +121,23 @@ pub record IsPassedOver (input : Input) (text : List ℕ) (answer : Answer) : Ty
   pub blank : is_passed_over input text ≡ true
   pub is : answer ≡ Accepted []
 
--- an object answers the text that says why it is refused
-pub record IsRefusedText (input : Input) (reason : List ℕ) (answer : Answer) : Type 0 where
+-- an object answers the text that says why it is rejected
+pub record IsRejectedText (input : Input) (reason : List ℕ) (answer : Answer) : Type 0 where
   pub text : List ℕ
-  pub is_text : IsTextOf (refusal_value input reason) text
+  pub is_text : IsTextOf (error_value input reason) text
   pub is : answer ≡ Refused (text ∷ [])
 
 -- the bytes are no text
 pub record IsNoText (input : Input) (text : List ℕ) (answer : Answer) : Type 0 where
   pub not_utf8 : ¬ (IsUtf8 text)
-  pub refused : IsRefusedText input (codes "not UTF-8") answer
+  pub refused : IsRejectedText input (codes "not UTF-8") answer
 
 -- the text is no JSON, and is not passed over
 pub record IsNoJson (input : Input) (text : List ℕ) (answer : Answer) : Type 0 where
   pub utf8 : IsUtf8 text
   pub not_blank : is_passed_over input text ≡ false
   pub not_json : read text ≡ None
-  pub refused : IsRefusedText input (codes "not JSON") answer
+  pub refused : IsRejectedText input (codes "not JSON") answer
 
 -- the text is a JSON document, and the answer says of each location of a vector in it
 pub record IsDocument (input : Input) (text : List ℕ) (answer : Answer) : Type 0 where

@@ -1,7 +1,9 @@
 -- The objects of an answer: one for each location of a vector, and one for a text that is no JSON.
 use Rattle.std.specs.Prelude.{ℕ, List, [], ◌∷◌, ◌++◌, codes, map, not, ◌&&◌, if◌then◌else◌, is_some, Option, Some, None, option_map}
 use Rattle.std.specs.List.{filter_map}
-use Rattle.cvss_vector.specs.Answers.{rating_by, score_of_tenths, text_of}
+use Rattle.cvss_vector.specs.Answers.{text_of}
+use Rattle.cvss_vector.specs.declared.evaluation.Evaluation.{Evaluation}
+use Rattle.cvss_vector.specs.declared.evaluation.Rated.{Rated}
 use Rattle.cvss_base.specs.Groups.{same_group}
 use Rattle.cvss_base.specs.declared.group.MetricGroup.TheVariants.{Base}
 use Rattle.cvss_base.specs.declared.v3.MetricType.{MetricType}
@@ -18,7 +20,6 @@ use Rattle.cvss_document.specs.Differences.{Difference}
 use Rattle.cvss_json_tree.specs.Objects.{Member, object_of}
 use Rattle.cvss_document.specs.Places.{Place}
 use Rattle.cvss_document.specs.Scores.{score_value}
-use Rattle.cvss_json_record.specs.declared.score.Scores.{Scores}
 use Rattle.serde_json.specs.Data.{Data, unsigned, number, string, array}
 use Rattle.serde_json.specs.View.{items_of}
 use Rattle.cvss_audit.specs.Inputs.{Input}
@@ -33,13 +34,13 @@ abbrev pub input_members : Input → List Member
 input_members input =
     member_if (codes "file") (option_map string input.0) ++ member_if (codes "line") (option_map (λ count. number (unsigned count)) input.1)
 
--- the reason why the document, or the vector's text, is refused
-abbrev pub refusal_member : List ℕ → Member
-refusal_member reason = (codes "refused", string reason)
+-- the reason why the document, or the vector's text, is rejected
+abbrev pub error_member : List ℕ → Member
+error_member reason = (codes "error", string reason)
 
 -- the object for a document that is no JSON
-abbrev pub refusal_value : Input → List ℕ → Data
-refusal_value input reason = object_of (input_members input ++ refusal_member reason ∷ [])
+abbrev pub error_value : Input → List ℕ → Data
+error_value input reason = object_of (input_members input ++ error_member reason ∷ [])
 
 -- where a vector is, in which document, by the id of the nearest object that has one, and its text as it is there
 abbrev pub place_members : Input → Place → List Member
@@ -47,12 +48,17 @@ place_members input place =
     (codes "at", string place.0)
     ∷ (input_members input ++ (member_if (codes "id") (option_map string place.4.1) ++ member_if (codes "given") (option_map string place.2)))
 
--- the scores of a vector of CVSS v2 or v3
-abbrev pub score_members : Scores → List Member
+-- the value of a score
+abbrev pub rated_value : Rated → Data
+rated_value rated = score_value rated.tenths
+
+-- the scores of a vector of CVSS v2 or v3: those of the groups of metrics, and the one with all metrics in the vector
+abbrev pub score_members : Evaluation → List Member
 score_members scores =
-    (codes "base", score_value scores.base)
-    ∷ (member_if (codes "temporal") (option_map score_value scores.temporal)
-    ++ member_if (codes "environmental") (option_map score_value scores.environmental))
+    (codes "base", rated_value scores.base)
+    ∷ (member_if (codes "temporal") (option_map rated_value scores.temporal)
+    ++ (member_if (codes "environmental") (option_map rated_value scores.environmental)
+    ++ (codes "score", rated_value scores.overall) ∷ []))
 
 -- the score of a vector of CVSS v4.0, and the nomenclature of the groups that it rests on
 abbrev pub v4_members : type_v4.Vector → ℕ → List Member
@@ -60,18 +66,18 @@ v4_members vector tenths =
     (codes "nomenclature", string (nomenclature_text (nomenclature_of vector))) ∷ (codes "score", score_value tenths) ∷ []
 
 -- the scores of a vector
-abbrev pub scores_value : Cvss → Scores → Data
+abbrev pub scores_value : Cvss → Evaluation → Data
 scores_value (CvssV20 _) scores = object_of (score_members scores)
 scores_value (CvssV30 _) scores = object_of (score_members scores)
 scores_value (CvssV31 _) scores = object_of (score_members scores)
-scores_value (CvssV40 vector) scores = object_of (v4_members vector scores.base)
+scores_value (CvssV40 vector) scores = object_of (v4_members vector scores.overall.tenths)
 
--- the vector's canonical text, its scores, and the rating of its score
-abbrev pub reported_members : Cvss → Scores → List Member
+-- the vector's canonical text, its scores, and the severity of the one with all metrics in it
+abbrev pub reported_members : Cvss → Evaluation → List Member
 reported_members cvss scores =
     (codes "vector", string (text_of cvss))
     ∷ (codes "scores", scores_value cvss scores)
-    ∷ (codes "severity", string (severity_text (rating_by cvss (score_of_tenths scores.base))))
+    ∷ (codes "severity", string (severity_text scores.overall.severity))
     ∷ []
 
 -- the metric's name, where it is a base metric and the vector lacks it
@@ -83,7 +89,7 @@ missing_at vector kind =
 abbrev pub missing_v3 : type_v3.Vector → List Data
 missing_v3 vector = filter_map (missing_at vector) printed
 
--- the names of the base metrics that the vector lacks; in CVSS v2 and v4.0 a text without one is refused
+-- the names of the base metrics that the vector lacks; in CVSS v2 and v4.0 a text without one is rejected
 abbrev pub missing_of : Cvss → List Data
 missing_of (CvssV20 _) = []
 missing_of (CvssV30 vector) = missing_v3 vector
@@ -107,6 +113,6 @@ abbrev pub differs_members : List Difference → List Member
 differs_members differences = list_member (codes "differs") (map difference_value differences)
 
 -- what an accepted vector is, and where the document says otherwise
-abbrev pub accepted_members : Cvss → Scores → List Difference → List Member
+abbrev pub accepted_members : Cvss → Evaluation → List Difference → List Member
 accepted_members cvss scores differences =
     reported_members cvss scores ++ (missing_members cvss ++ differs_members differences)

@@ -3,7 +3,7 @@
 ghost use Rattle.std.specs.Prelude.{◌≡◌, [], IfErr, IfOk, OnOk};
 ghost use Rattle.cvss_audit.specs.Answers.{are_blanks, is_passed_over};
 ghost use Rattle.cvss_audit.specs.Inputs.{input_view};
-ghost use Rattle.cvss_audit.specs.Objects.{refusal_value};
+ghost use Rattle.cvss_audit.specs.Objects.{error_value};
 ghost use Rattle.cvss_audit.specs.private.Writing.{Answers, StopsAnswering, StopsFound, StreamsFound};
 ghost use Rattle.cvss_json_tree.specs.Texts.{WritesObject};
 ghost use Rattle.cvss_document.specs.Places.{places_in};
@@ -11,7 +11,7 @@ ghost use Rattle.serde_json.specs.View.{view};
 
 use crate::files::is_blank;
 use crate::input::Input;
-use crate::members::{put_input, put_refusal};
+use crate::members::{put_error, put_input};
 use crate::place::answer_place;
 use cvss_document::vectors_in;
 use cvss_json_tree::write_tree_object;
@@ -21,7 +21,7 @@ use std::alloc::{AllocError, Global};
 use std::io::Write;
 
 /// Appends an object for each location of a vector in a document, each followed by a byte 10, and may
-/// write what waits. A line of blanks alone is passed over. Says whether nothing is refused and nothing
+/// write what waits. A line of blanks alone is passed over. Says whether nothing is rejected and nothing
 /// differs, and no vector lacks what it may not lack.
 ///
 /// # Errors
@@ -44,14 +44,14 @@ pub(crate) fn answer_text<W: Write>(
         return Ok(true);
     }
     let Ok(text) = str::from_utf8(text) else {
-        refuse_text(alloc, input, "not UTF-8", answers)?;
+        reject_text(alloc, input, "not UTF-8", answers)?;
         return Ok(false);
     };
     match Value::from_str(alloc, text) {
         Ok(document) => answer_document(alloc, input, &document, answers, writer),
         Err(error) if error.is_memory() => Err(RunFault::Memory),
         Err(_) => {
-            refuse_text(alloc, input, "not JSON", answers)?;
+            reject_text(alloc, input, "not JSON", answers)?;
             Ok(false)
         }
     }
@@ -72,23 +72,23 @@ fn are_blanks(text: &[u8]) -> bool
 }
 
 /// Writes why a text is no document.
-fn refuse_text(
+fn reject_text(
     alloc: Global,
     input: Input<'_>,
     reason: &str,
     answers: &mut OutputBuffer,
 ) -> Result<(), AllocError>
-    ensures { OnOk result (WritesObject (refusal_value (input_view input.entry) reason.now)
+    ensures { OnOk result (WritesObject (error_value (input_view input.entry) reason.now)
         answers.old.bytes.items answers.new.bytes.items) }
 {
     let mut members = Map::new(alloc);
     put_input(&mut members, alloc, input)?;
-    put_refusal(&mut members, alloc, String::from_str(alloc, reason)?)?;
+    put_error(&mut members, alloc, String::from_str(alloc, reason)?)?;
     write_tree_object(alloc, &members, answers)
 }
 
 /// Writes an object for each location of a vector in a document, one after another. Says whether none
-/// is refused and nothing differs.
+/// is rejected and nothing differs.
 fn answer_document<W: Write>(
     alloc: Global,
     input: Input<'_>,

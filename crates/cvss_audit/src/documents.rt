@@ -10,7 +10,7 @@ use std::alloc::Global;
 use std::io::Write;
 
 /// Lines that are JSON documents, each answered by one line for each location of a vector in it.
-/// Lines of blanks alone are passed over. A line counts as accepted if nothing in it is refused,
+/// Lines of blanks alone are passed over. A line counts as accepted if nothing in it is rejected,
 /// nothing differs, and no vector lacks what it may not lack.
 #[derive(Drop)]
 pub(crate) struct Documents<'a> {

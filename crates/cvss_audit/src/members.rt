@@ -1,7 +1,7 @@
 //! The members of the objects that are written.
 
 ghost use Rattle.std.specs.Prelude.{◌≡◌, ◌∷◌, [], IfOk, OnOk, map, option_map, string_bytes};
-ghost use Rattle.cvss_audit.specs.Objects.{accepted_members, input_members, list_member, member_if, place_members, refusal_member, reported_members, score_members, scores_value, v4_members};
+ghost use Rattle.cvss_audit.specs.Objects.{accepted_members, input_members, list_member, member_if, place_members, error_member, rated_value, reported_members, score_members, scores_value, v4_members};
 ghost use Rattle.cvss_audit.specs.Inputs.{input_view};
 ghost use Rattle.cvss_json_tree.specs.Trees as trees;
 ghost use Rattle.cvss_json_tree.specs.Trees.{tree_view};
@@ -15,12 +15,10 @@ ghost use Rattle.serde_json.specs.View.{members_view, view};
 use crate::differs::put_differences;
 use crate::input::Input;
 use crate::missing::put_missing;
-use cvss_base::TENTH;
 use cvss_document::{Difference, Place, score_value};
-use cvss_json_record::Scores;
 use cvss_json_tree::{Tree, put_tree};
-use cvss_vector::Cvss;
 use cvss_vector::v4::Vector;
+use cvss_vector::{Cvss, Evaluation, Rated};
 use serde_json::{Map, Value, json, put};
 use std::alloc::{AllocError, Global};
 
@@ -41,17 +39,17 @@ pub(crate) fn put_input<'a>(
     }
 }
 
-/// Puts why a vector or a document is refused.
-pub(crate) fn put_refusal(
+/// Puts why a vector or a document is rejected.
+pub(crate) fn put_error(
     members: &mut Map<String, Tree<'_>>,
     alloc: Global,
     reason: String,
 ) -> Result<(), AllocError>
     ensures { OnOk result (trees.members_view members.new.entries
-        ≡ with_members (refusal_member (string_bytes reason) ∷ [])
+        ≡ with_members (error_member (string_bytes reason) ∷ [])
         (trees.members_view members.old.entries)) }
 {
-    put_tree(members, alloc, "refused", Tree::Own(Value::String(reason)))
+    put_tree(members, alloc, "error", Tree::Own(Value::String(reason)))
 }
 
 /// Puts where a vector is, in which document, and its text as it is there.
@@ -93,7 +91,7 @@ pub(crate) fn put_accepted<'a>(
     members: &mut Map<String, Tree<'a>>,
     alloc: Global,
     cvss: &Cvss,
-    scores: &Scores,
+    scores: &Evaluation,
     differences: Vec<Difference<'a>>,
 ) -> Result<(), AllocError>
     ensures { OnOk result (trees.members_view members.new.entries
@@ -105,12 +103,12 @@ pub(crate) fn put_accepted<'a>(
     put_differences(members, alloc, differences)
 }
 
-/// Puts a vector's text, its scores and the rating of its score.
+/// Puts a vector's text, its scores and the severity of the one with all metrics in it.
 fn put_reported(
     members: &mut Map<String, Tree<'_>>,
     alloc: Global,
     cvss: &Cvss,
-    scores: &Scores,
+    scores: &Evaluation,
 ) -> Result<(), AllocError>
     ensures { OnOk result (trees.members_view members.new.entries
         ≡ with_members (reported_members cvss.now scores.now)
@@ -120,27 +118,33 @@ fn put_reported(
     put_tree(members, alloc, "vector", Tree::Own(text))?;
     let reported = scores_value(alloc, cvss, scores)?;
     put_tree(members, alloc, "scores", Tree::Own(reported))?;
-    let severity = cvss.severity_of(i128::from(scores.base) * TENTH);
-    put_tree(members, alloc, "severity", Tree::Text(severity.as_str()))
+    let severity = scores.overall.severity.as_str();
+    put_tree(members, alloc, "severity", Tree::Text(severity))
 }
 
-fn scores_value(alloc: Global, cvss: &Cvss, scores: &Scores) -> Result<Value, AllocError>
+fn scores_value(alloc: Global, cvss: &Cvss, scores: &Evaluation) -> Result<Value, AllocError>
     ensures { IfOk result (λ value. view value ≡ scores_value cvss.now scores.now) }
 {
     match cvss {
         Cvss::CvssV20(_) | Cvss::CvssV30(_) | Cvss::CvssV31(_) => group_scores(alloc, scores),
-        Cvss::CvssV40(vector) => v4_score(alloc, vector, scores.base),
+        Cvss::CvssV40(vector) => v4_score(alloc, vector, scores.overall.tenths),
     }
 }
 
-/// The scores of the groups of metrics.
-fn group_scores(alloc: Global, scores: &Scores) -> Result<Value, AllocError>
+/// The scores of the groups of metrics, and the one with all metrics in the vector.
+fn group_scores(alloc: Global, scores: &Evaluation) -> Result<Value, AllocError>
     ensures { IfOk result (λ value. view value ≡ object_of (score_members scores.now)) }
 {
     let mut members = Map::new(alloc);
-    put(&mut members, alloc, "base", score_value(scores.base))?;
+    put(&mut members, alloc, "base", score_value(scores.base.tenths))?;
     put_score(&mut members, alloc, "temporal", scores.temporal)?;
     put_score(&mut members, alloc, "environmental", scores.environmental)?;
+    put(
+        &mut members,
+        alloc,
+        "score",
+        score_value(scores.overall.tenths),
+    )?;
     Ok(Value::Object(members))
 }
 
@@ -149,14 +153,14 @@ fn put_score(
     members: &mut Map<String, Value>,
     alloc: Global,
     name: &str,
-    tenths: Option<u8>,
+    rated: Option<Rated>,
 ) -> Result<(), AllocError>
     ensures { OnOk result (members_view members.new.entries
-        ≡ with_members (member_if name.now (option_map score_value tenths))
+        ≡ with_members (member_if name.now (option_map rated_value rated))
         (members_view members.old.entries)) }
 {
-    match tenths {
-        Some(tenths) => put(members, alloc, name, score_value(tenths)),
+    match rated {
+        Some(rated) => put(members, alloc, name, score_value(rated.tenths)),
         None => Ok(()),
     }
 }

@@ -10,13 +10,12 @@ ghost use Rattle.cvss_document.specs.Places.{place_view};
 ghost use Rattle.serde_json.specs.Data.{object};
 
 use crate::input::Input;
-use crate::members::{put_accepted, put_place, put_refusal};
+use crate::members::{put_accepted, put_error, put_place};
 use cvss_base::Error;
 use cvss_document::{Difference, Place, differences_at};
-use cvss_json_record::Scores;
 use cvss_json_tree::{Tree, write_tree_object};
 use cvss_lines::OutputBuffer;
-use cvss_vector::Cvss;
+use cvss_vector::{Cvss, Evaluation};
 use serde_json::Map;
 use std::alloc::{AllocError, Global};
 
@@ -66,12 +65,18 @@ fn text_object<'a>(
         Ok(cvss) => {
             let differences = differences_at(alloc, &cvss, place)?;
             let agrees = all_right(input, &cvss, &differences);
-            put_accepted(&mut members, alloc, &cvss, &Scores::of(&cvss), differences)?;
+            put_accepted(
+                &mut members,
+                alloc,
+                &cvss,
+                &Evaluation::of(&cvss),
+                differences,
+            )?;
             Ok((members, agrees))
         }
         Err(Error::OutOfMemory) => Err(AllocError),
         Err(error) => {
-            put_refusal(&mut members, alloc, error.to_string(alloc)?)?;
+            put_error(&mut members, alloc, error.to_string(alloc)?)?;
             Ok((members, false))
         }
     }
@@ -107,6 +112,6 @@ fn no_string_object<'a>(
     let mut members = Map::new(alloc);
     put_place(&mut members, alloc, input, place)?;
     let reason = String::from_str(alloc, "not a string")?;
-    put_refusal(&mut members, alloc, reason)?;
+    put_error(&mut members, alloc, reason)?;
     Ok((members, false))
 }

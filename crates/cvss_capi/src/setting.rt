@@ -1,63 +1,57 @@
-//! Metrics and overrides that C sets in a vector, and vectors that it builds from metrics.
+//! Vectors that C makes of another by setting metrics or leaving some out, or of metrics alone.
 
-ghost use Rattle.cvss_ffi.specs.Overriding.{SetsOverrides};
-ghost use Rattle.cvss_ffi.specs.Setting.{Builds, SetsMetrics, WritesNew, WritesWhyNot};
+ghost use Rattle.cvss_ffi.specs.Calls.{IsAnswerTo, Tells};
+ghost use Rattle.cvss_ffi.specs.Defined.{IsTextWithout};
+ghost use Rattle.cvss_ffi.specs.Setting.{MakesVector, SetsMetrics};
 
-use cvss_ffi::overriding::overridden;
-use cvss_ffi::rejection::{put_new, put_why_not};
-use cvss_ffi::setting::{built, with_metrics};
+use cvss_ffi::CvssError;
+use cvss_ffi::defined::without_not_defined;
+use cvss_ffi::setting::{from_metrics, with_metrics};
 
 /// The canonical text of the vector that a text denotes, with metrics set: components of any group,
-/// joined by slashes, in any order and each metric once.
+/// joined by slashes, in any order and each metric once. The new vector has to be complete unless the
+/// flags allow it to lack base metrics.
 #[unsafe(no_mangle)]
-pub extern "C" fn cvss_with(text: &[u8], metrics: &[u8], buffer: &mut [u8]) -> usize
-    ensures { WritesNew (SetsMetrics text.now metrics.now) buffer.old buffer.new result }
+pub extern "C" fn cvss_with_metrics(
+    text: &[u8],
+    metrics: &[u8],
+    flags: u32,
+    error: &mut CvssError,
+    buffer: &mut [u8],
+) -> usize
+    ensures { Tells (SetsMetrics flags text.now metrics.now) error.old error.new
+        buffer.old buffer.new result }
 {
-    put_new(with_metrics(text, metrics), buffer)
-}
-
-/// Why `cvss_with` returns 0: why the text denotes no vector, or the first metric that is rejected,
-/// and why.
-#[unsafe(no_mangle)]
-pub extern "C" fn cvss_with_reason(text: &[u8], metrics: &[u8], buffer: &mut [u8]) -> usize
-    ensures { WritesWhyNot (SetsMetrics text.now metrics.now) buffer.old buffer.new result }
-{
-    put_why_not(with_metrics(text, metrics), buffer)
+    with_metrics(text, metrics, flags, error, buffer)
 }
 
 /// The canonical text of the vector of a version, 20, 30, 31 or 40, that metrics make: components
 /// joined by slashes, in any order and each metric once.
 #[unsafe(no_mangle)]
-pub extern "C" fn cvss_build(version: i32, metrics: &[u8], buffer: &mut [u8]) -> usize
-    ensures { WritesNew (Builds version metrics.now) buffer.old buffer.new result }
+pub extern "C" fn cvss_from_metrics(
+    version: i32,
+    metrics: &[u8],
+    flags: u32,
+    error: &mut CvssError,
+    buffer: &mut [u8],
+) -> usize
+    ensures { Tells (MakesVector flags version metrics.now) error.old error.new
+        buffer.old buffer.new result }
 {
-    put_new(built(version, metrics), buffer)
+    from_metrics(version, metrics, flags, error, buffer)
 }
 
-/// Why `cvss_build` returns 0: that there is no such version, the first metric that is rejected,
-/// and why, or the first mandatory metric that is missing.
+/// The canonical text of the vector that a text denotes, without the metrics that are not defined.
+/// Where no metric is defined, which may be in CVSS v3 alone, all are kept.
 #[unsafe(no_mangle)]
-pub extern "C" fn cvss_build_reason(version: i32, metrics: &[u8], buffer: &mut [u8]) -> usize
-    ensures { WritesWhyNot (Builds version metrics.now) buffer.old buffer.new result }
+pub extern "C" fn cvss_without_not_defined(
+    text: &[u8],
+    flags: u32,
+    error: &mut CvssError,
+    buffer: &mut [u8],
+) -> usize
+    ensures { Tells (IsAnswerTo flags text.now IsTextWithout) error.old error.new
+        buffer.old buffer.new result }
 {
-    put_why_not(built(version, metrics), buffer)
-}
-
-/// The canonical text of the vector of CVSS v4.0 that a text denotes, with overrides in place:
-/// components of environmental metrics, in any order and any ASCII case, each once, joined by
-/// slashes.
-#[unsafe(no_mangle)]
-pub extern "C" fn cvss_overridden(text: &[u8], overrides: &[u8], buffer: &mut [u8]) -> usize
-    ensures { WritesNew (SetsOverrides text.now overrides.now) buffer.old buffer.new result }
-{
-    put_new(overridden(text, overrides), buffer)
-}
-
-/// Why `cvss_overridden` returns 0: why the text denotes no vector, that it is none of CVSS v4.0,
-/// or what is wrong with the first override that is refused.
-#[unsafe(no_mangle)]
-pub extern "C" fn cvss_override_reason(text: &[u8], overrides: &[u8], buffer: &mut [u8]) -> usize
-    ensures { WritesWhyNot (SetsOverrides text.now overrides.now) buffer.old buffer.new result }
-{
-    put_why_not(overridden(text, overrides), buffer)
+    without_not_defined(text, flags, error, buffer)
 }

@@ -19,10 +19,10 @@ use Rattle.cvss_document.proofs.PlainLemmas.{plain_text}
 use Rattle.cvss_json_record.proofs.WordLemmas.{either, expected_fits, is_clear, is_expected, is_other, is_plain, name_fits}
 use Rattle.cvss_json_record.specs.Fields.{name_of}
 use Rattle.cvss_json_record.specs.Record as written
-use Rattle.cvss_json_record.specs.Record.{Expected, text, score, nothing, expected_of, expected_text, has_member, rating_expected, spelled_at, word_expected}
+use Rattle.cvss_json_record.specs.Record.{Expected, text, score, nothing, expected_of, expected_text, has_member, severity_expected, spelled_at, word_expected}
 use Rattle.cvss_json_record.specs.declared.field.Field.{Field}
-use Rattle.cvss_json_record.specs.declared.field.Field.TheVariants.{V2, V3, V4, Score, Rating, Text}
-use Rattle.cvss_json_record.specs.declared.group.Group.TheVariants.{Base, Temporal, Environmental}
+use Rattle.cvss_json_record.specs.declared.field.Field.TheVariants.{V2, V3, V4, Score, Severity, Text}
+use Rattle.cvss_vector.specs.declared.group.Group.TheVariants.{Base, Temporal, Environmental}
 use Rattle.cvss_json_record.specs.declared.score.Scores.{Scores}
 use Rattle.cvss_json_record.specs.Groups.{tenths_at}
 use Rattle.cvss_json_record.specs.laws.Members.{ascend}
@@ -81,9 +81,9 @@ word_range : (rows : List Row) (spelling : Option (List ℕ)) → InRange (Some 
 word_range rows None = tt
 word_range rows (Some spelling) = tt
 
-rating_range : (cvss : Cvss) (tenths : Option ℕ) → InRange (option_map (rating_expected cvss) tenths)
-rating_range cvss None = tt
-rating_range cvss (Some tenths) = tt
+severity_range : (cvss : Cvss) (tenths : Option ℕ) → InRange (option_map (severity_expected cvss) tenths)
+severity_range cvss None = tt
+severity_range cvss (Some tenths) = tt
 
 range_of : (cvss : Cvss) (scores : Scores) → AreInRange scores → (field : Field) → InRange (expected_of cvss scores field)
 range_of cvss scores range (V2 kind) = word_range (words_v2.words_of kind) (spelled_at cvss (V2 kind))
@@ -92,7 +92,7 @@ range_of cvss scores range (V4 kind) = word_range (words_v4.words_of kind) (spel
 range_of cvss scores range (Score Base) = range.base
 range_of cvss scores range (Score Temporal) = score_range scores.temporal range.temporal
 range_of cvss scores range (Score Environmental) = score_range scores.environmental range.environmental
-range_of cvss scores range (Rating group) = rating_range cvss (tenths_at scores group)
+range_of cvss scores range (Severity group) = severity_range cvss (tenths_at scores group)
 range_of cvss scores range _ = tt
 
 more : (name : List ℕ) (value : Option Data) (bytes : Option (List ℕ)) (members : List Member) (texts : List object.Member) → IsUnescaped name → AreSame value bytes → AreMemberTexts members texts

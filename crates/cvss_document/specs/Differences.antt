@@ -10,12 +10,12 @@ use Rattle.serde_json.specs.Data.{Data, Members, no_members, member, string}
 use Rattle.serde_json.specs.Find.{as_number, get_member}
 use Rattle.serde_json.specs.View.{view}
 use Rattle.cvss_document.specs.Expected.{agrees, expected_at, expected_value, is_text}
-use Rattle.cvss_json_record.specs.Record.{Expected, text, score, rating_word}
+use Rattle.cvss_json_record.specs.Record.{Expected, text, score, severity_word}
 use Rattle.cvss_json_record.specs.Groups.{AreScoresOf}
 use Rattle.cvss_json_tree.specs.Objects.{Member}
 use Rattle.cvss_document.specs.Places.{Around, Place, is_among, object_at}
 use Rattle.cvss_document.specs.SubScores.{AreSubScoresOf}
-use Rattle.cvss_json_record.specs.Versions.{version_of}
+use Rattle.cvss_vector.specs.Evaluation.{version_of, version_text}
 use Rattle.cvss_document.specs.declared.difference.Claim as code_claim
 use Rattle.cvss_document.specs.declared.difference.Claim.TheVariants.{Number, Text, Severity}
 use Rattle.cvss_document.specs.declared.difference.Difference as code
@@ -39,7 +39,7 @@ list_of (member name said rest) = (name, said) ∷ list_of rest
 abbrev pub difference_from : Member → Expected → Option Difference
 difference_from said expected = if agrees expected said.1 then None else Some (said.0, said.1, expected_value expected)
 
--- what a member is to say: so many tenths, if it is a number; a text; or a rating, unless it is unknown
+-- what a member is to say: so many tenths, if it is a number; a text; or a severity, unless it is unknown
 pub data Claim : Type 0 where
   tenths : ℕ → Claim
   word : List ℕ → Claim
@@ -73,7 +73,7 @@ abbrev pub differences_at : List ℕ → Claim → Members → List Difference
 differences_at name claim object =
     option_to_list (option_and_then (λ said. option_and_then (difference_from (name, said)) (expected_by claim said)) (get_member name object))
 
--- the rating of so many tenths, in lower case
+-- the severity of so many tenths, in lower case
 abbrev pub severity_text_of : Cvss → ℕ → List ℕ
 severity_text_of cvss count = severity_text (rating_by cvss (score_of_tenths count))
 
@@ -103,7 +103,7 @@ given_rating_differences cvss scores object =
     ++ (metrics_differences scores (object_at (codes "metrics") object)
     ++ (differences_at (codes "score") (tenths scores.base) object
     ++ (differences_at (codes "severity") (severity (severity_text_of cvss scores.base)) object
-    ++ differences_at (codes "version") (word (version_of cvss)) object)))
+    ++ differences_at (codes "version") (word (version_text (version_of cvss))) object)))
 
 -- the member in which Trivy gives the vector
 abbrev pub trivy_name : Cvss → List ℕ
@@ -114,7 +114,7 @@ trivy_name (CvssV40 _) = codes "V40Vector"
 
 -- the name of a member that says another version than the vector's
 abbrev pub wrong_name : Cvss → List ℕ → Bool → List Difference
-wrong_name cvss name is_wrong = if is_wrong then (name, string name, string (version_of cvss)) ∷ [] else []
+wrong_name cvss name is_wrong = if is_wrong then (name, string name, string (version_text (version_of cvss))) ∷ [] else []
 
 -- the differences of a vector and its score, as Trivy has them in members of these names
 abbrev pub trivy_differences : Cvss → Scores → List ℕ → List ℕ → Members → List Difference
@@ -159,18 +159,18 @@ names_of (CvssV40 _) = codes "cvssV4_0" ∷ codes "cvss_v4" ∷ []
 abbrev pub name_differences : Cvss → List ℕ → List Difference
 name_differences cvss name = wrong_name cvss name (is_among name version_names && not (is_among name (names_of cvss)))
 
--- the records of the version say ratings
-abbrev pub is_rated : Cvss → Bool
-is_rated (CvssV20 _) = false
-is_rated (CvssV30 _) = true
-is_rated (CvssV31 _) = true
-is_rated (CvssV40 _) = true
+-- the records of the version say severities
+abbrev pub has_severities : Cvss → Bool
+has_severities (CvssV20 _) = false
+has_severities (CvssV30 _) = true
+has_severities (CvssV31 _) = true
+has_severities (CvssV40 _) = true
 
--- NVD says the rating of a vector of CVSS v2 beside the member `cvssData` that holds the vector
-abbrev pub rating_differences : Cvss → ℕ → Around → List Difference
-rating_differences cvss count around =
-    if not (is_rated cvss) && bytes_eq (codes "cvssData") around.0
-    then differences_at (codes "baseSeverity") (word (rating_word (rating_by cvss (score_of_tenths count)))) around.1
+-- NVD says the severity of a vector of CVSS v2 beside the member `cvssData` that holds the vector
+abbrev pub severity_differences : Cvss → ℕ → Around → List Difference
+severity_differences cvss count around =
+    if not (has_severities cvss) && bytes_eq (codes "cvssData") around.0
+    then differences_at (codes "baseSeverity") (word (severity_word (rating_by cvss (score_of_tenths count)))) around.1
     else []
 
 -- NVD says the sub-scores of a vector beside the member `cvssData` that holds it
@@ -186,7 +186,7 @@ sub_score_differences (Some reported) around =
 abbrev pub around_differences : Cvss → Scores → Option SubScores → Option Around → List Difference
 around_differences cvss scores parts None = []
 around_differences cvss scores parts (Some around) =
-    name_differences cvss around.0 ++ (rating_differences cvss scores.base around ++ sub_score_differences parts around)
+    name_differences cvss around.0 ++ (severity_differences cvss scores.base around ++ sub_score_differences parts around)
 
 -- the differences at a place: those of the object's members, and then those of what is around it
 abbrev pub differences_of : Cvss → Scores → Option SubScores → Place → List Difference

@@ -15,7 +15,7 @@ use crate::place::{Form, Place, member};
 use crate::ratings::{push_rating_members, push_spdx, push_trivy};
 use crate::sub_scores::SubScores;
 use crate::surroundings::push_around;
-use cvss_json_record::{Expected, Scores, version};
+use cvss_json_record::{Expected, Scores};
 use cvss_vector::Cvss;
 use serde_json::{Map, Value};
 use std::alloc::{AllocError, Global};
@@ -54,7 +54,7 @@ pub(crate) enum Claim {
     Number(u8),
     /// This text.
     Text(&'static str),
-    /// This rating, unless it is `unknown`.
+    /// This severity, unless it is `unknown`.
     Severity(&'static str),
 }
 
@@ -84,7 +84,7 @@ pub fn differences<'a>(
 /// Where the document says otherwise at a place than the vector whose text is there. First the
 /// members of the object that holds it: of a record all, of the other forms those that the form has
 /// beside the vector. Then what is around the object: the version that the name of a member says
-/// which the object is, and beside `cvssData`, as NVD has it, the rating of a vector of CVSS v2 and
+/// which the object is, and beside `cvssData`, as NVD has it, the severity of a vector of CVSS v2 and
 /// the sub-scores of one of v2 or v3.
 ///
 /// # Errors
@@ -249,7 +249,7 @@ pub(crate) fn push_name<'a>(
         found.new.items) }
 {
     if is_wrong {
-        let expected = Expected::Text(version(cvss));
+        let expected = Expected::Text(cvss.version().as_str());
         return push_difference(found, name, Said::Name(name), expected);
     }
     Ok(())

@@ -8,7 +8,6 @@ ghost use Rattle.serde_json.specs.View.{members_view};
 use crate::difference::{Claim, Difference, Scored, push_at, push_name};
 use crate::place::object_at;
 use cvss_base::TENTH;
-use cvss_json_record::version;
 use cvss_vector::Cvss;
 use serde_json::{Map, Value};
 use std::alloc::AllocError;
@@ -27,7 +26,8 @@ pub(crate) fn push_rating_members<'a>(
     push_metrics(found, vector, object_at(object, "metrics"))?;
     push_at(found, "score", Claim::Number(vector.scores.base), object)?;
     push_at(found, "severity", severity(vector), object)?;
-    push_at(found, "version", Claim::Text(version(vector.cvss)), object)
+    let version = Claim::Text(vector.cvss.version().as_str());
+    push_at(found, "version", version, object)
 }
 
 /// Adds the difference of the base score in `metrics`, as grype has it.
@@ -114,7 +114,7 @@ pub(crate) fn push_spdx<'a>(
     push_at(found, "security_severity", severity(vector), object)
 }
 
-/// The rating of a vector's score, in lower case.
+/// The severity of the score that a record says of a vector, in lower case.
 fn severity(vector: Scored<'_>) -> Claim
     ensures { claim_view result
         ≡ severity (severity_text_of vector.entry.cvss.now vector.entry.scores.base) }

@@ -1,15 +1,15 @@
 //! Where the surroundings of a record say otherwise than its vector: the name of the member that the
-//! record is, and the rating and the sub-scores beside it.
+//! record is, and the severity and the sub-scores beside it.
 
 ghost use Rattle.std.specs.Prelude.{◌≡◌, ◌&&◌, not, OnOk, option_map};
-ghost use Rattle.cvss_document.specs.Differences.{around_differences, is_rated, names_of, rating_differences, sub_score_differences, version_names};
+ghost use Rattle.cvss_document.specs.Differences.{around_differences, has_severities, names_of, severity_differences, sub_score_differences, version_names};
 ghost use Rattle.cvss_document.specs.Places.{around_view, is_among};
 ghost use Rattle.cvss_document.specs.private.Views.{Adds};
 
 use crate::difference::{Claim, Difference, Scored, push_at, push_name};
 use crate::place::Around;
 use crate::sub_scores::SubScores;
-use cvss_json_record::rating;
+use cvss_json_record::severity_word;
 use cvss_vector::Cvss;
 use std::alloc::AllocError;
 
@@ -33,7 +33,7 @@ pub(crate) fn push_around<'a>(
         around.name,
         is_wrong(vector.cvss, around.name),
     )?;
-    push_rating(found, vector, around)?;
+    push_severity(found, vector, around)?;
     push_sub_scores(found, parts, around)
 }
 
@@ -67,27 +67,27 @@ fn reports_version_of(cvss: &Cvss, name: &str) -> bool
     }
 }
 
-/// Adds the difference of the rating that NVD says of a vector of CVSS v2 beside its record, if it is
+/// Adds the difference of the severity that NVD says of a vector of CVSS v2 beside its record, if it is
 /// another one than that of its score.
-fn push_rating<'a>(
+fn push_severity<'a>(
     found: &mut Vec<Difference<'a>>,
     vector: Scored<'_>,
     around: Around<'a>,
 ) -> Result<(), AllocError>
     ensures { OnOk result (Adds found.old.items
-        (rating_differences vector.entry.cvss.now vector.entry.scores.base
+        (severity_differences vector.entry.cvss.now vector.entry.scores.base
         (around_view around.entry)) found.new.items) }
 {
-    if is_rated(vector.cvss) || around.name != "cvssData" {
+    if has_severities(vector.cvss) || around.name != "cvssData" {
         return Ok(());
     }
-    let claim = Claim::Text(rating(vector.cvss, vector.scores.base));
+    let claim = Claim::Text(severity_word(vector.cvss, vector.scores.base));
     push_at(found, "baseSeverity", claim, around.object)
 }
 
-/// Whether records of the vector's version have ratings.
-fn is_rated(cvss: &Cvss) -> bool
-    ensures { result ≡ is_rated cvss.now }
+/// Whether records of the vector's version have severities.
+fn has_severities(cvss: &Cvss) -> bool
+    ensures { result ≡ has_severities cvss.now }
 {
     !matches!(cvss, Cvss::CvssV20(_))
 }

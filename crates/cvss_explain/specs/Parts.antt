@@ -6,7 +6,7 @@ use Rattle.cvss_vector.specs.Answers.{rating_by, score_of_tenths, text_of}
 use Rattle.cvss_vector.specs.declared.vector.Cvss.{Cvss}
 use Rattle.cvss_base.specs.SeverityText.{text_of as severity_text}
 use Rattle.cvss_json_write.specs.Json.{Member, object_text, string_text, tenths_text}
-use Rattle.cvss_json_record.specs.Versions.{version_of}
+use Rattle.cvss_vector.specs.Evaluation.{version_of, version_text}
 
 -- members, with the number of the line that is explained before them, if it is one of a list
 abbrev pub with_line : Option ℕ → List Member → List Member
@@ -23,7 +23,7 @@ abbrev pub vector_member : Cvss → Member
 vector_member cvss = (codes "vector", string_text (text_of cvss))
 
 abbrev pub version_member : Cvss → Member
-version_member cvss = (codes "version", string_text (version_of cvss))
+version_member cvss = (codes "version", string_text (version_text (version_of cvss)))
 
 -- the explanation of a score of so many tenths of CVSS v2 or v3: the numbers of each group's score, the scopes, and what
 -- each metric weighs

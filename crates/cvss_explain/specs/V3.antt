@@ -40,7 +40,7 @@ weight_member w kind = option_map (λ weight. (name_of kind, decimal_text (pos (
 abbrev pub weights_members : Weights → List Member
 weights_members w = filter_map (weight_member w) by_name
 
--- a number, the score that it is rounded to, and its rating
+-- a number, the score that it is rounded to, and its severity
 abbrev pub scored_members : Cvss → Scored → List Member
 scored_members cvss scored =
     (codes "number", decimal_text scored.number) ∷ score_member scored.score ∷ severity_member cvss scored.score ∷ []

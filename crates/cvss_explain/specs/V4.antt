@@ -42,19 +42,19 @@ named class groups =
     ∷ (codes "EQ5", class.eq5 ∷ [], groups.eq5)
     ∷ []
 
--- the gap from the value to that of the next lower class, this class, its value, and what is taken of the gap; null where
--- there is none
+-- the gap from the value to that of the next lower class, this class, its value, and the group's share of the mean, by the
+-- gap and the distance; null where there is none
 abbrev pub Next : Type 0
 Next = List ℕ × List ℕ × List ℕ × List ℕ
 
 abbrev pub next_of : ℕ → Option NextClass → ℕ → Next
-next_of value None taken = (codes "null", codes "null", codes "null", codes "null")
-next_of value (Some next) taken =
-    (tenths_text (value - next.value), string_text (class_text next.class), tenths_text next.value, decimal_text (pos (nearest_to taken 8400)))
+next_of value None share = (codes "null", codes "null", codes "null", codes "null")
+next_of value (Some next) share =
+    (tenths_text (value - next.value), string_text (class_text next.class), tenths_text next.value, decimal_text (pos (nearest_to share 8400)))
 
 -- a group, and these of its next lower class
 abbrev pub members_text : Group → Next → List ℕ
-members_text (name, level, group) (gap, next, next_value, taken) =
+members_text (name, level, group) (gap, next, next_value, share) =
     object_text (
     (codes "class", string_text (digits level))
     ∷ (codes "depth", decimal group.depth)
@@ -63,7 +63,7 @@ members_text (name, level, group) (gap, next, next_value, taken) =
     ∷ (codes "group", string_text name)
     ∷ (codes "next", next)
     ∷ (codes "nextValue", next_value)
-    ∷ (codes "taken", taken)
+    ∷ (codes "share", share)
     ∷ []
     )
 

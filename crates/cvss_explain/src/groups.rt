@@ -49,7 +49,7 @@ pub(crate) fn put_groups(page: &mut Page, explanation: &Explanation)
 }
 
 /// Writes what a group of metrics, of this name and level, contributes to the score below a value: also
-/// the gap to the next lower class, its value, and what is taken of the gap.
+/// the gap to the next lower class, its value, and the group's share of the mean.
 fn put_group(page: &mut Page, name: &'static str, level: &[u8], value: u8, group: &GroupExplanation)
     requires short { length name.now ≤ 7 }
     requires level { length level.now ≤ 2 }
@@ -77,7 +77,7 @@ fn put_group(page: &mut Page, name: &'static str, level: &[u8], value: u8, group
     }
 }
 
-/// The gap to the next lower class, this class, its value, and what is taken of the gap.
+/// The gap to the next lower class, this class, its value, and the group's share of the mean.
 type Next<'a> = (Scalar<'a>, Scalar<'a>, Scalar<'a>, Scalar<'a>);
 
 /// Writes what a group contributes, with these of its next lower class.
@@ -102,7 +102,7 @@ fn put_members<'a>(
         ) }
     ensures room { length page.new ≤ length page.old + 450 }
 {
-    let (gap, class, value, taken) = next;
+    let (gap, class, value, share) = next;
     put_object(
         page,
         &Scalars {},
@@ -114,7 +114,7 @@ fn put_members<'a>(
             ("group", Scalar::Text(name)),
             ("next", class),
             ("nextValue", value),
-            ("taken", taken),
+            ("share", share),
         ],
     );
 }

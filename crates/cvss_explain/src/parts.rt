@@ -13,7 +13,7 @@ use crate::v3::numbers as numbers_v3;
 use crate::v4::{EFFECTIVE, Letters};
 use crate::{v2, v3};
 use cvss_base::TENTH;
-use cvss_json_record::{put_vector, version};
+use cvss_json_record::put_vector;
 use cvss_json_write::{Member, Members, Page, Scalar, Scalars, put_name, put_object};
 use cvss_score::v4::scoring::classes::MacroVector;
 use cvss_score::v4::scoring::effective::Effective;
@@ -28,7 +28,7 @@ pub(crate) enum Value<'v> {
     Class(MacroVector),
     /// The number of the line, if there is one.
     Line(Option<u64>),
-    /// The rating of a score of so many tenths.
+    /// The severity of a score of so many tenths.
     Severity(u8),
     /// The vector's canonical text.
     Text,
@@ -92,7 +92,7 @@ fn put_value(page: &mut Page, cvss: &Cvss, value: Value<'_>)
             put_vector(page, cvss);
             page.push(b"\"");
         }
-        Value::Version => Scalar::Text(version(cvss)).put(page),
+        Value::Version => Scalar::Text(cvss.version().as_str()).put(page),
         Value::BaseV2(numbers) => put_scalars(page, &v2::base(numbers)),
         Value::TemporalV2(numbers) => put_scalars(page, &v2::temporal(numbers)),
         Value::EnvironmentalV2(numbers) => put_scalars(page, &v2::environmental(numbers)),
@@ -123,7 +123,7 @@ fn put_scalars(page: &mut Page, members: &[Member<'_>])
     put_object(page, &Scalars {}, members);
 }
 
-/// The rating of the vector's score of so many tenths.
+/// The severity of the vector's score of so many tenths.
 #[inline(never)]
 #[tactic(auto, using(crate::proofs::ShortLemmas::severity_short))]
 pub(crate) fn severity(cvss: &Cvss, tenths: u8) -> &'static str

@@ -27,7 +27,7 @@ given_members line = if is_utf8 line then (codes "given", string line) ∷ [] el
 -- the object for a line that is rejected: the line, its number, and the reason
 abbrev pub refusal_value : ℕ → List ℕ → List ℕ → Data
 refusal_value number line reason =
-    object_of (given_members line ++ (line_member number ∷ (codes "refused", string reason) ∷ []))
+    object_of (given_members line ++ (line_member number ∷ (codes "error", string reason) ∷ []))
 
 -- the line is a text that denotes a vector, which lacks no base metric unless it may, and the answer explains its score
 pub record IsAcceptance (allow_incomplete : Bool) (number : ℕ) (line text : List ℕ) : Type 0 where

@@ -54,7 +54,7 @@ ways_text base has_temporal temporal has_environmental environmental =
     ++ (if has_temporal then rows_text temporal else [])
     ++ (if has_environmental then rows_text environmental else [])
 
--- a score of so many tenths, and its rating
+-- a score of so many tenths, and its severity
 abbrev pub rated_text : ℕ → Severity → List ℕ
 rated_text tenths severity = tenths_text tenths ++ codes " " ++ severity_text severity
 

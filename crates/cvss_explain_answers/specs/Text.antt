@@ -1,8 +1,9 @@
--- The answers to lines, each of which is the text of a vector: explanations for people, each with an empty line after it.
+-- What is printed for lines, each of which is the text of a vector: explanations for people, each with an empty line after it.
 use Rattle.std.specs.Prelude.{◌≡◌, ℕ, Bool, true, false, List, ◌++◌, None}
 use Rattle.std.specs.Str.{IsUtf8}
-use Rattle.cvss_vector.specs.Answers.{IsScoreOf, score_of_tenths, vector_answer}
+use Rattle.cvss_vector.specs.Answers.{score_of_tenths, vector_answer}
 use Rattle.cvss_vector.specs.Complete.{missing_by}
+use Rattle.cvss_vector.specs.Evaluation.{IsOverallScore}
 use Rattle.cvss_vector.specs.Lines.{IsRejection}
 use Rattle.cvss_vector.specs.Dispatch.{DenotesCvss}
 use Rattle.cvss_vector.specs.declared.vector.Cvss.{Cvss}
@@ -15,10 +16,11 @@ abbrev pub Follows : Bool → Cvss → ℕ → List ℕ → Type 0
 Follows true cvss tenths = IsTable cvss
 Follows false cvss tenths = AreLines cvss tenths
 
--- the text is a heading, which is the vector's answer, and what follows it, each line with a byte 10 at its end
+-- the text is a heading, which is the vector's score line with the score of all its metrics, and what follows it, each line
+-- with a byte 10 at its end
 pub record Shows (what_if : Bool) (cvss : Cvss) (text : List ℕ) : Type 0 where
   pub tenths : ℕ
-  pub scored : IsScoreOf cvss (score_of_tenths tenths)
+  pub scored : IsOverallScore cvss (score_of_tenths tenths)
   pub rest : List ℕ
   pub follows : Follows what_if cvss tenths rest
   pub is : text ≡ written_text (vector_answer cvss tenths) ++ rest

@@ -9,7 +9,7 @@ use Rattle.cvss_explain.specs.declared.v2.numbers.TemporalNumbers.{TemporalNumbe
 use Rattle.cvss_explain_answers.specs.Lines.{Row, metric_text, ways_text}
 use Rattle.cvss_vector.specs.declared.vector.Cvss.TheVariants.{CvssV20}
 use Rattle.cvss_json_record.specs.Groups.{has_group}
-use Rattle.cvss_json_record.specs.declared.group.Group.TheVariants.{Temporal, Environmental}
+use Rattle.cvss_vector.specs.declared.group.Group.TheVariants.{Temporal, Environmental}
 use Rattle.cvss_json_record.specs.WordsV2.{words_of}
 use Rattle.cvss_json_write.specs.Json.{decimal_text, tenths_text}
 use Rattle.cvss_vector.specs.v2.Vector.{v2}

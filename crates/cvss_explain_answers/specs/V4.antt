@@ -76,13 +76,13 @@ value_counts v kind =
 abbrev pub effect_text : Vector → MacroVector → MetricType → List ℕ
 effect_text v m kind = if value_counts v kind then levels_text m kind else codes "-"
 
--- the gap to the value of the next lower class and what is taken of it
+-- the gap to the value of the next lower class, and the share of it that is subtracted
 abbrev pub next_text : ℕ → Option NextClass → ℕ → List ℕ
-next_text value None taken = codes ", no lower level"
-next_text value (Some next) taken =
+next_text value None share = codes ", no lower level"
+next_text value (Some next) share =
     codes ", gap " ++ tenths_text (value - next.value)
     ++ codes " to " ++ class_text next.class
-    ++ codes ", share " ++ decimal_text (pos (nearest_to taken 8400))
+    ++ codes ", share " ++ decimal_text (pos (nearest_to share 8400))
 
 -- what a group of metrics takes from the value
 abbrev pub group_text : ℕ → GroupExplanation → List ℕ

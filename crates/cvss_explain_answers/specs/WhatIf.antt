@@ -13,7 +13,7 @@ use Rattle.cvss_json_record.specs.Words.{Row}
 use Rattle.cvss_json_record.specs.WordsV2 as words_v2
 use Rattle.cvss_json_record.specs.WordsV3 as words_v3
 use Rattle.cvss_json_record.specs.WordsV4 as words_v4
-use Rattle.cvss_rank.specs.Overall.{IsOverallScore, is_undefined}
+use Rattle.cvss_vector.specs.Evaluation.{IsOverallScore, is_undefined}
 use Rattle.cvss_vector.specs.v2.Vector.{v2}
 use Rattle.cvss_vector.specs.v3.Vector.{v3}
 use Rattle.cvss_vector.specs.v4.Vector.{v4}

@@ -136,7 +136,7 @@ fn write_refusal(
     let mut members = Map::new(alloc);
     put_given(&mut members, alloc, line)?;
     put(&mut members, alloc, "line", Value::from(number))?;
-    put(&mut members, alloc, "refused", Value::String(reason))?;
+    put(&mut members, alloc, "error", Value::String(reason))?;
     let object = text_of(alloc, &Value::Object(members))?;
     write_in_file(prefix, &object, answers)
 }

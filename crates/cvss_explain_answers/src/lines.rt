@@ -49,7 +49,7 @@ pub(crate) enum Amount<'a> {
     Decimal(i64),
     /// So many tenths.
     Tenths(u8),
-    /// So many tenths, and their rating.
+    /// So many tenths, and their severity.
     Rated(u8, Severity),
     /// What a group of metrics takes from a value.
     Contribution(u8, &'a GroupExplanation),
@@ -203,7 +203,7 @@ fn write_levels(name: &str, levels: &[u8], answers: &mut OutputBuffer) -> Result
     answers.push(blanks(TITLE_WIDTH, name.len() + page.bytes().len()))
 }
 
-/// A score of so many tenths with its rating, since CVSS v3.
+/// A score of so many tenths with its severity, since CVSS v3.
 pub(crate) fn rated(tenths: u8) -> Amount<'static>
     ensures { result ≡ Rated tenths (rating_of_score (score_of_tenths tenths)) }
 {

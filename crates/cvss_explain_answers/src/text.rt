@@ -1,4 +1,4 @@
-//! The answer to one line as text for people.
+//! The explanation of one line's vector, as text for people.
 
 ghost use Rattle.std.specs.Prelude.{ℕ, IfOk, OnOk};
 ghost use Rattle.cvss_vector.specs.Answers.{HasScore};
@@ -10,10 +10,10 @@ ghost use Rattle.cvss_lines.specs.Answers.{WritesAnswer};
 use crate::what_if::write_table;
 use crate::{v2, v3, v4};
 use cvss_lines::OutputBuffer;
-use cvss_vector::{Cvss, write_error, write_vector};
+use cvss_vector::{Cvss, Scoring, write_error, write_vector};
 use std::alloc::{AllocError, Global};
 
-/// Answers a line by the explanation of its vector's score, or with `what_if` by the scores that other
+/// Answers a line by the explanation of its vector's scores, or with `what_if` by the scores that other
 /// values of its metrics would give; or by why the line is rejected: a vector of CVSS v3 that lacks base
 /// metrics by the first of them, unless they may be missing. An empty line follows.
 ///
@@ -44,8 +44,8 @@ pub fn answer_explained(
     }
 }
 
-/// Writes the answer of a vector as a heading, and after it why the vector has its score, or the scores
-/// that other values would give.
+/// Writes the score line of a vector as a heading, and after it why the vector has its scores, or the
+/// scores that other values would give.
 fn write_shown(
     alloc: Global,
     cvss: &Cvss,
@@ -56,7 +56,7 @@ fn write_shown(
     ensures { OnOk result (Writes (Shows what_if cvss.now)
         answers.old.bytes.items answers.new.bytes.items) }
 {
-    let published = cvss.published();
+    let published = cvss.published(Scoring::Overall);
     write_vector(cvss, published, answers)?;
     if what_if {
         write_table(alloc, cvss, answers)

@@ -13,10 +13,11 @@ use Amount::*;
 use Title::*;
 use cvss_base::v2::MetricType;
 use cvss_explain::v2::numbers::{BaseNumbers, EnvironmentalNumbers, TemporalNumbers};
-use cvss_json_record::Group;
+use cvss_json_record::is_in_v2;
 use cvss_json_record::names::{self, v2};
 use cvss_json_write::Page;
 use cvss_lines::OutputBuffer;
+use cvss_vector::Group;
 use cvss_vector::v2::Vector;
 use std::alloc::AllocError;
 
@@ -31,9 +32,9 @@ pub(crate) fn write_lines(vector: &Vector, answers: &mut OutputBuffer) -> Result
     write_metrics(vector, &(), answers)?;
     write_ways(
         &base_rows(base),
-        Group::Temporal.is_in_v2(vector),
+        is_in_v2(Group::Temporal, vector),
         &temporal_rows(temporal),
-        Group::Environmental.is_in_v2(vector),
+        is_in_v2(Group::Environmental, vector),
         &environmental_rows(environmental),
         answers,
     )

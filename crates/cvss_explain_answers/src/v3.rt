@@ -15,11 +15,12 @@ use Amount::*;
 use Title::*;
 use cvss_base::v3::MetricType;
 use cvss_explain::v3::numbers::{BaseNumbers, EnvironmentalNumbers, Scored};
-use cvss_json_record::Group;
+use cvss_json_record::is_in_v3;
 use cvss_json_record::names::{self, v3};
 use cvss_json_write::Page;
 use cvss_lines::OutputBuffer;
 use cvss_score::v3::Weights;
+use cvss_vector::Group;
 use cvss_vector::v3::Vector;
 use std::alloc::AllocError;
 
@@ -34,9 +35,9 @@ pub(crate) fn write_lines(vector: &Vector, answers: &mut OutputBuffer) -> Result
     write_metrics(vector, &(), answers)?;
     write_ways(
         &base_rows(base),
-        Group::Temporal.is_in_v3(vector),
+        is_in_v3(Group::Temporal, vector),
         &temporal_rows(temporal),
-        Group::Environmental.is_in_v3(vector),
+        is_in_v3(Group::Environmental, vector),
         &environmental_rows(environmental),
         answers,
     )

@@ -143,7 +143,7 @@ pub(crate) fn put_group(value: u8, group: &GroupExplanation, page: &mut Page)
     put_next(value, group, page);
 }
 
-/// Writes the gap to the next lower class, and what is taken of it.
+/// Writes the gap to the next lower class, and the share of it that is subtracted.
 fn put_next(value: u8, group: &GroupExplanation, page: &mut Page)
     requires { length page.old ≤ 100 }
     ensures { page.new ≡ page.old ++ next_text value group.now.next group.now.taken }

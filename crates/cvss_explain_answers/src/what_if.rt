@@ -14,8 +14,7 @@ use cvss_base::tenths::text_of;
 use cvss_json_record::names::Row;
 use cvss_json_record::spelled;
 use cvss_lines::OutputBuffer;
-use cvss_rank::{is_undefined, overall_tenths};
-use cvss_vector::Cvss;
+use cvss_vector::{Cvss, is_undefined};
 use std::alloc::{AllocError, Global};
 
 /// Writes a line for each metric, with the overall score that each of its values would give.
@@ -132,7 +131,7 @@ fn tenths_with(
 {
     let metric = format!(in alloc; "{name}:{spelling}")?;
     match cvss.with_metrics(&metric) {
-        Ok(new) => Ok(Some(overall_tenths(&new))),
+        Ok(new) => Ok(Some(new.overall_tenths())),
         Err(_) => Ok(None),
     }
 }

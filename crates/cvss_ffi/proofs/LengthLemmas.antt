@@ -25,7 +25,7 @@ joined-length (part ∷ []) = omega arith
 joined-length (part ∷ next ∷ parts) =
     omega (arith, length-append part (slash ∷ joined (next ∷ parts)), joined-length (next ∷ parts), sum_by-cons piece_length part (next ∷ parts), sum_by-cons piece_length next parts)
 
-read_as-length : (any_case : Bool) (text : List ℕ) → length (read_as any_case text) ≡ length text
+pub read_as-length : (any_case : Bool) (text : List ℕ) → length (read_as any_case text) ≡ length text
 read_as-length true text = length-map text _
 read_as-length false text = refl
 

@@ -1,1 +1,7 @@
 mod LengthLemmas
+mod MatchLemmas
+mod MessageLemmas
+mod NomenclatureLemmas
+mod RatedLemmas
+mod ReadLemmas
+mod SettingLemmas

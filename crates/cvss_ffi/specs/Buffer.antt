@@ -1,5 +1,6 @@
--- A buffer of the caller, into which a text is written, an array, into which items are, or the place of a value.
-use Rattle.std.specs.Prelude.{◌≡◌, ℕ, Bool, true, false, List, ◌++◌, length, drop, nat_le, if◌then◌else◌, Option, Some, None}
+-- A buffer of the caller, into which a text is written, an array, into which items are, the place of a value, or a struct
+-- that says its own size, so that a later release may lengthen it.
+use Rattle.std.specs.Prelude.{◌≡◌, ◌<◌, ◌≤◌, ◌⊎◌, ℕ, Bool, true, false, List, ◌++◌, length, drop, nat_le, if◌then◌else◌, Option, Some, None}
 
 -- the buffer with the text at its beginning, and after it as it was
 abbrev pub begun : {X : Type 0} → List X → List X → List X
@@ -33,3 +34,12 @@ IsPut None old now reported = (reported ≡ false) × (now ≡ old)
 -- a value of which this holds is written, or it holds that there is none
 abbrev pub Puts : {X : Type 0} → (Option X → Type 0) → X → X → Bool → Type 0
 Puts {X} IsIt old now reported = (value : Option X) × IsIt value × IsPut value old now reported
+
+-- a struct is filled in where its size is at least so much; a smaller one is left as it was
+abbrev pub IsFilled : {X : Type 0} → ℕ → ℕ → (X → Type 0) → X → X → Type 0
+IsFilled least size IsIt old now = ((least ≤ size) × IsIt now) ⊎ ((size < least) × (now ≡ old))
+
+-- a struct is filled in, or it holds that there is nothing to fill it in with; of a smaller one false is reported
+abbrev pub PutsFilled : {X : Type 0} → ℕ → ℕ → (Option X → Type 0) → X → X → Bool → Type 0
+PutsFilled least size IsIt old now reported =
+    ((least ≤ size) × Puts IsIt old now reported) ⊎ ((size < least) × (reported ≡ false) × (now ≡ old))

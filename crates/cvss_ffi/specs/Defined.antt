@@ -3,6 +3,7 @@
 use Rattle.std.specs.Prelude.{◌≡◌, ◌⊎◌, ℕ, List, All, codes, bytes_eq, if◌then◌else◌, Option, Some, None}
 use Rattle.std.specs.Option.{option_and_then}
 use Rattle.cvss_base.specs.Version.{Version, held}
+use Rattle.cvss_vector.specs.Answers.{text_of}
 use Rattle.cvss_vector.specs.v2.Vector.{v2}
 use Rattle.cvss_vector.specs.v3.Vector.{v3}
 use Rattle.cvss_vector.specs.v4.Vector.{v4}
@@ -31,9 +32,13 @@ abbrev pub IsWithout : {V K : Type 0} → Version V K → List ℕ → V → V �
 IsWithout version undefined v w =
     (HasNoneDefined version undefined v × (w ≡ v)) ⊎ (¬ (HasNoneDefined version undefined v) × HasDefinedOf version undefined v w)
 
-abbrev pub IsWithoutUndefined : Cvss → Cvss → Type 0
-IsWithoutUndefined (CvssV20 vector) (CvssV20 new) = IsWithout v2 (codes "ND") vector new
-IsWithoutUndefined (CvssV30 vector) (CvssV30 new) = IsWithout v3 (codes "X") vector new
-IsWithoutUndefined (CvssV31 vector) (CvssV31 new) = IsWithout v3 (codes "X") vector new
-IsWithoutUndefined (CvssV40 vector) (CvssV40 new) = IsWithout v4 (codes "X") vector new
-IsWithoutUndefined _ _ = ⊥
+abbrev pub IsWithoutNotDefined : Cvss → Cvss → Type 0
+IsWithoutNotDefined (CvssV20 vector) (CvssV20 new) = IsWithout v2 (codes "ND") vector new
+IsWithoutNotDefined (CvssV30 vector) (CvssV30 new) = IsWithout v3 (codes "X") vector new
+IsWithoutNotDefined (CvssV31 vector) (CvssV31 new) = IsWithout v3 (codes "X") vector new
+IsWithoutNotDefined (CvssV40 vector) (CvssV40 new) = IsWithout v4 (codes "X") vector new
+IsWithoutNotDefined _ _ = ⊥
+
+-- the text is the canonical one of such a vector
+abbrev pub IsTextWithout : Cvss → List ℕ → Type 0
+IsTextWithout cvss text = (new : Cvss) × IsWithoutNotDefined cvss new × (text ≡ text_of new)

@@ -16,8 +16,8 @@ use Rattle.cvss_vector.specs.v2.Weights as weights_v2
 use Rattle.cvss_vector.specs.v3.VectorWeights as weights_v3
 use Rattle.cvss_vector.specs.declared.vector.Cvss.{Cvss}
 use Rattle.cvss_vector.specs.declared.vector.Cvss.TheVariants.{CvssV20, CvssV31}
-use Rattle.cvss_json_record.specs.declared.group.Group.TheVariants.{Base, Temporal, Environmental}
-use Rattle.cvss_ffi.specs.Answers.{NoneIs}
+use Rattle.cvss_vector.specs.declared.group.Group.TheVariants.{Base, Temporal, Environmental}
+use Rattle.cvss_ffi.specs.Accepted.{NoneIs}
 use Rattle.cvss_ffi.specs.Scores.{IsReportedScore}
 use Rattle.cvss_ffi.specs.declared.exact.CvssNumber.{CvssNumber}
 use Rattle.cvss_ffi.specs.declared.exact.CvssNumbers.{CvssNumbers}
@@ -48,26 +48,30 @@ pub record IsNumber (number : CvssNumber) : Type 0 where
   pub rest_from_lowest : neg_ℤ (pos (10 ^ 12)) <ℤ number.rest
   pub rest_to_highest : number.rest <ℤ pos (10 ^ 12)
 
--- three scores of a vector in tenths, and three exact sub-scores
-pub record AreNumbers (cvss : Cvss) (impact exploitability adjusted : Exact) (numbers : CvssNumbers) : Type 0 where
+-- how many bytes the numbers of a vector have
+abbrev pub numbers_size : ℕ
+numbers_size = 64
+
+-- three scores of a vector in tenths, and three exact sub-scores, in a struct of such a size
+pub record AreNumbers (size : ℕ) (cvss : Cvss) (impact exploitability adjusted : Exact) (numbers : CvssNumbers) : Type 0 where
+  pub size_is : numbers.size ≡ size
   pub base : IsReportedScore cvss Base numbers.base
   pub temporal : IsReportedScore cvss Temporal numbers.temporal
   pub environmental : IsReportedScore cvss Environmental numbers.environmental
-  pub reserved_is : numbers.reserved ≡ pos 0
   pub impact_is : exact_of numbers.impact ≈ impact
   pub exploitability_is : exact_of numbers.exploitability ≈ exploitability
   pub adjusted_is : exact_of numbers.adjusted_impact ≈ adjusted
 
 -- those of CVSS v2, and those of CVSS v3, by the vector's minor version: ISS, Exploitability and MISS
-abbrev pub AreNumbersV2 : vector_v2.Vector → CvssNumbers → Type 0
-AreNumbersV2 vector =
+abbrev pub AreNumbersV2 : ℕ → vector_v2.Vector → CvssNumbers → Type 0
+AreNumbersV2 size vector =
     let w = weights_v2.weights_of vector in
-    AreNumbers (CvssV20 vector) (scores_v2.impact w) (scores_v2.exploitability w) (scores_v2.adjusted_impact w)
+    AreNumbers size (CvssV20 vector) (scores_v2.impact w) (scores_v2.exploitability w) (scores_v2.adjusted_impact w)
 
-abbrev pub AreNumbersV3 : vector_v3.Vector → CvssNumbers → Type 0
-AreNumbersV3 vector =
+abbrev pub AreNumbersV3 : ℕ → vector_v3.Vector → CvssNumbers → Type 0
+AreNumbersV3 size vector =
     let w = weights_v3.weights_of vector in
-    AreNumbers (CvssV31 vector) (scores_v3.iss w) (scores_v3.exploitability w) (scores_v3.miss w)
+    AreNumbers size (CvssV31 vector) (scores_v3.iss w) (scores_v3.exploitability w) (scores_v3.miss w)
 
 -- the piece that says a version of CVSS v3
 abbrev pub front_v3 : ℕ → List (List ℕ)
@@ -78,10 +82,10 @@ abbrev pub IsBeforeV4 : ℤ → Type 0
 IsBeforeV4 version = (version ≡ pos 20) ⊎ ((version ≡ pos 30) ⊎ (version ≡ pos 31))
 
 -- the numbers of the vector of a version, with the components of a text; of v4.0 and other versions there are none
-pub record AreNumbersOf (version : ℤ) (metrics : List ℕ) (numbers : Option CvssNumbers) : Type 0 where
-  pub of_v20 : version ≡ pos 20 → IsOfPartial v2 [] metrics AreNumbersV2 numbers
-  pub of_v30 : version ≡ pos 30 → IsOfPartial v3 (front_v3 0) metrics AreNumbersV3 numbers
-  pub of_v31 : version ≡ pos 31 → IsOfPartial v3 (front_v3 1) metrics AreNumbersV3 numbers
+pub record AreNumbersOf (size : ℕ) (version : ℤ) (metrics : List ℕ) (numbers : Option CvssNumbers) : Type 0 where
+  pub of_v20 : version ≡ pos 20 → IsOfPartial v2 [] metrics (AreNumbersV2 size) numbers
+  pub of_v30 : version ≡ pos 30 → IsOfPartial v3 (front_v3 0) metrics (AreNumbersV3 size) numbers
+  pub of_v31 : version ≡ pos 31 → IsOfPartial v3 (front_v3 1) metrics (AreNumbersV3 size) numbers
   pub no_version : ¬ (IsBeforeV4 version) → numbers ≡ None
 
 -- so many tenths are the number, rounded as scores of the version are

@@ -1,12 +1,12 @@
-pub mod Answers
+pub mod Accepted
 pub mod Buffer
+pub mod Calls
 pub mod Defined
+pub mod Errors
 pub mod Exact
-pub mod Lines
-pub mod Mentioned
+pub mod Matches
 pub mod Metrics
-pub mod Overriding
-pub mod Refusals
+pub mod ScoreLines
 pub mod Scores
 pub mod Setting
 pub mod Values

@@ -1,2 +1,3 @@
+pub mod Rated
 pub mod Rejection
 pub mod Steps

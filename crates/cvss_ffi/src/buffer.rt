@@ -1,13 +1,11 @@
 //! Texts in a buffer of the caller, items in an array, and values, without memory.
 
 ghost use Rattle.std.specs.Prelude.{◌≡◌, ◌<◌, ◌≤◌, ◌+◌, ◌^◌, ◌++◌, length};
-ghost use Rattle.cvss_vector.specs.Reasons.{error_message, reason_text};
-ghost use Rattle.cvss_vector.specs.Refusals.{refusal_of};
 ghost use Rattle.cvss_vector.specs.Segments.{text_of};
 ghost use Rattle.cvss_ffi.specs.Buffer.{IsPut, IsWritten};
 ghost use Rattle.cvss_ffi.specs.private.Steps.{IsWrittenAt};
 
-use cvss_vector::{Message, ReadError, Refusal, Segment};
+use cvss_vector::{Message, Segment};
 
 /// Writes a text, or items, at the beginning of a buffer where they fit, and returns their number.
 // Its copy, inlined wherever it is called, would be a thirtieth of the module of WebAssembly.
@@ -23,8 +21,8 @@ pub(crate) fn write<T: Copy>(items: &[T], buffer: &mut [T]) -> usize
     length
 }
 
-/// Writes a value over another, if there is one, and says whether there is.
-pub fn put<T: Drop>(value: Option<T>, place: &mut T) -> bool
+/// Writes a value over another, if there is one, and returns whether there is.
+pub(crate) fn put<T: Drop>(value: Option<T>, place: &mut T) -> bool
     ensures { IsPut value place.old place.new result }
 {
     let Some(value) = value else {
@@ -53,22 +51,6 @@ pub(crate) fn write_segments(segments: &[Segment<'_>], place: usize, buffer: &mu
         part.make_ascii_uppercase();
     }
     last
-}
-
-/// Writes what an error says.
-pub(crate) fn write_error(error: ReadError<'_>, buffer: &mut [u8]) -> usize
-    ensures { IsWritten (error_message error.entry) buffer.old buffer.new result }
-{
-    write_message(&[], Message::of(error), &[], buffer)
-}
-
-/// Writes words and, after them, what a reason says.
-pub(crate) fn write_refusal(words: &[u8], refusal: Refusal<'_>, buffer: &mut [u8]) -> usize
-    requires { length words.now ≤ 32 }
-    ensures { IsWritten (words.now ++ reason_text (refusal_of refusal.entry)) buffer.old
-        buffer.new result }
-{
-    write_message(words, Message::of_refusal(refusal), &[], buffer)
 }
 
 /// Writes words, a message and an end.

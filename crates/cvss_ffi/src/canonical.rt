@@ -1,9 +1,6 @@
 //! The canonical text of a vector.
 
-ghost use Rattle.std.specs.Prelude.{◌≡◌, IfNone, IfSome, length};
-ghost use Rattle.cvss_vector.specs.Answers.{HasScore, text_of};
-ghost use Rattle.cvss_vector.specs.Dispatch.{DenotesCvss};
-ghost use Rattle.cvss_ffi.specs.Answers.{IsRefused};
+ghost use Rattle.cvss_vector.specs.Answers.{text_of};
 ghost use Rattle.cvss_ffi.specs.Buffer.{IsWritten};
 
 use crate::buffer::write;
@@ -11,21 +8,6 @@ use cvss_json_record::put_vector;
 use cvss_json_write::Page;
 use cvss_text::print::text_after;
 use cvss_vector::{Cvss, TextBuffer};
-
-/// The vector that a text denotes, if there is one. Its canonical text is written, which is as long
-/// as the text.
-pub fn put_canonical_of(text: &[u8], buffer: &mut [u8]) -> Option<Cvss>
-    ensures denoted { IfSome result (λ cvss. DenotesCvss text.now cvss) }
-    ensures scored { IfSome result (λ cvss. HasScore cvss) }
-    ensures written { IfSome result (λ cvss.
-        IsWritten (text_of cvss) buffer.old buffer.new (length text.now)) }
-    ensures refused { IfNone result (IsRefused text.now) }
-    ensures left { IfNone result (buffer.new ≡ buffer.old) }
-{
-    let cvss = Cvss::read_bytes(text)?;
-    write_canonical(&cvss, buffer);
-    Some(cvss)
-}
 
 /// Writes the canonical text of a vector.
 pub(crate) fn write_canonical(cvss: &Cvss, buffer: &mut [u8]) -> usize

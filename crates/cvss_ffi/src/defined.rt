@@ -2,36 +2,49 @@
 
 ghost use Rattle.std.specs.Prelude.{◌≡◌, ◌↔◌, IsTrue};
 ghost use Rattle.std.specs.Option.{option_copied};
-ghost use Rattle.cvss_ffi.specs.Defined.{HasNoneDefined, IsWithout, IsWithoutUndefined, defined_in};
-ghost use Rattle.cvss_ffi.specs.Setting.{WritesVector};
+ghost use Rattle.cvss_ffi.specs.Defined.{HasNoneDefined, IsTextWithout, IsWithout, IsWithoutNotDefined, defined_in};
+ghost use Rattle.cvss_ffi.specs.Calls.{IsAnswerTo, Tells};
 
-use crate::canonical::write_canonical;
+use crate::error::CvssError;
+use crate::reading::read;
+use crate::rejection::{Rejection, reject, write_vector};
 use cvss_json_record::spelled;
 use cvss_text::print::Printed;
 use cvss_text::setting::completed;
 use cvss_vector::{Cvss, Versioned};
 
-/// Writes the canonical text of a vector without its undefined metrics.
-pub fn put_without_undefined(cvss: &Cvss, buffer: &mut [u8]) -> usize
-    ensures { WritesVector (IsWithoutUndefined cvss.now) buffer.old buffer.new result }
+/// Writes the canonical text of the vector that a text denotes, without the metrics that are not
+/// defined, or why there is none.
+pub fn without_not_defined(
+    text: &[u8],
+    flags: u32,
+    error: &mut CvssError,
+    buffer: &mut [u8],
+) -> usize
+    ensures { Tells (IsAnswerTo flags text.now IsTextWithout) error.old error.new
+        buffer.old buffer.new result }
 {
-    write_canonical(&without_undefined(cvss), buffer)
-}
-
-fn without_undefined(cvss: &Cvss) -> Cvss
-    ensures { IsWithoutUndefined cvss.now result }
-{
-    match cvss {
-        Cvss::CvssV20(vector) => Cvss::CvssV20(without(vector, 0, b"ND")),
-        Cvss::CvssV30(vector) => Cvss::CvssV30(without(vector, vector.minor_version, b"X")),
-        Cvss::CvssV31(vector) => Cvss::CvssV31(without(vector, vector.minor_version, b"X")),
-        Cvss::CvssV40(vector) => Cvss::CvssV40(without(vector, vector.minor_version, b"X")),
+    match read(text, flags) {
+        Ok(cvss) => write_vector(&without(&cvss), error, buffer),
+        Err(why) => reject(Rejection::Text(why), error, buffer),
     }
 }
 
-/// A vector of a minor version without its metrics that are spelled so; the vector itself where it has
+/// A vector without the metrics that are not defined.
+fn without(cvss: &Cvss) -> Cvss
+    ensures { IsWithoutNotDefined cvss.now result }
+{
+    match cvss {
+        Cvss::CvssV20(vector) => Cvss::CvssV20(without_values(vector, 0, b"ND")),
+        Cvss::CvssV30(vector) => Cvss::CvssV30(without_values(vector, vector.minor_version, b"X")),
+        Cvss::CvssV31(vector) => Cvss::CvssV31(without_values(vector, vector.minor_version, b"X")),
+        Cvss::CvssV40(vector) => Cvss::CvssV40(without_values(vector, vector.minor_version, b"X")),
+    }
+}
+
+/// A vector of a minor version without its metrics whose values are spelled so; the vector itself where it has
 /// no other.
-fn without<V: Versioned>(vector: &V, minor_version: usize, undefined: &[u8]) -> V
+fn without_values<V: Versioned>(vector: &V, minor_version: usize, undefined: &[u8]) -> V
     requires { V.version.front vector.now ≡ V.front minor_version }
     ensures { IsWithout V.version undefined.now vector.now result }
 {

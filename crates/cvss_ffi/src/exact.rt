@@ -3,16 +3,17 @@
 
 ghost use Rattle.std.specs.Prelude.{◌≡◌, ◌↔◌, ◌*ℤ◌, ◌^◌, ℤ, pos, IfSome, IfNone, IsTrue};
 ghost use Rattle.cvss_base.specs.Exact.{IsWithinLimit};
-ghost use Rattle.cvss_ffi.specs.Answers.{NoneIs};
-ghost use Rattle.cvss_ffi.specs.Exact.{AreNumbersOf, AreNumbersV2, AreNumbersV3, IsNumber, IsPartial, IsRoundedTo, IsTemporalWith, count_in};
+ghost use Rattle.cvss_ffi.specs.Accepted.{NoneIs};
+ghost use Rattle.cvss_ffi.specs.Buffer.{Puts, PutsFilled};
+ghost use Rattle.cvss_ffi.specs.Exact.{AreNumbersOf, AreNumbersV2, AreNumbersV3, IsNumber, IsPartial, IsRoundedTo, IsTemporalWith, count_in, numbers_size};
 
-use crate::scores::{tenths_of as scores_of, tenths_of_v3};
+use crate::buffer::put;
 use cvss_base::TENTH;
 use cvss_score::v3::Rules;
 use cvss_score::v3::rounding::round_count;
 use cvss_text::setting::read_given;
 use cvss_text::texts::components_of;
-use cvss_vector::{Cvss, Versioned, v2, v3};
+use cvss_vector::{Versioned, v2, v3};
 
 /// An exact number: a count of 10^-12 and a count of 10^-24, added.
 #[derive(Drop)]
@@ -28,14 +29,14 @@ pub struct CvssNumber {
 #[derive(Drop)]
 #[repr(C)]
 pub struct CvssNumbers {
+    /// The number of bytes that the caller has for it.
+    pub size: u32,
     /// The base score.
     pub base: i32,
     /// The temporal score.
     pub temporal: i32,
     /// The environmental score.
     pub environmental: i32,
-    /// 0.
-    pub reserved: i32,
     /// Of CVSS v2 Impact, of v3 ISS.
     pub impact: CvssNumber,
     /// Exploitability.
@@ -49,20 +50,54 @@ const TRILLION: i128 = 1_000_000_000_000;
 /// A million, in trillionths.
 const MILLION: i64 = 1_000_000_000_000_000_000;
 
-/// The numbers of the vector of CVSS v2 or v3 that the components make, which may lack any metric.
-pub fn numbers_of(version: i32, metrics: &[u8]) -> Option<CvssNumbers>
-    ensures { AreNumbersOf version metrics.now result }
+/// The number of bytes of the numbers of a vector.
+const NUMBERS_SIZE: u32 = 64;
+
+const _: () = prove!(size_of::<CvssNumbers>() == 64);
+
+/// Writes the numbers of the vector of CVSS v2 or v3 that the components make, which may lack any metric,
+/// if there is one and the struct is large enough, and returns whether it does.
+pub fn numbers(version: i32, metrics: &[u8], numbers: &mut CvssNumbers) -> bool
+    ensures { PutsFilled numbers_size numbers.old.size
+        (AreNumbersOf numbers.old.size version metrics.now) numbers.old numbers.new result }
+{
+    if numbers.size < NUMBERS_SIZE {
+        return false;
+    }
+    put(numbers_of(version, metrics, numbers.size), numbers)
+}
+
+/// Writes the tenths of a number less than a million from 0, rounded as CVSS v2 or v3 rounds scores, if it
+/// is one, and returns whether it is.
+pub fn rounded(version: i32, number: &CvssNumber, tenths: &mut i32) -> bool
+    ensures { Puts (IsRoundedTo version number.now) tenths.old tenths.new result }
+{
+    put(rounded_of(version, number), tenths)
+}
+
+/// Writes the tenths of the temporal score with this impact, less than a million from 0, of the vector of
+/// CVSS v2 that the components make, which may lack any metric, if there is one, and returns whether it
+/// does.
+pub fn temporal_with_impact(metrics: &[u8], impact: &CvssNumber, tenths: &mut i32) -> bool
+    ensures { Puts (IsTemporalWith metrics.now impact.now) tenths.old tenths.new result }
+{
+    put(temporal_of(metrics, impact), tenths)
+}
+
+/// The numbers of the vector that the components make, in a struct of this size.
+fn numbers_of(version: i32, metrics: &[u8], size: u32) -> Option<CvssNumbers>
+    ensures { AreNumbersOf size version metrics.now result }
 {
     match version {
-        20 => Some(numbers_of_v2(&partial(0, metrics)?)),
-        30 => Some(numbers_of_v3(&partial(0, metrics)?)),
-        31 => Some(numbers_of_v3(&partial(1, metrics)?)),
+        20 => Some(numbers_of_v2(&partial(0, metrics)?, size)),
+        30 => Some(numbers_of_v3(&partial(0, metrics)?, size)),
+        31 => Some(numbers_of_v3(&partial(1, metrics)?, size)),
         _ => None,
     }
 }
 
-/// The tenths of a number less than a million from 0, rounded as CVSS v2 or v3 rounds scores.
-pub fn rounded(version: i32, number: &CvssNumber) -> Option<i32>
+/// The tenths of a number, rounded as the version rounds scores.
+fn rounded_of(version: i32, number: &CvssNumber) -> Option<i32>
     ensures { IsRoundedTo version number.now result }
 {
     let score = score_of(number)?;
@@ -74,9 +109,8 @@ pub fn rounded(version: i32, number: &CvssNumber) -> Option<i32>
     }
 }
 
-/// The tenths of the temporal score with this impact, less than a million from 0, of the vector of CVSS
-/// v2 that the components make, which may lack any metric.
-pub fn temporal(metrics: &[u8], impact: &CvssNumber) -> Option<i32>
+/// The tenths of the temporal score with this impact of the vector of CVSS v2 that the components make.
+fn temporal_of(metrics: &[u8], impact: &CvssNumber) -> Option<i32>
     ensures { IsTemporalWith metrics.now impact.now result }
 {
     let impact = score_of(impact)?;
@@ -101,30 +135,29 @@ fn partial<V: Versioned>(minor_version: usize, metrics: &[u8]) -> Option<V>
     }
 }
 
-fn numbers_of_v2(vector: &v2::Vector) -> CvssNumbers
-    ensures { AreNumbersV2 vector.now result }
+fn numbers_of_v2(vector: &v2::Vector, size: u32) -> CvssNumbers
+    ensures { AreNumbersV2 size vector.now result }
 {
-    let (base, temporal, environmental) = scores_of(&Cvss::CvssV20(*vector));
     CvssNumbers {
-        base,
-        temporal,
-        environmental,
-        reserved: 0,
+        size,
+        base: i32::from(vector.tenths()),
+        temporal: i32::from(vector.temporal_tenths()),
+        environmental: i32::from(vector.environmental_tenths()),
         impact: number_of(vector.impact().value()),
         exploitability: number_of(vector.exploitability().value()),
         adjusted_impact: number_of(vector.adjusted_impact().value()),
     }
 }
 
-fn numbers_of_v3(vector: &v3::Vector) -> CvssNumbers
-    ensures { AreNumbersV3 vector.now result }
+fn numbers_of_v3(vector: &v3::Vector, size: u32) -> CvssNumbers
+    ensures { AreNumbersV3 size vector.now result }
 {
-    let (base, temporal, environmental) = tenths_of_v3(vector);
+    let (base, temporal, environmental) = vector.all_tenths();
     CvssNumbers {
-        base,
-        temporal,
-        environmental,
-        reserved: 0,
+        size,
+        base: i32::from(base),
+        temporal: i32::from(temporal),
+        environmental: i32::from(environmental),
         impact: number_of(vector.impact().value()),
         exploitability: number_of(vector.exploitability().value()),
         adjusted_impact: number_of(vector.weights().miss()),

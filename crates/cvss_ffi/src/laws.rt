@@ -1,6 +1,10 @@
 //! Laws of the calls, each the contract of a function that does nothing.
 
-ghost use Rattle.std.specs.Prelude.{◌≡◌, codes};
+ghost use Rattle.std.specs.Prelude.{◌≡◌, ℕ, List, codes, drop, length, take};
+ghost use Rattle.cvss_base.specs.Refusal.{Refusal};
+ghost use Rattle.cvss_scan.specs.Mentions.{AreFound, Placed, mentions_of};
+ghost use Rattle.cvss_vector.specs.Reasons.{reason_text};
+ghost use Rattle.cvss_vector.specs.declared.metric_type.MetricType.{MetricType};
 ghost use Rattle.cvss_vector.specs.v4.Merging.{effective_of};
 ghost use Rattle.cvss_vector.specs.declared.v2.vector.Vector as vector_v2;
 ghost use Rattle.cvss_vector.specs.declared.v3.vector.Vector as vector_v3;
@@ -12,12 +16,29 @@ ghost use Rattle.cvss_vector.specs.v2.Weights as weights_v2;
 ghost use Rattle.cvss_vector.specs.v3.VectorWeights as weights_v3;
 ghost use Rattle.cvss_base.specs.Equality.{ClonesAlways, ClonesByValue};
 ghost use Rattle.cvss_ffi.specs.Defined.{HasDefinedOf};
+ghost use Rattle.cvss_ffi.specs.Errors.{before_quoted, quoted_part};
+ghost use Rattle.cvss_ffi.specs.Matches.{AreFoundInTurn};
 
-use crate::{CvssMetric, CvssScores};
+use crate::CvssMetric;
+
+/// Where an error says that a message quotes a part of the text, the message has that part.
+#[tactic(auto, using(crate::proofs::MessageLemmas::quoted_in))]
+pub fn quoted_parts_are_in_messages()
+    ensures { (reason : Refusal MetricType)
+        → take (length (quoted_part reason)) (drop (length (before_quoted reason)) (reason_text reason))
+        ≡ quoted_part reason }
+{}
+
+/// Calls that go on where the one before says find exactly the matches of a text, in their order.
+#[tactic(auto, using(crate::proofs::MatchLemmas::found_in_turn))]
+pub fn calls_find_each_match()
+    ensures { (text : List ℕ) (found : List Placed) → AreFoundInTurn text 0 found
+        → AreFound (mentions_of text) found }
+{}
 
 /// A vector that has the defined metrics of another, and no others, has the other's weights, and in CVSS
 /// v4.0 its effective values; so it has its scores.
-pub fn undefined_metrics_change_no_score()
+pub fn not_defined_metrics_change_no_score()
     ensures v2 { (v w : vector_v2.Vector) → HasDefinedOf v2 (codes "ND") v w
         → weights_v2.weights_of v ≡ weights_v2.weights_of w }
     ensures v3 { (v w : vector_v3.Vector) → HasDefinedOf v3 (codes "X") v w
@@ -30,14 +51,12 @@ pub fn undefined_metrics_change_no_score()
     cvss_laws::v4::not_defined_scores_as_absent();
 }
 
-/// A clone of scores or of a metric is that value.
+/// A clone of a metric is that value.
 pub fn clones_are_equal()
-    ensures scores { ClonesByValue ⟦<CvssScores as Clone>⟧.is_clone }
-    ensures metric { ClonesByValue ⟦<CvssMetric as Clone>⟧.is_clone }
+    ensures { ClonesByValue ⟦<CvssMetric as Clone>⟧.is_clone }
 {}
 
-/// To clone scores or a metric takes no memory, so it is never refused.
+/// To clone a metric takes no memory, so it never fails.
 pub fn values_are_cloned_without_memory()
-    ensures scores { ClonesAlways ⟦<CvssScores as Clone>⟧.is_infallible }
-    ensures metric { ClonesAlways ⟦<CvssMetric as Clone>⟧.is_infallible }
+    ensures { ClonesAlways ⟦<CvssMetric as Clone>⟧.is_infallible }
 {}

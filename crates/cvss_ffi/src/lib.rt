@@ -1,31 +1,33 @@
-//! What is reported of a text, as bytes in a buffer of the caller and as plain numbers.
+//! What C gets of texts, as bytes in a buffer of the caller, as plain numbers and as structs.
 //!
 //! A function that writes something writes it at the beginning of a buffer where it fits, and
 //! returns its length, or the number of its items. A buffer that is too small is left as it was.
-//! Where there is nothing to write, what would be written is left as it was, and 0 or false is
-//! returned. Nothing takes memory.
+//! A struct says its own size, so that a later release may lengthen it; one that is too small is left as
+//! it was. Nothing takes memory.
 #![tactic(auto)]
 
-pub mod answer;
 mod buffer;
-pub mod canonical;
+mod canonical;
 pub mod defined;
+pub mod error;
 pub mod exact;
 pub mod laws;
-pub mod lines;
-pub mod mentioned;
+pub mod matches;
 pub mod metrics;
 pub mod numbers;
 pub mod objects;
-pub mod overriding;
-pub mod refusal;
-pub mod rejection;
-pub mod scores;
+mod reading;
+mod rejection;
+pub mod score;
+pub mod score_line;
+pub mod score_lines;
 pub mod setting;
 pub mod values;
+pub mod vector;
 
-pub use buffer::put;
+pub use error::CvssError;
 pub use exact::{CvssNumber, CvssNumbers};
+pub use matches::CvssMatch;
 pub use metrics::CvssMetric;
-pub use scores::{CvssScores, CvssScoresBy};
 pub use values::CvssValues;
+pub use vector::CvssVector;

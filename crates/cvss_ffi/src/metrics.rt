@@ -2,10 +2,12 @@
 
 ghost use Rattle.std.specs.Prelude.{◌≡◌, ◌≤◌, length};
 ghost use Rattle.cvss_base.specs.V4Types.{most_metrics};
+ghost use Rattle.cvss_ffi.specs.Accepted.{WritesOf};
 ghost use Rattle.cvss_ffi.specs.Buffer.{IsWritten};
 ghost use Rattle.cvss_ffi.specs.Metrics.{metrics_at, metrics_in_order, padded as padded_text};
 
 use crate::buffer::write;
+use crate::reading::read_vector;
 use cvss_base::v4::MOST_METRICS;
 use cvss_json_record::spelled;
 use cvss_text::print::Printed;
@@ -31,8 +33,19 @@ pub(crate) fn padded(text: &[u8]) -> [u8; 8]
     field
 }
 
+/// Writes the metrics of the vector that a text denotes, if there is one, and returns their number.
+pub fn metrics(text: &[u8], flags: u32, metrics: &mut [CvssMetric]) -> usize
+    ensures { WritesOf flags text.now (λ cvss. IsWritten (metrics_in_order cvss))
+        metrics.old metrics.new result }
+{
+    match read_vector(text, flags) {
+        Some(cvss) => write_metrics_of(&cvss, metrics),
+        None => 0,
+    }
+}
+
 /// Writes the metrics that a vector has, in the order of its canonical text.
-pub fn put_metrics(cvss: &Cvss, metrics: &mut [CvssMetric]) -> usize
+fn write_metrics_of(cvss: &Cvss, metrics: &mut [CvssMetric]) -> usize
     ensures { IsWritten (metrics_in_order cvss.now) metrics.old metrics.new result }
 {
     match cvss {

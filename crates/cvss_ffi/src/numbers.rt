@@ -1,18 +1,18 @@
-//! Numbers for versions, ratings and nomenclatures.
+//! Numbers for versions, severities and nomenclatures.
 
 ghost use Rattle.std.specs.Prelude.{◌≡◌, ◌≤◌, pos};
 ghost use Rattle.cvss_score.specs.v2.Rating.{rating_of};
-ghost use Rattle.cvss_ffi.specs.Scores.{IsRatingNumber, nomenclature_of_any, severity_number as number_of_severity, version_number as number_of_version};
+ghost use Rattle.cvss_ffi.specs.Scores.{IsSeverityNumber, nomenclature_of_any, severity_number as number_of_severity, version_number as number_of_version};
 
 use cvss_base::{Severity, TENTH, severity_of_score};
 use cvss_score::v4::Nomenclature;
 use cvss_vector::{Cvss, v2};
 
-/// What stands for nothing: a text that is refused has no version, and CVSS v4.0 no temporal score.
+/// What stands for nothing: a text that is rejected has no score, and CVSS v4.0 no temporal score.
 pub const NOTHING: i32 = -1;
 
 /// 20, 30, 31 or 40.
-pub fn version_number(cvss: &Cvss) -> i32
+pub(crate) fn version_number(cvss: &Cvss) -> i32
     ensures { result ≡ number_of_version cvss.now }
 {
     match cvss {
@@ -23,20 +23,20 @@ pub fn version_number(cvss: &Cvss) -> i32
     }
 }
 
-/// The number of the rating of so many tenths by the bounds of a version, 20, 30, 31 or 40; `NOTHING`
+/// The number of the severity of so many tenths by the bounds of a version, 20, 30, 31 or 40; `NOTHING`
 /// of another version, and of tenths outside 0 to 100.
-pub fn rating_number(version: i32, tenths: i32) -> i32
-    ensures { IsRatingNumber version tenths result }
+pub fn severity(version: i32, tenths: i32) -> i32
+    ensures { IsSeverityNumber version tenths result }
 {
     match u8::try_from(tenths) {
-        Ok(tenths) if tenths <= 100 => rating_of_tenths(version, tenths),
+        Ok(tenths) if tenths <= 100 => severity_of_tenths(version, tenths),
         _ => NOTHING,
     }
 }
 
-fn rating_of_tenths(version: i32, tenths: u8) -> i32
+fn severity_of_tenths(version: i32, tenths: u8) -> i32
     requires { tenths ≤ 100 }
-    ensures { IsRatingNumber version (pos tenths) result }
+    ensures { IsSeverityNumber version (pos tenths) result }
 {
     let score = i128::from(tenths) * TENTH;
     match version {
@@ -53,7 +53,8 @@ fn severity_of_v2(score: i128) -> Severity
 }
 
 /// 0 for none, to 4 for critical.
-fn severity_number(severity: Severity) -> i32
+#[inline(always)]
+pub(crate) fn severity_number(severity: Severity) -> i32
     ensures { result ≡ number_of_severity severity }
 {
     match severity {

@@ -1,31 +1,43 @@
-//! The record of a vector, and why it has its score, as JSON without spaces.
+//! The record of a vector, and how its score is computed, as JSON without spaces.
 
 ghost use Rattle.std.specs.Prelude.{None};
 ghost use Rattle.cvss_explain.specs.Explanation.{IsExplanationText};
-ghost use Rattle.cvss_vector.specs.Answers.{HasScore};
-ghost use Rattle.cvss_ffi.specs.Buffer.{Writes};
+ghost use Rattle.cvss_ffi.specs.Calls.{IsAnswerTo, Tells};
 ghost use Rattle.cvss_json_record.specs.Record.{IsRecordText};
 
-use crate::buffer::write;
+use crate::error::{CvssError, write_result};
+use crate::reading::read;
+use crate::rejection::{Rejection, reject};
+use cvss_explain::put_explanation;
+use cvss_json_record::put_record;
 use cvss_json_write::Page;
-use cvss_vector::Cvss;
 
-/// Writes the record of a vector.
-pub fn put_record(cvss: &Cvss, buffer: &mut [u8]) -> usize
-    requires { HasScore cvss.now }
-    ensures { Writes (IsRecordText cvss.now) buffer.old buffer.new result }
+/// Writes the record of the vector that a text denotes, or why there is none.
+pub fn record(text: &[u8], flags: u32, error: &mut CvssError, buffer: &mut [u8]) -> usize
+    ensures { Tells (IsAnswerTo flags text.now IsRecordText) error.old error.new
+        buffer.old buffer.new result }
 {
-    let mut page = Page::new();
-    cvss_json_record::put_record(&mut page, cvss);
-    write(page.bytes(), buffer)
+    match read(text, flags) {
+        Ok(cvss) => {
+            let mut page = Page::new();
+            put_record(&mut page, &cvss);
+            write_result(page.bytes(), error, buffer)
+        }
+        Err(why) => reject(Rejection::Text(why), error, buffer),
+    }
 }
 
-/// Writes why a vector has its score.
-pub fn put_explanation(cvss: &Cvss, buffer: &mut [u8]) -> usize
-    requires { HasScore cvss.now }
-    ensures { Writes (IsExplanationText None cvss.now) buffer.old buffer.new result }
+/// Writes the explanation of the score of the vector that a text denotes, or why there is none.
+pub fn explain(text: &[u8], flags: u32, error: &mut CvssError, buffer: &mut [u8]) -> usize
+    ensures { Tells (IsAnswerTo flags text.now (IsExplanationText None)) error.old error.new
+        buffer.old buffer.new result }
 {
-    let mut page = Page::new();
-    cvss_explain::put_explanation(&mut page, None, cvss);
-    write(page.bytes(), buffer)
+    match read(text, flags) {
+        Ok(cvss) => {
+            let mut page = Page::new();
+            put_explanation(&mut page, None, &cvss);
+            write_result(page.bytes(), error, buffer)
+        }
+        Err(why) => reject(Rejection::Text(why), error, buffer),
+    }
 }

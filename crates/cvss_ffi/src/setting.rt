@@ -1,19 +1,57 @@
-//! Metrics that are set in a vector, and vectors that are built from metrics. It takes no memory.
+//! Metrics that are set in a vector, and vectors that are made of metrics. It takes no memory.
 
-ghost use Rattle.std.specs.Prelude.{◌≡◌, IfNone, IfSome};
+ghost use Rattle.std.specs.Prelude.{◌≡◌, ◌≤◌, IfErr, IfNone, IfOk, IfSome, None, Some};
+ghost use Rattle.cvss_base.specs.Refusal as spec;
+ghost use Rattle.cvss_base.specs.V4Types.{most_metrics};
+ghost use Rattle.cvss_vector.specs.Complete.{missing_by as lacks_by};
+ghost use Rattle.cvss_vector.specs.Refusals.{refusal_of};
+ghost use Rattle.cvss_vector.specs.declared.metric_type.MetricType.{MetricType};
 ghost use Rattle.cvss_vector.specs.declared.setting.Version as version;
-ghost use Rattle.cvss_ffi.specs.Setting.{Builds, SetsMetrics, number_of};
-ghost use Rattle.cvss_ffi.specs.private.Rejection.{answered};
+ghost use Rattle.cvss_ffi.specs.Accepted.{may_lack as is_allowed};
+ghost use Rattle.cvss_ffi.specs.Calls.{Tells};
+ghost use Rattle.cvss_ffi.specs.Errors.{told_of};
+ghost use Rattle.cvss_ffi.specs.Setting.{MakesVector, SetsMetrics, number_of};
+ghost use Rattle.cvss_ffi.specs.private.Rejection.{answered, told};
 
-use crate::refusal::read;
-use crate::rejection::Rejection;
-use cvss_vector::{Cvss, ReadError, Version};
+use crate::error::CvssError;
+use crate::reading::may_lack;
+use crate::rejection::{Rejection, write_new};
+use cvss_vector::{Cvss, ReadError, Refusal, SetError, Version};
 
-/// The vector that a text denotes with metrics set, or why there is none.
-pub fn with_metrics<'a>(text: &'a [u8], metrics: &'a [u8]) -> Result<Cvss, Rejection<'a>>
-    ensures { SetsMetrics text.now metrics.now (answered result) }
+/// Writes the canonical text of the vector that a text denotes with metrics set, or why there is none.
+pub fn with_metrics(
+    text: &[u8],
+    metrics: &[u8],
+    flags: u32,
+    error: &mut CvssError,
+    buffer: &mut [u8],
+) -> usize
+    ensures { Tells (SetsMetrics flags text.now metrics.now) error.old error.new
+        buffer.old buffer.new result }
 {
-    let cvss = match read(text) {
+    write_new(vector_with(text, metrics, flags), error, buffer)
+}
+
+/// Writes the canonical text of the vector of a version that metrics make, or why they make none.
+pub fn from_metrics(
+    version: i32,
+    metrics: &[u8],
+    flags: u32,
+    error: &mut CvssError,
+    buffer: &mut [u8],
+) -> usize
+    ensures { Tells (MakesVector flags version metrics.now) error.old error.new
+        buffer.old buffer.new result }
+{
+    write_new(vector_of(version, metrics, flags), error, buffer)
+}
+
+/// The vector that a text denotes with metrics set, or why there is none. Only the new vector has to be
+/// complete.
+fn vector_with<'a>(text: &'a [u8], metrics: &'a [u8], flags: u32) -> Result<Cvss, Rejection<'a>>
+    ensures { SetsMetrics flags text.now metrics.now (answered result) }
+{
+    let cvss = match Cvss::read(text) {
         Ok(cvss) => cvss,
         Err(error) => return Err(Rejection::Text(error)),
     };
@@ -21,14 +59,14 @@ pub fn with_metrics<'a>(text: &'a [u8], metrics: &'a [u8]) -> Result<Cvss, Rejec
         return Err(Rejection::Text(ReadError::NotUtf8));
     };
     match cvss.with_metrics(metrics) {
-        Ok(new) => Ok(new),
-        Err(error) => Err(Rejection::Metrics(error.index, error.reason)),
+        Ok(new) => completed(new, flags),
+        Err(error) => Err(rejection_of(error)),
     }
 }
 
 /// The vector of a version that metrics make, or why they make none.
-pub fn built(version: i32, metrics: &[u8]) -> Result<Cvss, Rejection<'_>>
-    ensures { Builds version metrics.now (answered result) }
+fn vector_of(version: i32, metrics: &[u8], flags: u32) -> Result<Cvss, Rejection<'_>>
+    ensures { MakesVector flags version metrics.now (answered result) }
 {
     let Some(version) = version_of(version) else {
         return Err(Rejection::NoVersion);
@@ -37,8 +75,32 @@ pub fn built(version: i32, metrics: &[u8]) -> Result<Cvss, Rejection<'_>>
         return Err(Rejection::Text(ReadError::NotUtf8));
     };
     match Cvss::build(version, metrics) {
-        Ok(new) => Ok(new),
-        Err(error) => Err(Rejection::Metrics(error.index, error.reason)),
+        Ok(new) => completed(new, flags),
+        Err(error) => Err(rejection_of(error)),
+    }
+}
+
+/// The vector, unless it lacks base metrics and may not.
+fn completed<'a>(cvss: Cvss, flags: u32) -> Result<Cvss, Rejection<'a>>
+    ensures accepted { IfOk result (λ new. (new ≡ cvss) × (lacks_by (is_allowed flags) cvss ≡ None)) }
+    ensures rejected { IfErr result (λ rejection. (metric : MetricType)
+        × (lacks_by (is_allowed flags) cvss ≡ Some metric)
+        × (told rejection ≡ told_of None (spec.Missing metric))) }
+{
+    match cvss.missing_by(may_lack(flags)) {
+        Some(metric) => Err(Rejection::Metrics(None, Refusal::Missing(metric))),
+        None => Ok(cvss),
+    }
+}
+
+/// Why metrics are rejected.
+fn rejection_of(error: SetError<'_>) -> Rejection<'_>
+    requires { IfSome error.index (λ index. index ≤ most_metrics) }
+    ensures { told result ≡ told_of error.entry.index (refusal_of error.entry.reason) }
+{
+    match error.index {
+        Some(index) => Rejection::Metrics(Some(index as u8), error.reason),
+        None => Rejection::Metrics(None, error.reason),
     }
 }
 

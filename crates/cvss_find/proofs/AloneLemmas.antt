@@ -2,6 +2,7 @@
 use Rattle.std.proofs.Common.{◌≡◌, ℕ, Bool, true, false, cond, List, [], ◌∷◌, inl, inr, refl, sym, ap, ◌∙◌, subst}
 use Rattle.std.proofs.Math.Bool.{and-true}
 use Rattle.cvss_vector.specs.Lines.{score_rule}
+use Rattle.cvss_vector.specs.declared.scoring.Scoring.{Scoring}
 use Rattle.cvss_lines.specs.Answers.{Answer, Accepted, Refused, is_accepted, texts_of}
 use Rattle.cvss_scan.specs.Mentions.{AreFound, IsAccepted, Placed, mentions_of}
 use Rattle.cvss_find.specs.Answers.{AreReported, IsAnswerTo, Reported, all_accepted, answer_with, reported_texts}
@@ -12,19 +13,19 @@ texts_of_either : (b : Bool) (texts : List (List ℕ)) → texts_of (cond b (Acc
 texts_of_either true texts = refl
 texts_of_either false texts = refl
 
-reported_alone : (prefix : List ℕ) (allow : Bool) (number : ℕ) (line : List ℕ) (reported : List Reported) (answer : Answer) → IsAccepted line
-    → AreReported (located prefix allow number line) (record { place = 0; text = line } ∷ []) reported → answer ≡ answer_with reported (reported_texts reported)
-    → ReportsOfAll allow prefix number line answer
-reported_alone prefix allow number line [] answer accepted are is = absurd are
-reported_alone prefix allow number line (one ∷ []) answer accepted are is = record {
+reported_alone : (prefix : List ℕ) (scoring : Scoring) (allow : Bool) (number : ℕ) (line : List ℕ) (reported : List Reported) (answer : Answer) → IsAccepted line
+    → AreReported (located prefix scoring allow number line) (record { place = 0; text = line } ∷ []) reported → answer ≡ answer_with reported (reported_texts reported)
+    → ReportsOfAll scoring allow prefix number line answer
+reported_alone prefix scoring allow number line [] answer accepted are is = absurd are
+reported_alone prefix scoring allow number line (one ∷ []) answer accepted are is = record {
   own = are.0.answer;
-  answers = subst (λ bytes. score_rule allow number bytes are.0.answer) (answered_whole (located prefix allow number line) accepted) are.0.answers;
+  answers = subst (λ bytes. score_rule scoring allow number bytes are.0.answer) (answered_whole (located prefix scoring allow number line) accepted) are.0.answers;
   text = are.0.text;
   one_text = are.0.one_text;
   texts = ap texts_of is ∙ texts_of_either (all_accepted (one ∷ [])) (one.text ∷ []) ∙ ap (λ text. text ∷ []) are.0.is;
   accepted = ap is_accepted is ∙ sym (reported_answer (one ∷ []) (one.text ∷ [])) ∙ and-true one.accepts ∙ are.0.accepted;
 }
-reported_alone prefix allow number line (one ∷ other ∷ more) answer accepted are is = absurd are.1
+reported_alone prefix scoring allow number line (one ∷ other ∷ more) answer accepted are is = absurd are.1
 
 found_alone : (line : List ℕ) (found : List Placed) → IsAccepted line → AreFound (record { place = 0; text = line } ∷ []) found → found ≡ record { place = 0; text = line } ∷ []
 found_alone line [] accepted are = absurd (are.0 (inl accepted))
@@ -32,9 +33,9 @@ found_alone line (one ∷ []) accepted (inl (is, same, none)) = rw same refl
 found_alone line (one ∷ other ∷ more) accepted (inl (is, same, none)) = absurd none
 found_alone line (one ∷ more) accepted (inr (not_found, are)) = absurd (not_found (inl accepted))
 
-pub answered_alone : (prefix : List ℕ) (allow : Bool) (number : ℕ) (line : List ℕ) (answer : Answer) → (mentions_of line ≡ record { place = 0; text = line } ∷ []) → IsAccepted line
-    → IsAnswerTo (located prefix allow number line) answer → ReportsOfAll allow prefix number line answer
-answered_alone prefix allow number line answer one accepted answers =
+pub answered_alone : (prefix : List ℕ) (scoring : Scoring) (allow : Bool) (number : ℕ) (line : List ℕ) (answer : Answer) → (mentions_of line ≡ record { place = 0; text = line } ∷ []) → IsAccepted line
+    → IsAnswerTo (located prefix scoring allow number line) answer → ReportsOfAll scoring allow prefix number line answer
+answered_alone prefix scoring allow number line answer one accepted answers =
     let found = found_alone line answers.shown accepted (subst (λ mentions. AreFound mentions answers.shown) one answers.are_shown) in
-    reported_alone prefix allow number line answers.reported answer accepted
-    (subst (λ mentions. AreReported (located prefix allow number line) mentions answers.reported) found answers.are_reported) answers.is
+    reported_alone prefix scoring allow number line answers.reported answer accepted
+    (subst (λ mentions. AreReported (located prefix scoring allow number line) mentions answers.reported) found answers.are_reported) answers.is

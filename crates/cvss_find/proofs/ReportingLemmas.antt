@@ -9,6 +9,7 @@ use Rattle.std.specs.Prelude.{bytes_eq}
 use Rattle.cvss_vector.specs.Complete.{IsPublishedOfComplete}
 use Rattle.cvss_vector.specs.declared.published.Published.{Published}
 use Rattle.cvss_vector.specs.Lines.{score_rule}
+use Rattle.cvss_vector.specs.declared.scoring.Scoring.{Scoring}
 use Rattle.cvss_lines.specs.Answers.{Accepted, Refused, WritesAnswer, is_accepted, written_answer, written_text}
 use Rattle.cvss_lines.specs.Prefixed.{AnswersByOneText, is_one_text}
 use Rattle.cvss_find.specs.Answers.{AreReported, Asked, IsReported, Reported, all_accepted, answer_with, answered_bytes, answers_as, before_answer, place_text, reported_texts, shows_all, texts_for}
@@ -22,18 +23,18 @@ use Rattle.cvss_scan.specs.MentionsLeft.{IsFirstFound, NoneFound}
 use Rattle.cvss_find.proofs.DecodingLemmas.{written_decoded}
 use Rattle.cvss_scan.proofs.FoundLemmas.{AreFound-first, AreFound-none}
 
-one_text : (form : Form) (allow : Bool) → AnswersByOneText (answers_as form allow)
-one_text Located allow = is_one_text _ _
-one_text Object allow = is_one_text _ _
-one_text (Annotated all) allow = is_one_text _ _
+one_text : (form : Form) (scoring : Scoring) (allow : Bool) → AnswersByOneText (answers_as form scoring allow)
+one_text Located scoring allow = is_one_text _ _
+one_text Object scoring allow = is_one_text _ _
+one_text (Annotated all) scoring allow = is_one_text _ _
 
 -- a mention is reported of, once its answer is written after what is before it, and the byte 10 stays or is taken off
 pub WritesReported-answer : (asked : Asked) (mention : Placed) (old middle full new : List ℕ) (accepted : Bool) → middle ≡ old ++ before_answer asked.form asked mention
-    → WritesAnswer (answers_as asked.form asked.allow_incomplete) asked.number (decoded (answered_bytes asked mention)) middle full accepted
+    → WritesAnswer (answers_as asked.form asked.scoring asked.allow_incomplete) asked.number (decoded (answered_bytes asked mention)) middle full accepted
     → ((before text : List ℕ) → full ≡ before ++ written_text text → new ≡ before ++ written_as asked.form text)
     → WritesReported asked mention old new accepted
 WritesReported-answer asked mention old middle full new accepted placed written ended =
-    let one = one_text asked.form asked.allow_incomplete asked.number (decoded (answered_bytes asked mention)) written.answer written.answers in
+    let one = one_text asked.form asked.scoring asked.allow_incomplete asked.number (decoded (answered_bytes asked mention)) written.answer written.answers in
     let before = before_answer asked.form asked mention in
     record {
       reported = record { text = before ++ one.0; accepts = is_accepted written.answer };
@@ -178,19 +179,19 @@ answered_whole asked accepted =
     ∙ written_decoded asked.line (accepted_whole asked.line accepted).written
 
 -- what is asked of a line whose mentions are reported with their places
-abbrev pub located : List ℕ → Bool → ℕ → List ℕ → Asked
-located prefix allow number line = record { form = Located; prefix = prefix; allow_incomplete = allow; number = number; line = line }
+abbrev pub located : List ℕ → Scoring → Bool → ℕ → List ℕ → Asked
+located prefix scoring allow number line = record { form = Located; prefix = prefix; scoring = scoring; allow_incomplete = allow; number = number; line = line }
 
 -- a line that is one canonical vector, once its location and its answer are written
-pub canonical_reported : (prefix : List ℕ) (allow : Bool) (number : ℕ) (line : List ℕ) (published : Published) (old between middle new : List ℕ) → IsPublishedOfComplete line published
-    → between ≡ old ++ prefix → middle ≡ between ++ place_text number 0 → WritesAnswer (score_rule allow) number line middle new true → AnswersLine (located prefix allow number line) old new true
-canonical_reported prefix allow number line published old between middle new is first next written =
-    let asked = located prefix allow number line in
+pub canonical_reported : (prefix : List ℕ) (scoring : Scoring) (allow : Bool) (number : ℕ) (line : List ℕ) (published : Published) (old between middle new : List ℕ) → IsPublishedOfComplete scoring line published
+    → between ≡ old ++ prefix → middle ≡ between ++ place_text number 0 → WritesAnswer (score_rule scoring allow) number line middle new true → AnswersLine (located prefix scoring allow number line) old new true
+canonical_reported prefix scoring allow number line published old between middle new is first next written =
+    let asked = located prefix scoring allow number line in
     let mention : Placed = record { place = 0; text = line } in
     let accepted : IsAccepted line = record { cvss = is.of.cvss; denoted = is.of.denoted } in
     let none : NoneFound [] = All-nil (λ each. ¬ (IsFound each.text)) in
     let found : IsFirstFound (mentions_of line) mention [] = record { passed = []; is = accepted_alone line accepted; none = none; found = inl accepted } in
-    let own = subst (λ bytes. WritesAnswer (score_rule allow) number bytes middle new true) (sym (answered_whole asked accepted)) written in
+    let own = subst (λ bytes. WritesAnswer (score_rule scoring allow) number bytes middle new true) (sym (answered_whole asked accepted)) written in
     let placed = next ∙ ap (λ bytes. bytes ++ place_text number 0) first ∙ append_assoc old prefix (place_text number 0) in
     answer_written asked old old new new true (sym (append-nil old))
     (shown_all asked [] old new true

@@ -3,6 +3,7 @@ use Rattle.std.specs.Prelude.{◌≡◌, ℕ, ◌+◌, ◌&&◌, Bool, true, fal
 use Rattle.std.specs.Fmt.{decimal}
 use Rattle.std.specs.List.{list_all}
 use Rattle.cvss_vector.specs.Lines.{score_rule}
+use Rattle.cvss_vector.specs.declared.scoring.Scoring.{Scoring}
 use Rattle.cvss_find.specs.Decoding.{decoded}
 use Rattle.cvss_find.specs.declared.form.Form.{Form}
 use Rattle.cvss_find.specs.declared.form.Form.TheVariants.{Annotated, Located, Object}
@@ -13,11 +14,12 @@ use Rattle.cvss_rows.specs.declared.format.Format.TheVariants.{Json}
 use Rattle.cvss_scan.specs.Mentions.{AreFound, Placed, mentions_of}
 use Rattle.cvss_scan.specs.MentionsLeft.{IsFirstFound, NoneFound}
 
--- what is asked: the form of the answer, what each text begins with, whether vectors of CVSS v3 may lack base metrics, a line's number, which
--- counts from 1, and the line
+-- what is asked: the form of the answer, what each text begins with, which score of a vector is printed, whether vectors of
+-- CVSS v3 may lack base metrics, a line's number, which counts from 1, and the line
 pub record Asked : Type 0 where
   pub form : Form
   pub prefix : List ℕ
+  pub scoring : Scoring
   pub allow_incomplete : Bool
   pub number : ℕ
   pub line : List ℕ
@@ -54,18 +56,18 @@ before_answer Located asked mention = asked.prefix ++ place_text asked.number me
 before_answer Object asked mention = first_members asked mention
 before_answer (Annotated all) asked mention = codes "\t"
 
--- which answers bytes have: what `cvss score` answers to them, or in an object the members of `cvss score --json` after the
--- given text
-abbrev pub answers_as : Form → Bool → Rule
+-- which answers bytes have: what `cvss score` answers to them, or in an object, which has all scores, the members of
+-- `cvss score --json` after the given text
+abbrev pub answers_as : Form → Scoring → Bool → Rule
 answers_as Located = score_rule
-answers_as Object = cells_rule Json
+answers_as Object = λ _. cells_rule Json
 answers_as (Annotated all) = score_rule
 
 -- reported is an answer to the mention's bytes, decoded, as a line by themselves
 pub record IsReported (asked : Asked) (mention : Placed) (reported : Reported) : Type 0 where
   pub answer : Answer
   pub text : List ℕ
-  pub answers : answers_as asked.form asked.allow_incomplete asked.number (decoded (answered_bytes asked mention)) answer
+  pub answers : answers_as asked.form asked.scoring asked.allow_incomplete asked.number (decoded (answered_bytes asked mention)) answer
   pub one_text : texts_of answer ≡ text ∷ []
   pub is : reported.text ≡ before_answer asked.form asked mention ++ text
   pub accepted : reported.accepts ≡ is_accepted answer
@@ -116,7 +118,8 @@ pub record IsAnswerTo (asked : Asked) (answer : Answer) : Type 0 where
   pub are_reported : AreReported asked shown reported
   pub is : answer ≡ answer_with reported (texts_for asked.form asked (reported_texts reported))
 
--- which answers a line has, by the form, by whether vectors may be incomplete and by what each text begins with
-abbrev pub find_rule : Form → Bool → List ℕ → Rule
-find_rule form allow_incomplete prefix number line =
-    IsAnswerTo (record { form = form; prefix = prefix; allow_incomplete = allow_incomplete; number = number; line = line })
+-- which answers a line has, by the form, by which score is printed, by whether vectors may be incomplete and by what each
+-- text begins with
+abbrev pub find_rule : Form → Scoring → Bool → List ℕ → Rule
+find_rule form scoring allow_incomplete prefix number line =
+    IsAnswerTo (record { form = form; prefix = prefix; scoring = scoring; allow_incomplete = allow_incomplete; number = number; line = line })

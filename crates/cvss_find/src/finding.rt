@@ -5,6 +5,7 @@ ghost use Rattle.cvss_find.specs.Answers.{find_rule};
 use crate::form::Form;
 use crate::line::Line;
 use cvss_lines::{Answering, OutputBuffer};
+use cvss_vector::Scoring;
 use std::alloc::{AllocError, Global};
 use std::cell::Cell;
 
@@ -15,6 +16,8 @@ pub struct Finding<'a> {
     pub form: Form,
     /// Vectors of CVSS v3 may lack base metrics, and a line may end after a slash.
     pub allow_incomplete: bool,
+    /// Which score of a vector is printed. Objects have all.
+    pub scoring: Scoring,
     /// What each answer begins with. In objects it is the name of the file and a colon, where there
     /// are several files.
     pub prefix: &'a [u8],
@@ -23,7 +26,8 @@ pub struct Finding<'a> {
 }
 
 impl Answering for Finding<'_> {
-    ghost rule = { λ finding. find_rule finding.form finding.allow_incomplete finding.prefix.now };
+    ghost rule = { λ finding. find_rule finding.form finding.scoring finding.allow_incomplete
+        finding.prefix.now };
 
     fn answer_line(
         &self,
@@ -36,6 +40,7 @@ impl Answering for Finding<'_> {
             form: self.form,
             prefix: self.prefix,
             allow_incomplete: self.allow_incomplete,
+            scoring: self.scoring,
             number,
             bytes: line,
             loose_prefix: self.loose_prefix,

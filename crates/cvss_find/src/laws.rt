@@ -7,16 +7,17 @@ ghost use Rattle.cvss_find.specs.declared.form.Form.TheVariants.{Located};
 ghost use Rattle.cvss_find.specs.laws.Alone.{ReportsOfAll};
 ghost use Rattle.cvss_lines.specs.Answers.{Answer};
 ghost use Rattle.cvss_scan.specs.Mentions.{IsAccepted};
+ghost use Rattle.cvss_vector.specs.declared.scoring.Scoring.{Scoring};
 
 use crate::Form;
 
 /// A line that is one vector and nothing else is answered by what `cvss score` answers to it, after
 /// its number and its place.
 pub fn only_vectors_are_reported_as_they_are()
-    ensures { (allow_incomplete : Bool) → (prefix : List ℕ) → (number : ℕ) → (line : List ℕ)
-        → (answer : Answer) → IsAccepted line
-        → find_rule Located allow_incomplete prefix number line answer
-        → ReportsOfAll allow_incomplete prefix number line answer }
+    ensures { (scoring : Scoring) → (allow_incomplete : Bool) → (prefix : List ℕ) → (number : ℕ)
+        → (line : List ℕ) → (answer : Answer) → IsAccepted line
+        → find_rule Located scoring allow_incomplete prefix number line answer
+        → ReportsOfAll scoring allow_incomplete prefix number line answer }
 {
     cvss_scan::laws::accepted_texts_are_mentions();
 }

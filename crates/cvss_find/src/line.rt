@@ -16,7 +16,7 @@ use crate::place::{write_first_place, write_place};
 use cvss_lines::OutputBuffer;
 use cvss_rows::{Format, write_cells};
 use cvss_scan::{Mention, Mentions, begins_with_prefix, has_percent};
-use cvss_vector::{Cvss, Published, answer_score, write_canonical};
+use cvss_vector::{Cvss, Published, Scoring, answer_score, write_canonical};
 use std::alloc::{AllocError, Global};
 use std::cell::Cell;
 
@@ -26,6 +26,7 @@ pub(crate) struct Line<'a> {
     pub(crate) form: Form,
     pub(crate) prefix: &'a [u8],
     pub(crate) allow_incomplete: bool,
+    pub(crate) scoring: Scoring,
     pub(crate) number: u64,
     pub(crate) bytes: &'a [u8],
     pub(crate) loose_prefix: &'a Cell<bool>,
@@ -42,7 +43,7 @@ impl Line<'_> {
             answers.old.bytes.items answers.new.bytes.items) }
     {
         match self.form {
-            Form::Located => match Cvss::published_of_canonical(self.bytes) {
+            Form::Located => match Cvss::published_of_canonical(self.bytes, self.scoring) {
                 Some(published) => self.report_canonical(published, answers),
                 None => self.report_mentions(alloc, answers),
             },
@@ -56,7 +57,7 @@ impl Line<'_> {
         published: Published,
         answers: &mut OutputBuffer,
     ) -> Result<bool, AllocError>
-        requires published { IsPublishedOfComplete self.bytes.now published }
+        requires published { IsPublishedOfComplete self.scoring self.bytes.now published }
         requires form { self.form ≡ Located }
         ensures { IfOk result (AnswersLine (asked_of self.entry)
             answers.old.bytes.items answers.new.bytes.items) }
@@ -169,8 +170,8 @@ impl Line<'_> {
         bytes: &[u8],
         answers: &mut OutputBuffer,
     ) -> Result<bool, AllocError>
-        ensures { IfOk result (WritesAnswer (answers_as self.entry.form self.entry.allow_incomplete)
-            self.entry.number (decoded bytes.now)
+        ensures { IfOk result (WritesAnswer (answers_as self.entry.form self.entry.scoring
+            self.entry.allow_incomplete) self.entry.number (decoded bytes.now)
             answers.old.bytes.items answers.new.bytes.items) }
     {
         if has_percent(bytes) {
@@ -189,8 +190,8 @@ impl Line<'_> {
         text: &[u8],
         answers: &mut OutputBuffer,
     ) -> Result<bool, AllocError>
-        ensures { IfOk result (WritesAnswer (answers_as self.entry.form self.entry.allow_incomplete)
-            self.entry.number text.now answers.old.bytes.items answers.new.bytes.items) }
+        ensures { IfOk result (WritesAnswer (answers_as self.entry.form self.entry.scoring
+            self.entry.allow_incomplete) self.entry.number text.now answers.old.bytes.items answers.new.bytes.items) }
     {
         match self.form {
             Form::Object => {
@@ -199,6 +200,7 @@ impl Line<'_> {
             Form::Located | Form::Annotated { .. } => answer_score(
                 text,
                 self.allow_incomplete,
+                self.scoring,
                 answers,
             ),
         }

@@ -5,7 +5,7 @@ use Rattle.std.specs.Prelude.{leb}
 use Rattle.std.proofs.lemmas.Bool.{and_parts, leb-true}
 use Rattle.cvss_vector.specs.declared.vector.Cvss.{Cvss}
 use Rattle.cvss_vector.specs.declared.vector.Cvss.TheVariants.{CvssV20}
-use Rattle.cvss_base.specs.declared.severity.Severity.{Severity}
+use Rattle.cvss_base.specs.declared.severity.Severity as base
 use Rattle.cvss_base.specs.declared.severity.Severity.TheVariants as severity
 use Rattle.cvss_base.specs.declared.v2.MetricType as type_v2
 use Rattle.cvss_base.specs.declared.v2.MetricType.TheVariants as kind_v2
@@ -13,17 +13,17 @@ use Rattle.cvss_base.specs.declared.v3.MetricType as type_v3
 use Rattle.cvss_base.specs.declared.v3.MetricType.TheVariants as kind_v3
 use Rattle.cvss_base.specs.declared.v4.MetricType as type_v4
 use Rattle.cvss_base.specs.declared.v4.MetricType.TheVariants as kind_v4
-use Rattle.cvss_json_record.specs.Versions.{version_of}
+use Rattle.cvss_vector.specs.Evaluation.{version_of, version_text}
 use Rattle.cvss_json_record.specs.Words.{Row, word_in}
 use Rattle.cvss_json_record.specs.WordsV2 as words_v2
 use Rattle.cvss_json_record.specs.WordsV3 as words_v3
 use Rattle.cvss_json_record.specs.WordsV4 as words_v4
 use Rattle.cvss_json_record.specs.Fields.{name_of}
 use Rattle.cvss_json_record.specs.Groups.{tenths_at}
-use Rattle.cvss_json_record.specs.Record.{Expected, text, score, expected_of, rating_expected, rating_word, spelled_at, word_expected}
+use Rattle.cvss_json_record.specs.Record.{Expected, text, score, expected_of, severity_expected, severity_word, spelled_at, word_expected}
 use Rattle.cvss_json_record.specs.declared.field.Field.{Field}
-use Rattle.cvss_json_record.specs.declared.field.Field.TheVariants.{V2, V3, V4, Score, Rating, Text, Version}
-use Rattle.cvss_json_record.specs.declared.group.Group.TheVariants.{Base}
+use Rattle.cvss_json_record.specs.declared.field.Field.TheVariants.{V2, V3, V4, Score, Severity, Text, Version}
+use Rattle.cvss_vector.specs.declared.group.Group.TheVariants.{Base}
 use Rattle.cvss_json_record.specs.declared.score.Scores.{Scores}
 
 -- the byte is none that is escaped in JSON: no control character, no quotation mark and no backslash
@@ -78,15 +78,15 @@ word_fits : (entry : List ℕ × List Row) (spelling : Option (List ℕ)) → ar
 word_fits entry None fit = refl
 word_fits entry (Some spelling) fit = within (is_word 16) entry.1 spelling refl (and_parts _ _ fit).1
 
-rating_fits : (rating : Severity) → is_word 16 (rating_word rating) ≡ true
-rating_fits severity.None = refl
-rating_fits _ = refl
+severity_fits : (it : base.Severity) → is_word 16 (severity_word it) ≡ true
+severity_fits severity.None = refl
+severity_fits _ = refl
 
 mapped_fits : (f : ℕ → Expected) (tenths : Option ℕ) → ((each : ℕ) → is_expected (Some (f each)) ≡ true) → is_expected (option_map f tenths) ≡ true
 mapped_fits f None fits = refl
 mapped_fits f (Some tenths) fits = fits tenths
 
-version_fits : (cvss : Cvss) → is_word 16 (version_of cvss) ≡ true
+version_fits : (cvss : Cvss) → is_word 16 (version_text (version_of cvss)) ≡ true
 version_fits (CvssV20 _) = refl
 version_fits _ = refl
 
@@ -95,7 +95,7 @@ expected_fits cvss scores (V2 kind) = word_fits (words_v2.entry_of kind) (spelle
 expected_fits cvss scores (V3 kind) = word_fits (words_v3.entry_of kind) (spelled_at cvss (V3 kind)) (words_v3_fit kind)
 expected_fits cvss scores (V4 kind) = word_fits (words_v4.entry_of kind) (spelled_at cvss (V4 kind)) (words_v4_fit kind)
 expected_fits cvss scores (Score group) = mapped_fits score (tenths_at scores group) (λ _. refl)
-expected_fits cvss scores (Rating group) = mapped_fits (rating_expected cvss) (tenths_at scores group) (λ _. rating_fits _)
+expected_fits cvss scores (Severity group) = mapped_fits (severity_expected cvss) (tenths_at scores group) (λ _. severity_fits _)
 expected_fits cvss scores Text = refl
 expected_fits cvss scores Version = version_fits cvss
 
@@ -111,7 +111,7 @@ name_word (V3 kind) = (and_parts _ _ (words_v3_fit kind)).0
 name_word (V4 kind) = (and_parts _ _ (words_v4_fit kind)).0
 name_word (Score Base) = refl
 name_word (Score _) = refl
-name_word (Rating Base) = refl
+name_word (Severity Base) = refl
 name_word _ = refl
 
 pub name_fits : (field : Field) → is_text field ≡ false → is_other (name_of field) ≡ true

@@ -8,7 +8,7 @@ use Rattle.cvss_json_record.specs.WordsV3 as words_v3
 use Rattle.cvss_json_record.specs.WordsV4 as words_v4
 use Rattle.cvss_json_record.specs.Groups.{score_member, severity_member}
 use Rattle.cvss_json_record.specs.declared.field.Field.{Field}
-use Rattle.cvss_json_record.specs.declared.field.Field.TheVariants.{V2, V3, V4, Score, Rating, Text, Version}
+use Rattle.cvss_json_record.specs.declared.field.Field.TheVariants.{V2, V3, V4, Score, Severity, Text, Version}
 
 -- the name of a member
 abbrev pub name_of : Field → List ℕ
@@ -16,7 +16,7 @@ name_of (V2 kind) = words_v2.member_of kind
 name_of (V3 kind) = words_v3.member_of kind
 name_of (V4 kind) = words_v4.member_of kind
 name_of (Score group) = score_member group
-name_of (Rating group) = severity_member group
+name_of (Severity group) = severity_member group
 name_of Text = codes "vectorString"
 name_of Version = codes "version"
 

@@ -1,7 +1,6 @@
 pub mod Fields
 pub mod Groups
 pub mod Record
-pub mod Versions
 pub mod Words
 pub mod WordsV2
 pub mod WordsV3

@@ -5,13 +5,13 @@ use Rattle.cvss_vector.specs.Answers.{rating_by, score_of_tenths, text_of}
 use Rattle.cvss_vector.specs.declared.vector.Cvss.{Cvss}
 use Rattle.cvss_vector.specs.declared.vector.Cvss.TheVariants.{CvssV20, CvssV30, CvssV31, CvssV40}
 use Rattle.cvss_base.specs.Version.{held}
-use Rattle.cvss_base.specs.declared.severity.Severity.{Severity}
+use Rattle.cvss_base.specs.declared.severity.Severity as base
 use Rattle.cvss_base.specs.declared.severity.Severity.TheVariants as severity
 use Rattle.cvss_json_write.specs.Json.{Member, object_text, string_text, tenths_text}
 use Rattle.cvss_vector.specs.v2.Vector.{v2}
 use Rattle.cvss_vector.specs.v3.Vector.{v3}
 use Rattle.cvss_vector.specs.v4.Vector.{v4}
-use Rattle.cvss_json_record.specs.Versions.{version_of}
+use Rattle.cvss_vector.specs.Evaluation.{version_of, version_text}
 use Rattle.cvss_json_record.specs.Words.{Row, word_in}
 use Rattle.cvss_json_record.specs.WordsV2 as words_v2
 use Rattle.cvss_json_record.specs.WordsV3 as words_v3
@@ -21,9 +21,9 @@ use Rattle.cvss_json_record.specs.Groups.{AreScoresOf, has_group, tenths_at}
 use Rattle.cvss_json_record.specs.declared.expected.Expected as code
 use Rattle.cvss_json_record.specs.declared.expected.Expected.TheVariants as code_expected
 use Rattle.cvss_json_record.specs.declared.field.Field.{Field}
-use Rattle.cvss_json_record.specs.declared.field.Field.TheVariants.{V2, V3, V4, Score, Rating, Text, Version}
-use Rattle.cvss_json_record.specs.declared.group.Group.{Group}
-use Rattle.cvss_json_record.specs.declared.group.Group.TheVariants.{Base, Temporal, Environmental}
+use Rattle.cvss_json_record.specs.declared.field.Field.TheVariants.{V2, V3, V4, Score, Severity, Text, Version}
+use Rattle.cvss_vector.specs.declared.group.Group.{Group}
+use Rattle.cvss_vector.specs.declared.group.Group.TheVariants.{Base, Temporal, Environmental}
 use Rattle.cvss_json_record.specs.declared.score.Scores.{Scores}
 
 -- what a member says: a text, a score of so many tenths, or nothing of a metric that is absent
@@ -38,17 +38,17 @@ expected_view (code_expected.Text reported) = text reported.now
 expected_view (code_expected.Score tenths) = score tenths
 expected_view code_expected.Nothing = nothing
 
--- the word of a rating
-abbrev pub rating_word : Severity → List ℕ
-rating_word severity.None = codes "NONE"
-rating_word severity.Low = codes "LOW"
-rating_word severity.Medium = codes "MEDIUM"
-rating_word severity.High = codes "HIGH"
-rating_word severity.Critical = codes "CRITICAL"
+-- the word of a severity
+abbrev pub severity_word : base.Severity → List ℕ
+severity_word severity.None = codes "NONE"
+severity_word severity.Low = codes "LOW"
+severity_word severity.Medium = codes "MEDIUM"
+severity_word severity.High = codes "HIGH"
+severity_word severity.Critical = codes "CRITICAL"
 
--- the rating of a score of so many tenths
-abbrev pub rating_expected : Cvss → ℕ → Expected
-rating_expected cvss tenths = text (rating_word (rating_by cvss (score_of_tenths tenths)))
+-- the severity of a score of so many tenths
+abbrev pub severity_expected : Cvss → ℕ → Expected
+severity_expected cvss tenths = text (severity_word (rating_by cvss (score_of_tenths tenths)))
 
 -- the word for how a metric's value is spelled, if the vector has one
 abbrev pub word_expected : List Row → Option (List ℕ) → Expected
@@ -68,9 +68,9 @@ expected_of cvss scores (V2 kind) = Some (word_expected (words_v2.words_of kind)
 expected_of cvss scores (V3 kind) = Some (word_expected (words_v3.words_of kind) (spelled_at cvss (V3 kind)))
 expected_of cvss scores (V4 kind) = Some (word_expected (words_v4.words_of kind) (spelled_at cvss (V4 kind)))
 expected_of cvss scores (Score group) = option_map score (tenths_at scores group)
-expected_of cvss scores (Rating group) = option_map (rating_expected cvss) (tenths_at scores group)
+expected_of cvss scores (Severity group) = option_map (severity_expected cvss) (tenths_at scores group)
 expected_of cvss scores Text = None
-expected_of cvss scores Version = Some (text (version_of cvss))
+expected_of cvss scores Version = Some (text (version_text (version_of cvss)))
 
 -- what is said, as JSON
 abbrev pub expected_text : Expected → Option (List ℕ)
@@ -87,7 +87,7 @@ reports_group cvss Environmental = has_group cvss Environmental
 -- the record has the member, which of an optional group's score it has where the vector has a metric of the group
 abbrev pub has_member : Cvss → Field → Bool
 has_member cvss (Score group) = reports_group cvss group
-has_member cvss (Rating group) = reports_group cvss group
+has_member cvss (Severity group) = reports_group cvss group
 has_member cvss _ = true
 
 -- what the record says in a member, the vector's text aside, if it has the member

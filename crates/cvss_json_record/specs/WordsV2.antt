@@ -6,7 +6,7 @@ use Rattle.cvss_base.specs.declared.v2.MetricType.TheVariants.{AV, AC, Au, C, I,
 use Rattle.cvss_json_record.specs.Words.{Row, not_defined}
 use Rattle.cvss_json_record.specs.declared.field.Field.{Field}
 use Rattle.cvss_json_record.specs.declared.field.Field.TheVariants.{V2, Score, Text, Version}
-use Rattle.cvss_json_record.specs.declared.group.Group.TheVariants.{Base, Temporal, Environmental}
+use Rattle.cvss_vector.specs.declared.group.Group.TheVariants.{Base, Temporal, Environmental}
 
 -- words that several metrics have
 abbrev impact_words : List Row

@@ -5,8 +5,8 @@ use Rattle.cvss_base.specs.declared.v3.MetricType.{MetricType}
 use Rattle.cvss_base.specs.declared.v3.MetricType.TheVariants.{AV, AC, PR, UI, S, C, I, A, E, RL, RC, CR, IR, AR, MAV, MAC, MPR, MUI, MS, MC, MI, MA}
 use Rattle.cvss_json_record.specs.Words.{Row, not_defined}
 use Rattle.cvss_json_record.specs.declared.field.Field.{Field}
-use Rattle.cvss_json_record.specs.declared.field.Field.TheVariants.{V3, Score, Rating, Text, Version}
-use Rattle.cvss_json_record.specs.declared.group.Group.TheVariants.{Base, Temporal, Environmental}
+use Rattle.cvss_json_record.specs.declared.field.Field.TheVariants.{V3, Score, Severity, Text, Version}
+use Rattle.cvss_vector.specs.declared.group.Group.TheVariants.{Base, Temporal, Environmental}
 
 -- words that several metrics have
 abbrev attack_vector_words : List Row
@@ -67,7 +67,7 @@ words_of kind = (entry_of kind).1
 -- the members that a record may have, in the order of their names
 abbrev pub fields : List Field
 fields =
-    V3 AC ∷ V3 AV ∷ V3 A ∷ V3 AR ∷ Score Base ∷ Rating Base ∷ V3 C ∷ V3 CR ∷ Score Environmental
-    ∷ Rating Environmental ∷ V3 E ∷ V3 I ∷ V3 IR ∷ V3 MAC ∷ V3 MAV ∷ V3 MA ∷ V3 MC ∷ V3 MI ∷ V3 MPR
-    ∷ V3 MS ∷ V3 MUI ∷ V3 PR ∷ V3 RL ∷ V3 RC ∷ V3 S ∷ Score Temporal ∷ Rating Temporal ∷ V3 UI
+    V3 AC ∷ V3 AV ∷ V3 A ∷ V3 AR ∷ Score Base ∷ Severity Base ∷ V3 C ∷ V3 CR ∷ Score Environmental
+    ∷ Severity Environmental ∷ V3 E ∷ V3 I ∷ V3 IR ∷ V3 MAC ∷ V3 MAV ∷ V3 MA ∷ V3 MC ∷ V3 MI ∷ V3 MPR
+    ∷ V3 MS ∷ V3 MUI ∷ V3 PR ∷ V3 RL ∷ V3 RC ∷ V3 S ∷ Score Temporal ∷ Severity Temporal ∷ V3 UI
     ∷ Text ∷ Version ∷ []

@@ -5,8 +5,8 @@ use Rattle.cvss_base.specs.declared.v4.MetricType.{MetricType}
 use Rattle.cvss_base.specs.declared.v4.MetricType.TheVariants as metric
 use Rattle.cvss_json_record.specs.Words.{Row, not_defined}
 use Rattle.cvss_json_record.specs.declared.field.Field.{Field}
-use Rattle.cvss_json_record.specs.declared.field.Field.TheVariants.{V4, Score, Rating, Text, Version}
-use Rattle.cvss_json_record.specs.declared.group.Group.TheVariants.{Base}
+use Rattle.cvss_json_record.specs.declared.field.Field.TheVariants.{V4, Score, Severity, Text, Version}
+use Rattle.cvss_vector.specs.declared.group.Group.TheVariants.{Base}
 
 -- words that several metrics have
 abbrev attack_vector_words : List Row
@@ -84,7 +84,7 @@ words_of kind = (entry_of kind).1
 abbrev pub fields : List Field
 fields =
     V4 metric.AU ∷ V4 metric.R ∷ V4 metric.S ∷ V4 metric.AC ∷ V4 metric.AT ∷ V4 metric.AV
-    ∷ V4 metric.AR ∷ Score Base ∷ Rating Base ∷ V4 metric.CR ∷ V4 metric.E ∷ V4 metric.IR
+    ∷ V4 metric.AR ∷ Score Base ∷ Severity Base ∷ V4 metric.CR ∷ V4 metric.E ∷ V4 metric.IR
     ∷ V4 metric.MAC ∷ V4 metric.MAT ∷ V4 metric.MAV ∷ V4 metric.MPR ∷ V4 metric.MSA ∷ V4 metric.MSC
     ∷ V4 metric.MSI ∷ V4 metric.MUI ∷ V4 metric.MVA ∷ V4 metric.MVC ∷ V4 metric.MVI ∷ V4 metric.PR
     ∷ V4 metric.U ∷ V4 metric.SA ∷ V4 metric.SC ∷ V4 metric.SI ∷ V4 metric.UI ∷ V4 metric.V ∷ Text

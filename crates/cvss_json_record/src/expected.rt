@@ -6,9 +6,8 @@ ghost use Rattle.cvss_json_record.specs.Record.{expected_of, expected_view, spel
 
 use crate::field::Field;
 use crate::names::{Row, v2, v3, v4, word_in};
-use crate::score::{Scores, rating};
+use crate::score::{Scores, severity_word};
 use crate::text::spelled;
-use crate::versions::version;
 use cvss_vector::Cvss;
 
 /// What a member says.
@@ -32,9 +31,9 @@ pub fn expected_of(cvss: &Cvss, scores: &Scores, field: Field) -> Option<Expecte
         Field::V3(kind) => Some(word_expected(v3::entry(kind).1, spelled_at(cvss, field))),
         Field::V4(kind) => Some(word_expected(v4::entry(kind).1, spelled_at(cvss, field))),
         Field::Score(group) => Some(Expected::Score(scores.at(group)?)),
-        Field::Rating(group) => Some(Expected::Text(rating(cvss, scores.at(group)?))),
+        Field::Severity(group) => Some(Expected::Text(severity_word(cvss, scores.at(group)?))),
         Field::Text => None,
-        Field::Version => Some(Expected::Text(version(cvss))),
+        Field::Version => Some(Expected::Text(cvss.version().as_str())),
     }
 }
 

@@ -4,12 +4,12 @@
 ghost use Rattle.std.specs.Prelude.{◌≡◌, ◌≤◌, length};
 ghost use Rattle.cvss_json_record.specs.Fields.{fields_of, name_of};
 
-use crate::group::Group;
+use crate::group::{score_member, severity_member};
 use crate::names::{v2 as words_v2, v3 as words_v3, v4 as words_v4};
 use cvss_base::v2::MetricType as KindV2;
 use cvss_base::v3::MetricType as KindV3;
 use cvss_base::v4::MetricType as KindV4;
-use cvss_vector::Cvss;
+use cvss_vector::{Cvss, Group};
 
 /// A member of a record, by what it says of the vector.
 #[derive(Clone, Copy)]
@@ -22,8 +22,8 @@ pub enum Field {
     V4(KindV4),
     /// The score of a group.
     Score(Group),
-    /// The rating of a group's score.
-    Rating(Group),
+    /// The severity of a group's score.
+    Severity(Group),
     /// The canonical text.
     Text,
     /// The version.
@@ -39,8 +39,8 @@ impl Field {
             Field::V2(kind) => words_v2::entry(kind).0,
             Field::V3(kind) => words_v3::entry(kind).0,
             Field::V4(kind) => words_v4::entry(kind).0,
-            Field::Score(group) => group.score_member(),
-            Field::Rating(group) => group.severity_member(),
+            Field::Score(group) => score_member(group),
+            Field::Severity(group) => severity_member(group),
             Field::Text => "vectorString",
             Field::Version => "version",
         }

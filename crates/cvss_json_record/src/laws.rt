@@ -17,7 +17,7 @@ ghost use Rattle.cvss_metric.specs.v2.Table as table_v2;
 ghost use Rattle.cvss_metric.specs.v3.Table as table_v3;
 ghost use Rattle.cvss_metric.specs.v4.Table as table_v4;
 
-use crate::{Expected, Field, Group, Scores};
+use crate::{Expected, Field, Scores};
 
 /// Each value of a metric has a word, and no other value of the metric has it.
 pub fn words_report_values()
@@ -44,18 +44,16 @@ pub fn members_are_in_order()
     ensures v4 { AreMembers v4.fields V4 declared }
 {}
 
-/// A clone of a member, of what it says, of a group or of scores is that value.
+/// A clone of a member, of what it says or of scores is that value.
 pub fn clones_are_equal()
     ensures expected { ClonesByValue ⟦<Expected as Clone>⟧.is_clone }
     ensures field { ClonesByValue ⟦<Field as Clone>⟧.is_clone }
-    ensures group { ClonesByValue ⟦<Group as Clone>⟧.is_clone }
     ensures scores { ClonesByValue ⟦<Scores as Clone>⟧.is_clone }
 {}
 
-/// To clone a member, what it says, a group or scores takes no memory, so it is never refused.
+/// To clone a member, what it says or scores takes no memory, so it is never refused.
 pub fn values_are_cloned_without_memory()
     ensures expected { ClonesAlways ⟦<Expected as Clone>⟧.is_infallible }
     ensures field { ClonesAlways ⟦<Field as Clone>⟧.is_infallible }
-    ensures group { ClonesAlways ⟦<Group as Clone>⟧.is_infallible }
     ensures scores { ClonesAlways ⟦<Scores as Clone>⟧.is_infallible }
 {}

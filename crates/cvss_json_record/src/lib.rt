@@ -11,13 +11,11 @@ pub mod names;
 mod record;
 mod score;
 mod text;
-mod versions;
 
 use cvss_vector::{v2, v3};
 pub use expected::{Expected, expected_of};
 pub use field::{Field, fields_of};
-pub use group::Group;
+pub use group::{is_in_v2, is_in_v3, score_member, severity_member};
 pub use record::put_record;
-pub use score::{Scores, rating};
+pub use score::{Scores, severity_word};
 pub use text::{put_vector, spelled};
-pub use versions::version;

@@ -8,13 +8,14 @@ ghost use Rattle.cvss_json_record.specs.private.Room.{field_room};
 
 use crate::expected::{Expected, expected_of};
 use crate::field::{Field, fields_of};
+use crate::group::is_reported;
 use crate::score::Scores;
 use crate::text::put_vector;
 use cvss_json_write::{Members, Page, Scalar, put_member, put_name, put_object};
 use cvss_vector::Cvss;
 
 /// Writes the record of a vector that has a score: its version, its text, the word of each metric that
-/// it has, its scores and, except in CVSS v2, their ratings. The members are in the order of their
+/// it has, its scores and, except in CVSS v2, their severities. The members are in the order of their
 /// names.
 pub fn put_record(page: &mut Page, cvss: &Cvss)
     requires scored { HasScore cvss.now }
@@ -79,7 +80,7 @@ fn has_member(cvss: &Cvss, field: Field) -> bool
     ensures { result ≡ has_member cvss.now field }
 {
     match field {
-        Field::Score(group) | Field::Rating(group) => group.is_reported(cvss),
+        Field::Score(group) | Field::Severity(group) => is_reported(group, cvss),
         _ => true,
     }
 }

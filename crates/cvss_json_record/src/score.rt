@@ -2,17 +2,16 @@
 
 ghost use Rattle.std.specs.Prelude.{◌≡◌};
 ghost use Rattle.cvss_vector.specs.Answers.{HasScore, rating_by, score_of_tenths};
-ghost use Rattle.cvss_json_record.specs.Groups.{AreScoresOf, tenths_at};
-ghost use Rattle.cvss_json_record.specs.Record.{rating_word};
+ghost use Rattle.cvss_json_record.specs.Groups.{AreScoresOf, record_scores, tenths_at, tenths_of};
+ghost use Rattle.cvss_json_record.specs.Record.{severity_word};
 
-use crate::group::Group;
 use cvss_base::{Severity, TENTH};
-use cvss_vector::Cvss;
+use cvss_vector::{Cvss, Evaluation, Group, Rated};
 
-/// The scores of a vector in tenths, from 0 to 100 each.
+/// The scores that a record says, in tenths from 0 to 100 each.
 #[derive(Clone, Copy)]
 pub struct Scores {
-    /// The base score; of CVSS v4.0 the score of the vector as it is.
+    /// The base score; of CVSS v4.0, as publishers write it, the score with all metrics in the vector.
     pub base: u8,
     /// The temporal score of CVSS v2 and v3.
     pub temporal: Option<u8>,
@@ -26,29 +25,10 @@ impl Scores {
         requires { HasScore cvss.now }
         ensures { AreScoresOf cvss.now result }
     {
-        match cvss {
-            Cvss::CvssV20(vector) => Scores {
-                base: cvss.tenths(),
-                temporal: Some(vector.temporal_tenths()),
-                environmental: Some(vector.environmental_tenths()),
-            },
-            Cvss::CvssV30(vector) | Cvss::CvssV31(vector) => {
-                let (base, temporal, environmental) = vector.all_tenths();
-                Scores {
-                    base,
-                    temporal: Some(temporal),
-                    environmental: Some(environmental),
-                }
-            }
-            Cvss::CvssV40(_) => Scores {
-                base: cvss.tenths(),
-                temporal: None,
-                environmental: None,
-            },
-        }
+        record_scores(cvss, &Evaluation::of(cvss))
     }
 
-    /// The tenths of a group's score, if the version has it.
+    /// The tenths of a group's score, if a record can say it.
     pub fn at(&self, group: Group) -> Option<u8>
         ensures { result ≡ tenths_at self.now group }
     {
@@ -60,9 +40,33 @@ impl Scores {
     }
 }
 
-/// The rating that the vector's version gives a score of so many tenths, as a record says it.
-pub fn rating(cvss: &Cvss, tenths: u8) -> &'static str
-    ensures { result.now ≡ rating_word (rating_by cvss.now (score_of_tenths tenths)) }
+/// The scores that a record says of a vector that has these.
+fn record_scores(cvss: &Cvss, found: &Evaluation) -> Scores
+    ensures { result ≡ record_scores cvss.now found.now }
+{
+    match cvss {
+        Cvss::CvssV20(_) | Cvss::CvssV30(_) | Cvss::CvssV31(_) => Scores {
+            base: found.base.tenths,
+            temporal: tenths_of(found.temporal),
+            environmental: tenths_of(found.environmental),
+        },
+        Cvss::CvssV40(_) => Scores {
+            base: found.overall.tenths,
+            temporal: None,
+            environmental: None,
+        },
+    }
+}
+
+fn tenths_of(found: Option<Rated>) -> Option<u8>
+    ensures { result ≡ tenths_of found }
+{
+    Some(found?.tenths)
+}
+
+/// The severity that the vector's version gives a score of so many tenths, as a record says it.
+pub fn severity_word(cvss: &Cvss, tenths: u8) -> &'static str
+    ensures { result.now ≡ severity_word (rating_by cvss.now (score_of_tenths tenths)) }
 {
     match cvss.severity_of(i128::from(tenths) * TENTH) {
         Severity::None => "NONE",

@@ -1,4 +1,3 @@
-pub mod Overall
 pub mod Overrides
 pub mod Ranking
 pub mod Reading

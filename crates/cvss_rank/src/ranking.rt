@@ -5,11 +5,11 @@ ghost use Rattle.cvss_rank.specs.Ranking.{AreRead, IsRanking, IsRow};
 ghost use Rattle.cvss_rank.specs.Reading.{IsReason};
 ghost use Rattle.cvss_rank.specs.private.Steps.{Adds};
 
-use crate::overall::overall_tenths;
 use crate::overrides::{Override, after_all};
 use crate::reading::{Reason, vector_of};
 use crate::row::Row;
 use cvss_score::ranking;
+use cvss_vector::Scoring;
 use std::alloc::{AllocError, Global};
 
 /// A line that has no vector.
@@ -30,9 +30,9 @@ pub struct Ranking<'a> {
     pub bad: Vec<BadLine<'a>>,
 }
 
-/// Ranks lines by the overall scores of their vectors after overrides, of which each sets its metrics in
-/// the vectors for which it holds, the later after the earlier. `allow_incomplete`: vectors of CVSS v3
-/// may lack base metrics.
+/// Ranks lines by scores of their vectors after overrides, of which each sets its metrics in the vectors
+/// for which it holds, the later after the earlier. `allow_incomplete`: vectors of CVSS v3 may lack base
+/// metrics. `scoring`: by which score of each vector.
 ///
 /// # Errors
 ///
@@ -42,11 +42,12 @@ pub fn rank<'a>(
     lines: &[&'a [u8]],
     overrides: &[Override<'_>],
     allow_incomplete: bool,
+    scoring: Scoring,
 ) -> Result<Ranking<'a>, AllocError>
-    ensures { IfOk result (IsRanking overrides.now allow_incomplete
+    ensures { IfOk result (IsRanking overrides.now scoring allow_incomplete
         (map (λ line. line.now) lines.now)) }
 {
-    let mut ranking = read_lines(alloc, lines, overrides, allow_incomplete)?;
+    let mut ranking = read_lines(alloc, lines, overrides, allow_incomplete, scoring)?;
     ranking::rank(&mut ranking.rows);
     Ok(ranking)
 }
@@ -57,8 +58,9 @@ fn read_lines<'a>(
     lines: &[&'a [u8]],
     overrides: &[Override<'_>],
     allow_incomplete: bool,
+    scoring: Scoring,
 ) -> Result<Ranking<'a>, AllocError>
-    ensures { IfOk result (λ ranking. AreRead overrides.now allow_incomplete 0
+    ensures { IfOk result (λ ranking. AreRead overrides.now scoring allow_incomplete 0
         (map (λ line. line.now) lines.now) ranking.rows.items ranking.bad.items) }
 {
     let mut ranking = Ranking {
@@ -66,7 +68,14 @@ fn read_lines<'a>(
         bad: Vec::new(alloc),
     };
     for (index, line) in lines.iter().enumerate() {
-        add_line(&mut ranking, index, line, overrides, allow_incomplete)?;
+        add_line(
+            &mut ranking,
+            index,
+            line,
+            overrides,
+            allow_incomplete,
+            scoring,
+        )?;
     }
     Ok(ranking)
 }
@@ -79,10 +88,12 @@ fn add_line<'a>(
     line: &'a [u8],
     overrides: &[Override<'_>],
     allow_incomplete: bool,
+    scoring: Scoring,
 ) -> Result<(), AllocError>
-    ensures { OnOk result (Adds overrides.now allow_incomplete index line.now ranking.old ranking.new) }
+    ensures { OnOk result (Adds overrides.now scoring allow_incomplete index line.now
+        ranking.old ranking.new) }
 {
-    match row_of(line, overrides, allow_incomplete) {
+    match row_of(line, overrides, allow_incomplete, scoring) {
         Ok(row) => ranking.rows.push(row)?,
         Err(reason) => ranking.bad.push(BadLine { index, reason })?,
     }
@@ -94,14 +105,15 @@ fn row_of<'a>(
     line: &'a [u8],
     overrides: &[Override<'_>],
     allow_incomplete: bool,
+    scoring: Scoring,
 ) -> Result<Row<'a>, Reason<'a>>
-    ensures row { IfOk result (IsRow overrides.now allow_incomplete line.now) }
+    ensures row { IfOk result (IsRow overrides.now scoring allow_incomplete line.now) }
     ensures reason { IfErr result (IsReason allow_incomplete line.now) }
 {
     let vector = after_all(vector_of(line, allow_incomplete)?, overrides);
     Ok(Row {
         line,
         vector,
-        tenths: overall_tenths(&vector),
+        tenths: vector.tenths_as(scoring),
     })
 }

@@ -12,12 +12,12 @@ use cvss_vector::Cvss;
 pub struct Row<'a> {
     pub line: &'a [u8],
     pub vector: Cvss,
-    /// The tenths of the vector's overall score, from 0 to 100.
+    /// The tenths of the vector's score, from 0 to 100.
     pub tenths: u8,
 }
 
 impl Row<'_> {
-    /// The rating that the vector's version gives the score.
+    /// The severity that the vector's version gives the score.
     pub fn severity(&self) -> Severity
         ensures { result ≡ rating_by self.now.vector (score_of_tenths self.now.tenths) }
     {

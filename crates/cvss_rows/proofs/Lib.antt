@@ -1,1 +1,2 @@
+mod ScoreLemmas
 mod TextLemmas

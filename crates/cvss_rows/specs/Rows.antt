@@ -1,10 +1,13 @@
 -- The row of a line: CVSS v2 guide, section 3.2; v3.1 specification, section 7; v4.0 specification, section 8.
-use Rattle.std.specs.Prelude.{◌≡◌, ℕ, Bool, List, [], ◌∷◌, ◌++◌, codes, flat_map, if◌then◌else◌, None, ℤ}
+use Rattle.std.specs.Prelude.{◌≡◌, ℕ, Bool, List, [], ◌∷◌, ◌++◌, codes, flat_map, if◌then◌else◌, Option, None, Some}
 use Rattle.std.specs.Str.{IsUtf8}
-use Rattle.cvss_vector.specs.Answers.{IsScoreOf, rating_by, score_of_tenths, text_of}
+use Rattle.cvss_vector.specs.Answers.{text_of}
 use Rattle.cvss_vector.specs.Complete.{IsReadErrorBy, missing_by}
 use Rattle.cvss_vector.specs.Dispatch.{DenotesCvss}
+use Rattle.cvss_vector.specs.Evaluation.{IsEvaluation, version_text}
 use Rattle.cvss_vector.specs.Reasons.{error_message}
+use Rattle.cvss_vector.specs.declared.evaluation.Evaluation.{Evaluation}
+use Rattle.cvss_vector.specs.declared.evaluation.Rated.{Rated}
 use Rattle.cvss_vector.specs.declared.refusal.ReadError.{ReadError}
 use Rattle.cvss_vector.specs.declared.vector.Cvss.{Cvss}
 use Rattle.cvss_vector.specs.declared.vector.Cvss.TheVariants.{CvssV20, CvssV30, CvssV31, CvssV40}
@@ -12,12 +15,6 @@ use Rattle.cvss_base.specs.SeverityText.{text_of as severity_text}
 use Rattle.cvss_base.specs.Tenths.{tenths_text}
 use Rattle.cvss_lines.specs.Answers.{Rule, by_one_text}
 use Rattle.cvss_lines.specs.Prefixed.{IsPrefixed}
-use Rattle.cvss_score.specs.v2.Scores as scores_v2
-use Rattle.cvss_score.specs.v3.Scores as scores_v3
-use Rattle.cvss_vector.specs.v2.Weights as weights_v2
-use Rattle.cvss_vector.specs.declared.v2.vector.Vector as vector_v2
-use Rattle.cvss_vector.specs.v3.VectorWeights as weights_v3
-use Rattle.cvss_vector.specs.declared.v3.vector.Vector as vector_v3
 use Rattle.cvss_vector.specs.v4.Nomenclature as nomenclature
 use Rattle.cvss_rows.specs.Cells.{Cell, Nothing, Words, AnyText, Number, before_cell, cell_text, closing, given_text, opening}
 use Rattle.cvss_rows.specs.declared.format.Format.{Format}
@@ -25,6 +22,11 @@ use Rattle.cvss_rows.specs.declared.format.Format.{Format}
 -- a score of so many tenths
 abbrev pub score_cell : ℕ → Cell
 score_cell tenths = Number (tenths_text tenths)
+
+-- a score that the version has or not
+abbrev pub optional_cell : Option Rated → Cell
+optional_cell None = Nothing
+optional_cell (Some rated) = score_cell rated.tenths
 
 -- the groups of metrics that a score of CVSS v4.0 counts: v4.0 specification, section 1.3
 abbrev pub nomenclature_cell : Cvss → Cell
@@ -51,55 +53,14 @@ fields_of vector version base temporal environmental score severity nomenclature
     ∷ (codes "environmental", environmental) ∷ (codes "score", score) ∷ (codes "severity", severity)
     ∷ (codes "nomenclature", nomenclature) ∷ (codes "error", error) ∷ []
 
--- the cell is that of the score in tenths
-pub record IsScoreCell (IsScore : ℤ → Type 0) (cell : Cell) : Type 0 where
-  pub tenths : ℕ
-  pub is_score : IsScore (score_of_tenths tenths)
-  pub is : cell ≡ score_cell tenths
-
--- a version, and a vector's base, temporal and environmental score
-pub record AreScoresBy (IsBase IsTemporal IsEnvironmental : ℤ → Type 0) (own : List ℕ) (version base temporal environmental : Cell) : Type 0 where
-  pub is_version : version ≡ Words own
-  pub is_base : IsScoreCell IsBase base
-  pub is_temporal : IsScoreCell IsTemporal temporal
-  pub is_environmental : IsScoreCell IsEnvironmental environmental
-
-abbrev pub AreScoresV2 : vector_v2.Vector → Cell → Cell → Cell → Cell → Type 0
-AreScoresV2 vector =
-    AreScoresBy (scores_v2.IsBaseScore (weights_v2.weights_of vector)) (scores_v2.IsTemporalScore (weights_v2.weights_of vector))
-    (scores_v2.IsEnvironmentalScore (weights_v2.weights_of vector)) (codes "2.0")
-
-abbrev pub AreScoresV3 : List ℕ → vector_v3.Vector → Cell → Cell → Cell → Cell → Type 0
-AreScoresV3 own vector =
-    AreScoresBy (scores_v3.IsBaseScore vector.minor_version (weights_v3.weights_of vector))
-    (scores_v3.IsTemporalScore vector.minor_version (weights_v3.weights_of vector))
-    (scores_v3.IsEnvironmentalScore vector.minor_version (weights_v3.weights_of vector)) own
-
--- CVSS v4.0 has one score
-pub record HasNoScores (version base temporal environmental : Cell) : Type 0 where
-  pub is_version : version ≡ Words (codes "4.0")
-  pub no_base : base ≡ Nothing
-  pub no_temporal : temporal ≡ Nothing
-  pub no_environmental : environmental ≡ Nothing
-
--- the version of a vector, and the scores of its groups of metrics
-abbrev pub AreScores : Cvss → Cell → Cell → Cell → Cell → Type 0
-AreScores (CvssV20 vector) = AreScoresV2 vector
-AreScores (CvssV30 vector) = AreScoresV3 (codes "3.0") vector
-AreScores (CvssV31 vector) = AreScoresV3 (codes "3.1") vector
-AreScores (CvssV40 vector) = HasNoScores
-
--- the fields of a vector that has a score: its text, the scores of its groups, its score, the rating and the nomenclature
+-- the fields of a vector that has a score: its text, its version, the scores of its groups (of CVSS v4.0, whose base score
+-- is that of CVSS-B, there are no others), its score with all metrics in it, the severity of that score and the nomenclature
 pub record AreFields (vector : Cvss) (fields : Fields) : Type 0 where
-  pub version : Cell
-  pub base : Cell
-  pub temporal : Cell
-  pub environmental : Cell
-  pub are_scores : AreScores vector version base temporal environmental
-  pub tenths : ℕ
-  pub scored : IsScoreOf vector (score_of_tenths tenths)
-  pub are : fields ≡ fields_of (Words (text_of vector)) version base temporal environmental (score_cell tenths)
-      (Words (severity_text (rating_by vector (score_of_tenths tenths)))) (nomenclature_cell vector) Nothing
+  pub scores : Evaluation
+  pub are_scores : IsEvaluation vector scores
+  pub are : fields ≡ fields_of (Words (text_of vector)) (Words (version_text scores.version)) (score_cell scores.base.tenths)
+      (optional_cell scores.temporal) (optional_cell scores.environmental) (score_cell scores.overall.tenths)
+      (Words (severity_text scores.overall.severity)) (nomenclature_cell vector) Nothing
 
 -- the fields of a line that is rejected for this reason
 abbrev pub rejected_fields : List ℕ → Fields

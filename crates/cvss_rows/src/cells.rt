@@ -1,13 +1,13 @@
 //! The fields of a row.
 
-ghost use Rattle.std.specs.Prelude.{◌≡◌, ◌≤◌, map};
+ghost use Rattle.std.specs.Prelude.{◌≡◌, ◌≤◌, IfSome, map};
 ghost use Rattle.cvss_vector.specs.Answers.{HasScore, text_of};
 ghost use Rattle.cvss_vector.specs.Reasons.{error_message};
-ghost use Rattle.cvss_rows.specs.Rows.{AreFields, AreScores, AreScoresV2, AreScoresV3, nomenclature_cell, rejected_fields, score_cell};
+ghost use Rattle.cvss_rows.specs.Rows.{AreFields, nomenclature_cell, optional_cell, rejected_fields, score_cell};
 ghost use Rattle.cvss_rows.specs.private.Views.{cell_view, field_view};
 
 use cvss_base::tenths;
-use cvss_vector::{Cvss, ReadError, v2, v3};
+use cvss_vector::{Cvss, Evaluation, Rated, ReadError};
 
 /// What a cell holds.
 #[derive(Clone, Copy)]
@@ -41,80 +41,40 @@ pub(crate) fn rejected_fields(error: ReadError<'_>) -> [Field<'_>; 9]
 }
 
 /// The fields of a vector with this text.
+#[tactic(auto, using(crate::proofs::ScoreLemmas::optional_to_ten))]
 pub(crate) fn fields_of<'a>(cvss: &Cvss, text: &'a str) -> [Field<'a>; 9]
     requires scored { HasScore cvss.now }
     requires text { text.now ≡ text_of cvss.now }
     ensures { AreFields cvss.now (map field_view result) }
 {
-    let scores = scores_of(cvss);
+    let scores = Evaluation::of(cvss);
     [
         ("vector", Cell::Words(text)),
-        ("version", scores.version),
-        ("base", scores.base),
-        ("temporal", scores.temporal),
-        ("environmental", scores.environmental),
-        ("score", number(cvss.tenths())),
-        ("severity", Cell::Words(cvss.severity().as_str())),
+        ("version", Cell::Words(scores.version.as_str())),
+        ("base", number(scores.base)),
+        ("temporal", optional(scores.temporal)),
+        ("environmental", optional(scores.environmental)),
+        ("score", number(scores.overall)),
+        ("severity", Cell::Words(scores.overall.severity.as_str())),
         ("nomenclature", nomenclature_of(cvss)),
         ("error", Cell::Nothing),
     ]
 }
 
-fn number(tenths: u8) -> Cell<'static>
-    requires { tenths ≤ 100 }
-    ensures { cell_view result ≡ score_cell tenths }
+fn number(rated: Rated) -> Cell<'static>
+    requires { rated.tenths ≤ 100 }
+    ensures { cell_view result ≡ score_cell rated.tenths }
 {
-    Cell::Number(tenths::text_of(tenths))
+    Cell::Number(tenths::text_of(rated.tenths))
 }
 
-/// The version of a vector, and the scores of its groups of metrics.
-#[derive(Clone, Copy)]
-pub(crate) struct Scores {
-    version: Cell<'static>,
-    base: Cell<'static>,
-    temporal: Cell<'static>,
-    environmental: Cell<'static>,
-}
-
-fn scores_of(cvss: &Cvss) -> Scores
-    ensures { AreScores cvss.now (cell_view result.version) (cell_view result.base)
-        (cell_view result.temporal) (cell_view result.environmental) }
+fn optional(rated: Option<Rated>) -> Cell<'static>
+    requires { IfSome rated (λ rated. rated.tenths ≤ 100) }
+    ensures { cell_view result ≡ optional_cell rated }
 {
-    match cvss {
-        Cvss::CvssV20(vector) => scores_of_v2(vector),
-        Cvss::CvssV30(vector) => scores_of_v3("3.0", vector),
-        Cvss::CvssV31(vector) => scores_of_v3("3.1", vector),
-        Cvss::CvssV40(_) => Scores {
-            version: Cell::Words("4.0"),
-            base: Cell::Nothing,
-            temporal: Cell::Nothing,
-            environmental: Cell::Nothing,
-        },
-    }
-}
-
-fn scores_of_v2(vector: &v2::Vector) -> Scores
-    ensures { AreScoresV2 vector.now (cell_view result.version) (cell_view result.base)
-        (cell_view result.temporal) (cell_view result.environmental) }
-{
-    Scores {
-        version: Cell::Words("2.0"),
-        base: number(vector.tenths()),
-        temporal: number(vector.temporal_tenths()),
-        environmental: number(vector.environmental_tenths()),
-    }
-}
-
-fn scores_of_v3(version: &'static str, vector: &v3::Vector) -> Scores
-    ensures { AreScoresV3 version.now vector.now (cell_view result.version) (cell_view result.base)
-        (cell_view result.temporal) (cell_view result.environmental) }
-{
-    let (base, temporal, environmental) = vector.all_tenths();
-    Scores {
-        version: Cell::Words(version),
-        base: number(base),
-        temporal: number(temporal),
-        environmental: number(environmental),
+    match rated {
+        Some(rated) => number(rated),
+        None => Cell::Nothing,
     }
 }
 

@@ -1,8 +1,10 @@
 -- What the command does, by what its arguments ask for.
-use Rattle.std.specs.Prelude.{◌≡◌, ◌⊎◌, ℕ, ◌-◌, ◌==◌, Bool, true, false, List, ◌∷◌, flat_map, length, take, drop, Option, Some, None, Result, Ok, Err, IsOkAnd, if◌then◌else◌}
+use Rattle.std.specs.Prelude.{◌≡◌, ◌⊎◌, ℕ, ◌==◌, Bool, true, false, List, [], ◌∷◌, Option, Some, None, Result, Ok, Err, IsOkAnd, if◌then◌else◌}
 use Rattle.std.specs.Global.{Vec}
 use Rattle.std.specs.Io.KnownBytes.{Keeps}
 use Rattle.std.specs.Str.{IsUtf8}
+use Rattle.cvss_subcommands.specs.Arguments.{metrics_in, operands_of, words_of}
+use Rattle.cvss_subcommands.specs.Flags.{scoring_of}
 use Rattle.cvss_subcommands.specs.Hints.{prefix_hint}
 use Rattle.cvss_subcommands.specs.Scoring.{AnswersLines, Scores, WritesText}
 use Rattle.cvss_subcommands.specs.Setting.{set_rule}
@@ -16,6 +18,8 @@ use Rattle.cvss_subcommands.specs.declared.requests.Request.{Request}
 use Rattle.cvss_subcommands.specs.declared.requests.Request.TheVariants.{Help, Version, Wrong, Run}
 use Rattle.cvss_subcommands.specs.declared.subcommand.Subcommand.{Subcommand}
 use Rattle.cvss_subcommands.specs.declared.subcommand.Subcommand.TheVariants.{Score, Find, Explain, Set, Triage, Audit}
+use Rattle.cvss_subcommands.specs.declared.usage_error.UsageError.{UsageError}
+use Rattle.cvss_subcommands.specs.declared.usage_error.UsageError.TheVariants.{NoMetric, NotUtf8}
 use Rattle.cvss_explain_answers.specs.Json as json
 use Rattle.cvss_explain_answers.specs.Text as text
 use Rattle.cvss_find.specs.Answers.{find_rule}
@@ -28,6 +32,7 @@ use Rattle.cvss_program.specs.Operands.{Endings, ServesAll}
 use Rattle.cvss_program.specs.Reports.{Reported, Reports}
 use Rattle.cvss_program.specs.declared.served.Served.{Served}
 use Rattle.cvss_triage.specs.Triage.{Triages}
+use Rattle.cvss_vector.specs.declared.scoring.Scoring.{Scoring}
 
 -- the help on a subcommand or on all, of these texts
 abbrev pub help_of : List ℕ → List ℕ → List ℕ → List ℕ → List ℕ → List ℕ → List ℕ → Option Subcommand → List ℕ
@@ -46,12 +51,12 @@ form_of false true all = Annotated all
 form_of false false all = Located
 
 -- each line is answered by what is found in it
-abbrev pub FindsVectors : Form → Bool → Endings
-FindsVectors form allow_incomplete prefix = Ends (find_rule form allow_incomplete prefix)
+abbrev pub FindsVectors : Form → Scoring → Bool → Endings
+FindsVectors form scoring allow_incomplete prefix = Ends (find_rule form scoring allow_incomplete prefix)
 
--- how an input is answered by `cvss find`, by whether --json, --annotate, --all and --allow-incomplete are given
-abbrev pub find_ends : Bool → Bool → Bool → Bool → Endings
-find_ends json annotate all = FindsVectors (form_of json annotate all)
+-- how an input is answered by `cvss find`, by whether --json, --annotate, --all, --base and --allow-incomplete are given
+abbrev pub find_ends : Bool → Bool → Bool → Bool → Bool → Endings
+find_ends json annotate all base = FindsVectors (form_of json annotate all) (scoring_of base)
 
 -- the vectors in the operands are found, and a hint may follow: a cell keeps whether one is rejected for how its prefix is
 -- written, of which no contract speaks
@@ -60,39 +65,31 @@ FindsAll ends contents operands unread unread' written written' report report' s
     (report'' : Reported) × ServesAll ends contents operands unread unread' written written' report report'' served
     × ((report' ≡ report'') ⊎ Reports report'' report' prefix_hint)
 
--- each of the metrics after a slash
-abbrev pub with_slash : List (Vec ℕ) → List ℕ
-with_slash metrics = flat_map (λ metric. 47 ∷ metric.items) metrics
-
--- so many arguments after the subcommand
-abbrev pub metrics_of : ℕ → List (Vec ℕ) → List (Vec ℕ)
-metrics_of count arguments = take count (drop 1 arguments)
-
--- these, with slashes between them
-abbrev pub joined_metrics : ℕ → List (Vec ℕ) → List ℕ
-joined_metrics count arguments = drop 1 (with_slash (metrics_of count arguments))
-
--- the last so many of the arguments
-abbrev pub operands_of : ℕ → List (Vec ℕ) → List (Vec ℕ)
-operands_of count arguments = drop (length arguments - count) arguments
-
 -- nothing is read, written or reported
-pub record Idle (unread unread' written written' : Option (List ℕ)) (report report' : Reported) (result expected : Result Served ℕ) : Type 0 where
+pub record Idle (unread unread' written written' : Option (List ℕ)) (report report' : Reported) (result expected : Result Served UsageError) : Type 0 where
   pub ended : result ≡ expected
   pub report_kept : report' ≡ report
   pub unread_kept : Keeps unread unread'
   pub written_kept : Keeps written written'
 
 -- the operands are answered
-abbrev pub Answers : Endings → Options → List (Vec ℕ) → (List ℕ → Option (List ℕ)) → Option (List ℕ) → Option (List ℕ) → Option (List ℕ) → Option (List ℕ) → Reported → Reported → Result Served ℕ → Type 0
+abbrev pub Answers : Endings → Options → List (Vec ℕ) → (List ℕ → Option (List ℕ)) → Option (List ℕ) → Option (List ℕ) → Option (List ℕ) → Option (List ℕ) → Reported → Reported → Result Served UsageError → Type 0
 Answers ends options arguments contents unread unread' written written' report report' result =
     IsOkAnd result (ServesAll ends contents (operands_of options.operands arguments) unread unread' written written' report report')
 
--- the metrics are set in the vectors of the operands, unless they are no text or memory runs out
-abbrev pub SetsMetrics : List ℕ → Options → List (Vec ℕ) → (List ℕ → Option (List ℕ)) → Option (List ℕ) → Option (List ℕ) → Option (List ℕ) → Option (List ℕ) → Reported → Reported → Result Served ℕ → Type 0
-SetsMetrics metrics options arguments contents unread unread' written written' report report' result =
-    Answers (AnswersLines (set_rule metrics)) options arguments contents unread unread' written written' report report' result
-    ⊎ (¬ (IsUtf8 metrics) × Idle unread unread' written written' report report' result (Err (length arguments - 1)))
+-- the metrics, each after a slash, are set in the vectors of the operands, unless there is none or they are no text
+abbrev pub SetsGiven : List ℕ → Options → List (Vec ℕ) → (List ℕ → Option (List ℕ)) → Option (List ℕ) → Option (List ℕ) → Option (List ℕ) → Option (List ℕ) → Reported → Reported → Result Served UsageError → Type 0
+SetsGiven [] options arguments contents unread unread' written written' report report' result =
+    Idle unread unread' written written' report report' result (Err NoMetric)
+SetsGiven (slash ∷ metrics) options arguments contents unread unread' written written' report report' result =
+    Answers (AnswersLines (set_rule (scoring_of options.flags.base) options.flags.allow_incomplete metrics)) options arguments contents
+    unread unread' written written' report report' result
+    ⊎ (¬ (IsUtf8 metrics) × Idle unread unread' written written' report report' result (Err NotUtf8))
+
+-- the same, unless memory runs out
+abbrev pub SetsMetrics : List ℕ → Options → List (Vec ℕ) → (List ℕ → Option (List ℕ)) → Option (List ℕ) → Option (List ℕ) → Option (List ℕ) → Option (List ℕ) → Reported → Reported → Result Served UsageError → Type 0
+SetsMetrics given options arguments contents unread unread' written written' report report' result =
+    SetsGiven given options arguments contents unread unread' written written' report report' result
     ⊎ Idle unread unread' written written' report report' result (Ok (after nothing_served (Err Memory)))
 
 -- how inputs hold their documents: each is one if that is asked for, standard input has one a line where no operand is
@@ -117,29 +114,29 @@ explain_ends true what_if = ExplainsByObjects
 explain_ends false what_if = ExplainsByTexts what_if
 
 -- what each subcommand does
-abbrev pub Runs : Subcommand → Options → List (Vec ℕ) → (List ℕ → Option (List ℕ)) → Option (List ℕ) → Option (List ℕ) → Option (List ℕ) → Option (List ℕ) → Reported → Reported → Result Served ℕ → Type 0
+abbrev pub Runs : Subcommand → Options → List (Vec ℕ) → (List ℕ → Option (List ℕ)) → Option (List ℕ) → Option (List ℕ) → Option (List ℕ) → Option (List ℕ) → Reported → Reported → Result Served UsageError → Type 0
 Runs Score options arguments contents unread unread' written written' report report' result =
-    IsOkAnd result (Scores options.flags.json options.flags.tsv options.flags.allow_incomplete contents (operands_of options.operands arguments)
-    unread unread' written written' report report')
+    IsOkAnd result (Scores options.flags.json options.flags.tsv options.flags.base options.flags.allow_incomplete contents
+    (operands_of options.operands arguments) unread unread' written written' report report')
 Runs Find options arguments contents unread unread' written written' report report' result =
-    IsOkAnd result (FindsAll (find_ends options.flags.json options.flags.annotate options.flags.all options.flags.allow_incomplete)
+    IsOkAnd result (FindsAll (find_ends options.flags.json options.flags.annotate options.flags.all options.flags.base options.flags.allow_incomplete)
     contents (operands_of options.operands arguments) unread unread' written written' report report')
 Runs Explain options arguments contents unread unread' written written' report report' result =
     Answers (explain_ends options.flags.json options.flags.what_if options.flags.allow_incomplete) options arguments contents unread unread' written written' report report' result
 Runs Set options arguments contents unread unread' written written' report report' result =
-    SetsMetrics (joined_metrics options.words arguments) options arguments contents unread unread' written written' report report' result
+    SetsMetrics (metrics_in (words_of options.words arguments)) options arguments contents unread unread' written written' report report' result
 Runs Triage options arguments contents unread unread' written written' report report' result =
-    IsOkAnd result (Triages (settings_of (metrics_of options.words arguments)) options.flags.keep_going options.flags.allow_incomplete contents
-    (operands_of options.operands arguments) unread unread' written written' report report')
+    IsOkAnd result (Triages (settings_of (words_of options.words arguments)) options.flags.keep_going (scoring_of options.flags.base)
+    options.flags.allow_incomplete contents (operands_of options.operands arguments) unread unread' written written' report report')
 Runs Audit options arguments contents unread unread' written written' report report' result =
     Answers (audit_ends (audit_of options)) options arguments contents unread unread' written written' report report' result
 
-abbrev pub Does : Request → (Option Subcommand → List ℕ) → List ℕ → List (Vec ℕ) → (List ℕ → Option (List ℕ)) → Option (List ℕ) → Option (List ℕ) → Option (List ℕ) → Option (List ℕ) → Reported → Reported → Result Served ℕ → Type 0
+abbrev pub Does : Request → (Option Subcommand → List ℕ) → List ℕ → List (Vec ℕ) → (List ℕ → Option (List ℕ)) → Option (List ℕ) → Option (List ℕ) → Option (List ℕ) → Option (List ℕ) → Reported → Reported → Result Served UsageError → Type 0
 Does (Help of) help version arguments contents unread unread' written written' report report' result =
     IsOkAnd result (WritesText (help of) written written') × Keeps unread unread' × (report' ≡ report)
 Does Version help version arguments contents unread unread' written written' report report' result =
     IsOkAnd result (WritesText version written written') × Keeps unread unread' × (report' ≡ report)
-Does (Wrong left) help version arguments contents unread unread' written written' report report' result =
-    Idle unread unread' written written' report report' result (Err left)
+Does (Wrong error) help version arguments contents unread unread' written written' report report' result =
+    Idle unread unread' written written' report report' result (Err error)
 Does (Run subcommand options) help version arguments contents unread unread' written written' report report' result =
     Runs subcommand options arguments contents unread unread' written written' report report' result

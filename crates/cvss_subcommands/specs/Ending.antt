@@ -12,13 +12,15 @@ use Rattle.cvss_lines.specs.declared.fault.RunFault.TheVariants.{Read, Write, Me
 use Rattle.cvss_program.specs.Exit.{exit_status}
 use Rattle.cvss_program.specs.Reports.{Reported, Reports, ReportsError}
 use Rattle.cvss_program.specs.declared.served.Served.{Served}
-use Rattle.cvss_subcommands.specs.Done.{Does, operands_of}
+use Rattle.cvss_subcommands.specs.Done.{Does}
 use Rattle.cvss_subcommands.specs.Hints.{IsFirstHint, hint_text}
 use Rattle.cvss_subcommands.specs.Requests.{request_of}
 use Rattle.cvss_subcommands.specs.Subcommands.{name_of}
+use Rattle.cvss_subcommands.specs.UsageErrors.{usage_report}
 use Rattle.cvss_subcommands.specs.declared.hint.Hint.{Hint}
 use Rattle.cvss_subcommands.specs.declared.subcommand.Subcommand.{Subcommand}
 use Rattle.cvss_subcommands.specs.declared.subcommand.Subcommand.TheVariants.{Audit}
+use Rattle.cvss_subcommands.specs.declared.usage_error.UsageError.{UsageError}
 
 -- a text is reported, if there is one
 abbrev pub ReportsIfAny : Option (List ℕ) → Reported → Reported → Type 0
@@ -80,24 +82,19 @@ pub record EndsServed (arguments : List (Vec ℕ)) (has_taken : Bool) (error : O
   pub stop : ReportsStop served.stopped error hinted stopped
   pub note : ReportsNote (is_audit arguments && is_silent status has_taken error) stopped report'
 
--- what is reported of arguments that are not understood: the first that is not, if there is one, and the usage
-abbrev pub wrong_text : List ℕ → List (Vec ℕ) → List ℕ
-wrong_text usage [] = usage
-wrong_text usage (word ∷ words) = codes "cvss: not understood: " ++ word.items ++ codes "\n" ++ usage
-
--- how the command ends whose arguments from some on are not understood
-abbrev pub EndsWrong : List ℕ → List (Vec ℕ) → Reported → Reported → ℕ → Type 0
-EndsWrong usage wrong report report' status = (status ≡ 2) × Reports report report' (wrong_text usage wrong)
+-- how the command ends whose arguments are not understood, where the general help is this text
+abbrev pub EndsWrong : List ℕ → UsageError → List (Vec ℕ) → Reported → Reported → ℕ → Type 0
+EndsWrong usage error arguments report report' status = (status ≡ 2) × Reports report report' (usage_report usage error arguments)
 
 -- what the command has read, written and reported when it ends, and with which status
 pub record EndsCommand (help : Option Subcommand → List ℕ) (version : List ℕ) (arguments : List (Vec ℕ))
     (contents : List ℕ → Option (List ℕ)) (unread unread' written written' : Option (List ℕ)) (has_taken : Bool)
     (error : Option Error) (report report' : Reported) (status : ℕ) : Type 0 where
-  pub result : Result Served ℕ
+  pub result : Result Served UsageError
   pub middle : Reported
   pub does : Does (request_of arguments) help version arguments contents unread unread' written written' report middle result
   pub ends : MatchResult result (λ served. EndsServed arguments has_taken error served middle report' status)
-      (λ left. EndsWrong (help None) (operands_of left arguments) middle report' status)
+      (λ error. EndsWrong (help None) error arguments middle report' status)
 
 -- the command ends before it does anything, since there is no memory for its arguments
 pub record EndsBefore (unread unread' written written' : Option (List ℕ)) (report report' : Reported) (status : ℕ) : Type 0 where

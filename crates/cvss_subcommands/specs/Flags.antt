@@ -1,13 +1,16 @@
 -- The options of subcommands.
-use Rattle.std.specs.Prelude.{Bool, true, false, List, ℕ, codes}
+use Rattle.std.specs.Prelude.{◌&&◌, Bool, true, false, List, ℕ, codes, Option, None, Some, if◌then◌else◌}
 use Rattle.cvss_subcommands.specs.declared.flags.Flag.{Flag}
-use Rattle.cvss_subcommands.specs.declared.flags.Flag.TheVariants.{Json, Tsv, AllowIncomplete, Annotate, All, WhatIf, KeepGoing, Document, Set, Profile}
+use Rattle.cvss_subcommands.specs.declared.flags.Flag.TheVariants.{Json, Tsv, Base, AllowIncomplete, Annotate, All, WhatIf, KeepGoing, Document, Set, Profile}
 use Rattle.cvss_subcommands.specs.declared.flags.Flags.{Flags}
+use Rattle.cvss_vector.specs.declared.scoring.Scoring.{Scoring}
+use Rattle.cvss_vector.specs.declared.scoring.Scoring.TheVariants as scoring
 
 -- how an option is written
 abbrev pub flag_name : Flag → List ℕ
 flag_name Json = codes "--json"
 flag_name Tsv = codes "--tsv"
+flag_name Base = codes "--base"
 flag_name AllowIncomplete = codes "--allow-incomplete"
 flag_name Annotate = codes "--annotate"
 flag_name All = codes "--all"
@@ -25,6 +28,7 @@ abbrev pub no_flags : Flags
 no_flags = record {
   json = false;
   tsv = false;
+  base = false;
   allow_incomplete = false;
   annotate = false;
   all = false;
@@ -37,6 +41,7 @@ no_flags = record {
 abbrev pub with_flag : Flag → Flags → Flags
 with_flag Json flags = record flags { json = true }
 with_flag Tsv flags = record flags { tsv = true }
+with_flag Base flags = record flags { base = true }
 with_flag AllowIncomplete flags = record flags { allow_incomplete = true }
 with_flag Annotate flags = record flags { annotate = true }
 with_flag All flags = record flags { all = true }
@@ -45,3 +50,15 @@ with_flag KeepGoing flags = record flags { keep_going = true }
 with_flag Document flags = record flags { document = true }
 with_flag Set flags = flags
 with_flag Profile flags = flags
+
+-- the option whose output has all scores, where it is given with the one that chooses the base score
+abbrev pub all_scores_of : Flags → Option Flag
+all_scores_of flags =
+    if flags.base && flags.json then Some Json
+    else if flags.base && flags.tsv then Some Tsv
+    else None
+
+-- which score of a vector is printed, by whether --base is given
+abbrev pub scoring_of : Bool → Scoring
+scoring_of true = scoring.Base
+scoring_of false = scoring.Overall

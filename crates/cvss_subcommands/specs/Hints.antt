@@ -1,11 +1,10 @@
 -- What may help with a rejected vector that is a word of the command line. The prefixes are those of the v3.1
 -- specification, section 6, and the v4.0 specification, section 7.
-use Rattle.std.specs.Prelude.{◌≡◌, ◌⊎◌, ℕ, ◌-◌, Bool, not, List, [], ◌∷◌, ◌++◌, codes, drop, length, map, take, Option, None, IsSomeAnd, if◌then◌else◌}
+use Rattle.std.specs.Prelude.{◌≡◌, ◌⊎◌, ℕ, ◌-◌, Bool, not, List, [], ◌∷◌, codes, drop, length, map, take, Option, None, IsSomeAnd, if◌then◌else◌}
 use Rattle.std.specs.Char.{is_ascii_alphanumeric, to_ascii_lowercase}
 use Rattle.std.specs.Global.{Vec}
 use Rattle.std.specs.List.{suffix_len}
 use Rattle.std.specs.Str.{IsUtf8}
-use Rattle.cvss_program.specs.Reports.{Reported, Reports}
 use Rattle.cvss_program.specs.Sources.{source_of}
 use Rattle.cvss_program.specs.declared.sources.Source.TheVariants.{Vector}
 use Rattle.cvss_subcommands.specs.declared.hint.Hint.{Hint}

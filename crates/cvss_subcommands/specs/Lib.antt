@@ -1,3 +1,4 @@
+pub mod Arguments
 pub mod Done
 pub mod Ending
 pub mod Flags
@@ -8,3 +9,4 @@ pub mod Setting
 pub mod Subcommands
 pub mod Triaging
 pub mod Usage
+pub mod UsageErrors

@@ -1,7 +1,8 @@
--- What the arguments of a command ask for. What is not understood is reported by how many words there are from it on.
-use Rattle.std.specs.Prelude.{ℕ, suc, ◌-◌, ◌==◌, ◌&&◌, Bool, true, false, List, [], ◌∷◌, length, find, codes, Option, Some, None, if◌then◌else◌, bytes_eq}
+-- What the arguments of a command ask for, or what is wrong with them.
+use Rattle.std.specs.Prelude.{ℕ, suc, ◌-◌, Bool, true, false, List, [], ◌∷◌, length, find, codes, Option, Some, None, if◌then◌else◌, bytes_eq}
 use Rattle.std.specs.Global.{Vec}
-use Rattle.cvss_subcommands.specs.Flags.{flag_name, has_value, no_flags, with_flag}
+use Rattle.cvss_subcommands.specs.Arguments.{is_option}
+use Rattle.cvss_subcommands.specs.Flags.{all_scores_of, flag_name, has_value, no_flags, with_flag}
 use Rattle.cvss_subcommands.specs.Subcommands.{flags_of, name_of, sets_metrics, subcommands}
 use Rattle.cvss_subcommands.specs.declared.flags.Flag.{Flag}
 use Rattle.cvss_subcommands.specs.declared.flags.Flags.{Flags}
@@ -10,12 +11,7 @@ use Rattle.cvss_subcommands.specs.declared.requests.Request.TheVariants.{Help, V
 use Rattle.cvss_subcommands.specs.declared.requests.Word.{Word}
 use Rattle.cvss_subcommands.specs.declared.requests.Word.TheVariants as kind
 use Rattle.cvss_subcommands.specs.declared.subcommand.Subcommand.{Subcommand}
-
--- the word begins with a hyphen, and is not one alone
-abbrev pub is_option : List ℕ → Bool
-is_option [] = false
-is_option (byte ∷ []) = false
-is_option (byte ∷ next ∷ bytes) = byte == 45
+use Rattle.cvss_subcommands.specs.declared.usage_error.UsageError.TheVariants.{AllScores, NoCommand, NoValue, Unexpected, UnknownCommand, UnknownOption}
 
 -- the flag of this name that a subcommand has
 abbrev pub flag_of : Subcommand → List ℕ → Option Flag
@@ -35,25 +31,26 @@ word_of subcommand word =
     else if sets_metrics subcommand then kind.Metric
     else kind.Operand
 
--- a subcommand after so many words of options and metrics, with so many operands; where metrics are set, there has to be one
-abbrev pub found : Subcommand → Flags → ℕ → ℕ → ℕ → Request
-found subcommand flags words left operands =
-    if sets_metrics subcommand && (words == 0) then Wrong left
-    else Run subcommand (record { flags = flags; words = words; operands = operands })
+-- a subcommand after so many words of options and metrics, with so many operands
+abbrev pub found : Subcommand → Flags → ℕ → ℕ → Request
+found subcommand flags words operands = elim (all_scores_of flags) [
+  | Some flag ↦ Wrong (AllScores subcommand flag)
+  | None ↦ Run subcommand (record { flags = flags; words = words; operands = operands })
+]
 
 -- the words after a subcommand, of which there are so many: options with their values, metrics, and after these or after
 -- `--` the operands, which are counted. The Boolean: a value of an option is due.
 abbrev pub read_words : Subcommand → ℕ → Flags → Bool → List (Vec ℕ) → Request
-read_words subcommand count flags true [] = Wrong 0
-read_words subcommand count flags false [] = found subcommand flags count 0 0
+read_words subcommand count flags true [] = Wrong (NoValue subcommand)
+read_words subcommand count flags false [] = found subcommand flags count 0
 read_words subcommand count flags true (value ∷ words) = read_words subcommand count flags false words
 read_words subcommand count flags false (word ∷ words) = elim (word_of subcommand word.items) [
-  | kind.End ↦ found subcommand flags (count - suc (length words)) (suc (length words)) (length words)
+  | kind.End ↦ found subcommand flags (count - suc (length words)) (length words)
   | kind.Help ↦ Help (Some subcommand)
   | kind.Flag flag ↦ read_words subcommand count (with_flag flag flags) (has_value flag) words
-  | kind.Unknown ↦ Wrong (suc (length words))
+  | kind.Unknown ↦ Wrong (UnknownOption (Some subcommand) (suc (length words)))
   | kind.Metric ↦ read_words subcommand count flags false words
-  | kind.Operand ↦ found subcommand flags (count - suc (length words)) (suc (length words)) (suc (length words))
+  | kind.Operand ↦ found subcommand flags (count - suc (length words)) (suc (length words))
 ]
 
 -- the subcommand of this name
@@ -63,18 +60,18 @@ named word = find (λ subcommand. bytes_eq word (name_of subcommand)) subcommand
 -- the help on a subcommand
 abbrev pub help_on : Option Subcommand → Request
 help_on (Some subcommand) = Help (Some subcommand)
-help_on None = Wrong 1
+help_on None = Wrong (UnknownCommand 1)
 
 -- the words after `help`
 abbrev pub help_request : List (Vec ℕ) → Request
 help_request [] = Help None
 help_request (word ∷ []) = if bytes_eq word.items (codes "help") then Help None else help_on (named word.items)
-help_request (word ∷ next ∷ words) = Wrong (suc (length words))
+help_request (word ∷ next ∷ words) = Wrong (Unexpected (suc (length words)))
 
 -- nothing more is understood after a word
 abbrev pub alone : Request → List (Vec ℕ) → Request
 alone request [] = request
-alone request (word ∷ words) = Wrong (suc (length words))
+alone request (word ∷ words) = Wrong (Unexpected (suc (length words)))
 
 -- the first word, where it is no subcommand, and the words after it
 abbrev pub other_request : List ℕ → List (Vec ℕ) → Request
@@ -82,11 +79,12 @@ other_request word words =
     if bytes_eq word (codes "help") then help_request words
     else if bytes_eq word (codes "--help") then alone (Help None) words
     else if bytes_eq word (codes "--version") then alone Version words
-    else Wrong (suc (length words))
+    else if is_option word then Wrong (UnknownOption None (suc (length words)))
+    else Wrong (UnknownCommand (suc (length words)))
 
 -- what all arguments ask for
 abbrev pub request_of : List (Vec ℕ) → Request
-request_of [] = Wrong 0
+request_of [] = Wrong NoCommand
 request_of (word ∷ words) = elim (named word.items) [
   | Some subcommand ↦ read_words subcommand (length words) no_flags false words
   | None ↦ other_request word.items words

@@ -2,6 +2,7 @@
 use Rattle.std.specs.Prelude.{◌≡◌, ◌⊎◌, ℕ, Bool, true, false, List, take, Option, Err}
 use Rattle.std.specs.Global.{Vec}
 use Rattle.std.specs.Io.KnownBytes.{Appends, Keeps}
+use Rattle.cvss_subcommands.specs.Flags.{scoring_of}
 use Rattle.cvss_vector.specs.Lines.{score_rule}
 use Rattle.cvss_lines.specs.Answers.{Rule}
 use Rattle.cvss_lines.specs.Prefixed.{IsPrefixed}
@@ -38,8 +39,8 @@ ServesTable allow_incomplete contents operands unread unread' written written' r
     ⊎ (Keeps unread unread' × ((count : ℕ) × Appends written written' (take count (header_text (many_files operands))))
     × (report' ≡ report) × (served ≡ after nothing_served (Err Write)))
 
--- how the vectors are answered, by whether --json and --tsv are given
-abbrev pub Scores : Bool → Bool → Bool → (List ℕ → Option (List ℕ)) → List (Vec ℕ) → Option (List ℕ) → Option (List ℕ) → Option (List ℕ) → Option (List ℕ) → Reported → Reported → Served → Type 0
-Scores true tsv allow_incomplete = ServesAll (AnswersRows Json allow_incomplete)
-Scores false true allow_incomplete = ServesTable allow_incomplete
-Scores false false allow_incomplete = ServesAll (AnswersLines (score_rule allow_incomplete))
+-- how the vectors are answered, by whether --json, --tsv, --base and --allow-incomplete are given
+abbrev pub Scores : Bool → Bool → Bool → Bool → (List ℕ → Option (List ℕ)) → List (Vec ℕ) → Option (List ℕ) → Option (List ℕ) → Option (List ℕ) → Option (List ℕ) → Reported → Reported → Served → Type 0
+Scores true tsv base allow_incomplete = ServesAll (AnswersRows Json allow_incomplete)
+Scores false true base allow_incomplete = ServesTable allow_incomplete
+Scores false false base allow_incomplete = ServesAll (AnswersLines (score_rule (scoring_of base) allow_incomplete))

@@ -6,13 +6,15 @@ use Rattle.cvss_subcommands.specs.declared.subcommand.Subcommand.TheVariants.{Sc
 
 -- the usage of a subcommand
 abbrev pub usage_of : Subcommand → List ℕ
-usage_of Score = codes "cvss score [--json|--tsv] [--allow-incomplete] [VECTOR|FILE].."
-usage_of Find = codes "cvss find [--json|--annotate [--all]] [--allow-incomplete] [FILE].."
+usage_of Score = codes "cvss score [--json|--tsv|--base] [--allow-incomplete] [VECTOR|FILE].."
+usage_of Find =
+    codes "cvss find [--json|[--annotate [--all]] [--base]] [--allow-incomplete]\n"
+    ++ codes "                 [FILE].."
 usage_of Explain = codes "cvss explain [--json|--what-if] [--allow-incomplete] [VECTOR|FILE].."
-usage_of Set = codes "cvss set METRIC:VALUE.. [-- VECTOR|FILE ..]"
+usage_of Set = codes "cvss set [--base] [--allow-incomplete] METRIC:VALUE.. [-- VECTOR|FILE ..]"
 usage_of Triage =
     codes "cvss triage [--set METRIC:VALUE].. [--profile FILE].. [--keep-going]\n"
-    ++ codes "                   [--allow-incomplete] [VECTOR|FILE].."
+    ++ codes "                   [--base] [--allow-incomplete] [VECTOR|FILE].."
 usage_of Audit = codes "cvss audit [--allow-incomplete] [--document] [FILE].."
 
 -- the help on a subcommand begins with its usage, and an empty line; the help on all, with the usage of each in turn

@@ -1,8 +1,9 @@
 //! The whole command.
 
-ghost use Rattle.std.specs.Prelude.{◌≡◌, IfOk, drop};
+ghost use Rattle.std.specs.Prelude.{◌≡◌, ◌++◌, IfOk, OnOk};
 ghost use Rattle.cvss_program.specs.Reports.{reported};
-ghost use Rattle.cvss_subcommands.specs.Done.{Does, Runs, SetsMetrics, audit_of, help_of, joined_metrics, metrics_of, operands_of, with_slash};
+ghost use Rattle.cvss_subcommands.specs.Arguments.{metric_part, metrics_in, operands_of, words_of};
+ghost use Rattle.cvss_subcommands.specs.Done.{Does, Runs, SetsGiven, SetsMetrics, audit_of, help_of};
 ghost use Rattle.cvss_subcommands.specs.Requests.{request_of};
 ghost use Rattle.cvss_subcommands.specs.Scoring.{WritesText};
 
@@ -12,11 +13,12 @@ use crate::help::{
     AUDIT_USAGE, EXPLAIN_USAGE, FIND_USAGE, SCORE_USAGE, SET_USAGE, TRIAGE_USAGE, USAGE, VERSION,
     help_of,
 };
-use crate::requests::{Options, Request, request_of};
+use crate::requests::{Options, Request, is_option, request_of};
 use crate::score::score;
 use crate::setting::Set;
 use crate::subcommand::Subcommand;
 use crate::triage::triage_lines;
+use crate::usage_error::UsageError;
 use cvss_audit::{Audit, Layout};
 use cvss_lines::{RunFault, write_whole};
 use cvss_program::{EachLine, Files, Report, Served, WatchedReader, serve_operands};
@@ -27,16 +29,15 @@ use std::io::{Read, Write};
 ///
 /// # Errors
 ///
-/// The arguments are not understood: how many there are from the first on that is not. Nothing is read,
-/// written or reported then.
-pub fn run_command<F: Files, R: Read, W: Write, E: Write>(
+/// The arguments are not understood. Nothing is read, written or reported then.
+pub(crate) fn run_command<F: Files, R: Read, W: Write, E: Write>(
     alloc: Global,
     arguments: &[Vec<u8>],
     files: &F,
     reader: &mut WatchedReader<R>,
     writer: &mut W,
     report: &mut Report<E>,
-) -> Result<Served, usize>
+) -> Result<Served, UsageError>
     ensures { Does (request_of arguments.now)
         (help_of USAGE.now SCORE_USAGE.now FIND_USAGE.now EXPLAIN_USAGE.now SET_USAGE.now TRIAGE_USAGE.now AUDIT_USAGE.now) VERSION.now
         arguments.now (F.contents files.now)
@@ -47,7 +48,7 @@ pub fn run_command<F: Files, R: Read, W: Write, E: Write>(
     match request_of(arguments) {
         Request::Help(topic) => Ok(write_text(help_of(topic), writer)),
         Request::Version => Ok(write_text(VERSION, writer)),
-        Request::Wrong(left) => Err(left),
+        Request::Wrong(error) => Err(error),
         Request::Run(subcommand, options) => {
             let operands = last(arguments, options.operands);
             match subcommand {
@@ -89,7 +90,7 @@ pub fn run_command<F: Files, R: Read, W: Write, E: Write>(
                 ),
                 Subcommand::Triage => Ok(triage_lines(
                     alloc,
-                    metrics_of(arguments, options.words),
+                    words_of(arguments, options.words),
                     options.flags,
                     operands,
                     files,
@@ -130,24 +131,58 @@ fn set_metrics<F: Files, R: Read, W: Write, E: Write>(
     reader: &mut WatchedReader<R>,
     writer: &mut W,
     report: &mut Report<E>,
-) -> Result<Served, usize>
-    ensures { SetsMetrics (joined_metrics options.words arguments.now) options
+) -> Result<Served, UsageError>
+    ensures { SetsMetrics (metrics_in (words_of options.words arguments.now)) options
         arguments.now (F.contents files.now)
         (R.remaining reader.old.reader) (R.remaining reader.new.reader)
         (W.contents writer.old) (W.contents writer.new)
         (reported E.contents report.old) (reported E.contents report.new) result }
 {
-    let Ok(joined) = with_slash(alloc, metrics_of(arguments, options.words)) else {
-        return Ok(Served::nothing().after(Err(RunFault::Memory)));
+    match metrics_in(alloc, words_of(arguments, options.words)) {
+        Ok(given) => set_given(
+            alloc, &given, arguments, options, files, reader, writer, report,
+        ),
+        Err(_) => Ok(Served::nothing().after(Err(RunFault::Memory))),
+    }
+}
+
+/// Sets metrics, each after a slash, in the vectors of the operands.
+fn set_given<F: Files, R: Read, W: Write, E: Write>(
+    alloc: Global,
+    given: &[u8],
+    arguments: &[Vec<u8>],
+    options: Options,
+    files: &F,
+    reader: &mut WatchedReader<R>,
+    writer: &mut W,
+    report: &mut Report<E>,
+) -> Result<Served, UsageError>
+    ensures { SetsGiven given.now options arguments.now (F.contents files.now)
+        (R.remaining reader.old.reader) (R.remaining reader.new.reader)
+        (W.contents writer.old) (W.contents writer.new)
+        (reported E.contents report.old) (reported E.contents report.new) result }
+{
+    let Some((_, metrics)) = given.split_first() else {
+        return Err(UsageError::NoMetric);
     };
-    let Ok(metrics) = str::from_utf8(after_the_first(&joined)) else {
-        return Err(arguments.len().saturating_sub(1));
+    let Ok(metrics) = str::from_utf8(metrics) else {
+        return Err(UsageError::NotUtf8);
     };
-    let task = EachLine {
-        answer: Set { metrics },
+    let answer = Set {
+        metrics,
+        scoring: options.flags.scoring(),
+        allow_incomplete: options.flags.allow_incomplete,
     };
     let operands = last(arguments, options.operands);
-    Ok(serve_operands(alloc, &task, operands, files, reader, writer, report))
+    Ok(serve_operands(
+        alloc,
+        &EachLine { answer },
+        operands,
+        files,
+        reader,
+        writer,
+        report,
+    ))
 }
 
 /// Writes a text.
@@ -168,8 +203,8 @@ pub(crate) fn last(arguments: &[Vec<u8>], count: usize) -> &[Vec<u8>]
 }
 
 /// So many arguments after the subcommand.
-fn metrics_of(arguments: &[Vec<u8>], count: usize) -> &[Vec<u8>]
-    ensures { result.now ≡ metrics_of count arguments.now }
+fn words_of(arguments: &[Vec<u8>], count: usize) -> &[Vec<u8>]
+    ensures { result.now ≡ words_of count arguments.now }
 {
     match arguments {
         [_, after @ ..] => &after[..count.min(after.len())],
@@ -177,24 +212,24 @@ fn metrics_of(arguments: &[Vec<u8>], count: usize) -> &[Vec<u8>]
     }
 }
 
-/// Each of the metrics after a slash.
-fn with_slash(alloc: Global, metrics: &[Vec<u8>]) -> Result<Vec<u8>, AllocError>
-    ensures { IfOk result (λ bytes. bytes.items ≡ with_slash metrics.now) }
+/// The metrics among words of metrics and options, each after a slash.
+fn metrics_in(alloc: Global, words: &[Vec<u8>]) -> Result<Vec<u8>, AllocError>
+    ensures { IfOk result (λ bytes. bytes.items ≡ metrics_in words.now) }
 {
     let mut bytes = Vec::new(alloc);
-    for metric in metrics {
-        bytes.push(b'/')?;
-        bytes.extend_from_slice(metric)?;
+    for word in words {
+        push_metric(&mut bytes, word)?;
     }
     Ok(bytes)
 }
 
-/// All bytes but the first.
-fn after_the_first(bytes: &[u8]) -> &[u8]
-    ensures { result.now ≡ drop 1 bytes.now }
+/// Adds a metric after a slash, and nothing of an option.
+fn push_metric(bytes: &mut Vec<u8>, word: &[u8]) -> Result<(), AllocError>
+    ensures { OnOk result (bytes.new.items ≡ bytes.old.items ++ metric_part word.now) }
 {
-    match bytes {
-        [_, after @ ..] => after,
-        [] => bytes,
+    if is_option(word) {
+        return Ok(());
     }
+    bytes.push(b'/')?;
+    bytes.extend_from_slice(word)
 }

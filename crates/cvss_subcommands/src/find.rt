@@ -9,6 +9,7 @@ use crate::flags::Flags;
 use cvss_find::{Finding, Form};
 use cvss_lines::{RunFault, Summary, run};
 use cvss_program::{Files, Report, Served, Task, WatchedReader, serve_operands};
+use cvss_vector::Scoring;
 use std::alloc::Global;
 use std::cell::Cell;
 use std::io::{Read, Write};
@@ -24,7 +25,8 @@ pub(crate) fn find_vectors<F: Files, R: Read, W: Write, E: Write>(
     writer: &mut W,
     report: &mut Report<E>,
 ) -> Served
-    ensures { FindsAll (find_ends flags.json flags.annotate flags.all flags.allow_incomplete)
+    ensures { FindsAll
+        (find_ends flags.json flags.annotate flags.all flags.base flags.allow_incomplete)
         (F.contents files.now) operands.now
         (R.remaining reader.old.reader) (R.remaining reader.new.reader)
         (W.contents writer.old) (W.contents writer.new)
@@ -33,6 +35,7 @@ pub(crate) fn find_vectors<F: Files, R: Read, W: Write, E: Write>(
     let loose_prefix = Cell::new(false);
     let task = Find {
         form: form_of(flags),
+        scoring: flags.scoring(),
         allow_incomplete: flags.allow_incomplete,
         loose_prefix: &loose_prefix,
     };
@@ -67,6 +70,8 @@ fn form_of(flags: Flags) -> Form
 #[derive(Drop)]
 struct Find<'a> {
     form: Form,
+    /// Which score of a vector is printed. Objects have all.
+    scoring: Scoring,
     /// A vector of CVSS v3 may lack base metrics, and a line may end after a slash.
     allow_incomplete: bool,
     /// Set where a vector is rejected whose prefix is written in another way than `CVSS:3.1/`.
@@ -74,7 +79,7 @@ struct Find<'a> {
 }
 
 impl Task for Find<'_> {
-    ghost ends = { λ find. FindsVectors find.form find.allow_incomplete };
+    ghost ends = { λ find. FindsVectors find.form find.scoring find.allow_incomplete };
 
     fn serve_input<R: Read, W: Write>(
         &self,
@@ -85,6 +90,7 @@ impl Task for Find<'_> {
     ) -> Result<Summary, RunFault> {
         let finding = Finding {
             form: self.form,
+            scoring: self.scoring,
             allow_incomplete: self.allow_incomplete,
             prefix,
             loose_prefix: self.loose_prefix,

@@ -1,13 +1,16 @@
 //! The options of subcommands.
 
 ghost use Rattle.std.specs.Prelude.{◌≡◌};
-ghost use Rattle.cvss_subcommands.specs.Flags.{flag_name, has_value, no_flags, with_flag};
+ghost use Rattle.cvss_subcommands.specs.Flags.{all_scores_of, flag_name, has_value, no_flags, scoring_of, with_flag};
+
+use cvss_vector::Scoring;
 
 /// An option of some subcommands.
 #[derive(Clone, Copy, Drop)]
 pub(crate) enum Flag {
     Json,
     Tsv,
+    Base,
     AllowIncomplete,
     Annotate,
     All,
@@ -25,6 +28,7 @@ pub(crate) enum Flag {
 pub(crate) struct Flags {
     pub(crate) json: bool,
     pub(crate) tsv: bool,
+    pub(crate) base: bool,
     pub(crate) allow_incomplete: bool,
     pub(crate) annotate: bool,
     pub(crate) all: bool,
@@ -40,6 +44,7 @@ impl Flag {
         match self {
             Flag::Json => "--json",
             Flag::Tsv => "--tsv",
+            Flag::Base => "--base",
             Flag::AllowIncomplete => "--allow-incomplete",
             Flag::Annotate => "--annotate",
             Flag::All => "--all",
@@ -66,6 +71,7 @@ impl Flags {
         Flags {
             json: false,
             tsv: false,
+            base: false,
             allow_incomplete: false,
             annotate: false,
             all: false,
@@ -82,6 +88,7 @@ impl Flags {
         match flag {
             Flag::Json => Flags { json: true, ..self },
             Flag::Tsv => Flags { tsv: true, ..self },
+            Flag::Base => Flags { base: true, ..self },
             Flag::AllowIncomplete => Flags { allow_incomplete: true, ..self },
             Flag::Annotate => Flags { annotate: true, ..self },
             Flag::All => Flags { all: true, ..self },
@@ -89,6 +96,29 @@ impl Flags {
             Flag::KeepGoing => Flags { keep_going: true, ..self },
             Flag::Document => Flags { document: true, ..self },
             Flag::Set | Flag::Profile => self,
+        }
+    }
+    /// Which score of a vector is printed.
+    pub(crate) fn scoring(self) -> Scoring
+        ensures { result ≡ scoring_of self.base }
+    {
+        if self.base {
+            Scoring::Base
+        } else {
+            Scoring::Overall
+        }
+    }
+
+    /// The option whose output has all scores, if it is given with `--base`, which chooses one.
+    pub(crate) fn all_scores(self) -> Option<Flag>
+        ensures { result ≡ all_scores_of self }
+    {
+        if self.base && self.json {
+            Some(Flag::Json)
+        } else if self.base && self.tsv {
+            Some(Flag::Tsv)
+        } else {
+            None
         }
     }
 }

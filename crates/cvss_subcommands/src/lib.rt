@@ -14,8 +14,8 @@ mod setting;
 mod subcommand;
 mod tasks;
 mod triage;
+mod usage_error;
 
-pub use command::run_command;
 pub use help::USAGE;
 pub use hint::{Hint, first_hint};
 pub use running::run;

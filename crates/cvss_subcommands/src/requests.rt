@@ -2,10 +2,12 @@
 
 ghost use Rattle.std.specs.Prelude.{◌≡◌, bytes_eq, false, length};
 ghost use Rattle.cvss_subcommands.specs.Flags.{no_flags};
-ghost use Rattle.cvss_subcommands.specs.Requests.{alone as alone_of, flag_of, found, help_request as help_of, is_option, named as named_by, read_words, request_of, word_of};
+ghost use Rattle.cvss_subcommands.specs.Arguments.{is_option};
+ghost use Rattle.cvss_subcommands.specs.Requests.{alone as alone_of, flag_of, found, help_request as help_of, named as named_by, read_words, request_of, word_of};
 
 use crate::flags::{Flag, Flags};
 use crate::subcommand::Subcommand;
+use crate::usage_error::UsageError;
 
 /// What the command is asked for.
 #[derive(Drop)]
@@ -14,9 +16,8 @@ pub(crate) enum Request {
     Help(Option<Subcommand>),
     /// The version.
     Version,
-    /// The arguments are not understood: so many are left from the first that is not, or none is where
-    /// one is missing.
-    Wrong(usize),
+    /// The arguments are not understood.
+    Wrong(UsageError),
     Run(Subcommand, Options),
 }
 
@@ -49,7 +50,7 @@ pub(crate) fn request_of(arguments: &[Vec<u8>]) -> Request
     ensures { result ≡ request_of arguments.now }
 {
     let Some((word, words)) = arguments.split_first() else {
-        return Request::Wrong(0);
+        return Request::Wrong(UsageError::NoCommand);
     };
     if let Some(subcommand) = named(word) {
         read_words(subcommand, words)
@@ -59,8 +60,10 @@ pub(crate) fn request_of(arguments: &[Vec<u8>]) -> Request
         alone(Request::Help(None), words)
     } else if is(word, "--version") {
         alone(Request::Version, words)
+    } else if is_option(word) {
+        Request::Wrong(UsageError::UnknownOption(None, arguments.len()))
     } else {
-        Request::Wrong(arguments.len())
+        Request::Wrong(UsageError::UnknownCommand(arguments.len()))
     }
 }
 
@@ -86,13 +89,16 @@ fn read_words(subcommand: Subcommand, words: &[Vec<u8>]) -> Request
             match word_of(subcommand, word) {
                 Word::End => {
                     let read = words.len().saturating_sub(left.len());
-                    return found(subcommand, flags, read, left.len(), rest.len());
+                    return found(subcommand, flags, read, rest.len());
                 }
                 Word::Help => return Request::Help(Some(subcommand)),
-                Word::Unknown => return Request::Wrong(left.len()),
+                Word::Unknown => {
+                    let error = UsageError::UnknownOption(Some(subcommand), left.len());
+                    return Request::Wrong(error);
+                }
                 Word::Operand => {
                     let read = words.len().saturating_sub(left.len());
-                    return found(subcommand, flags, read, left.len(), left.len());
+                    return found(subcommand, flags, read, left.len());
                 }
                 Word::Metric => {}
                 Word::Flag(flag) => {
@@ -104,9 +110,9 @@ fn read_words(subcommand: Subcommand, words: &[Vec<u8>]) -> Request
         left = rest;
     }
     if value {
-        Request::Wrong(0)
+        Request::Wrong(UsageError::NoValue(subcommand))
     } else {
-        found(subcommand, flags, words.len(), 0, 0)
+        found(subcommand, flags, words.len(), 0)
     }
 }
 
@@ -137,26 +143,21 @@ fn flag_of(subcommand: Subcommand, word: &[u8]) -> Option<Flag>
     known.copied().find(|flag| is(word, flag.name()))
 }
 
-/// The request of a subcommand after so many words and with so many operands, where there has to be a
-/// metric if the subcommand sets metrics.
-fn found(
-    subcommand: Subcommand,
-    flags: Flags,
-    words: usize,
-    left: usize,
-    operands: usize,
-) -> Request
-    ensures { result ≡ found subcommand flags words left operands }
+/// The request of a subcommand after so many words and with so many operands.
+fn found(subcommand: Subcommand, flags: Flags, words: usize, operands: usize) -> Request
+    ensures { result ≡ found subcommand flags words operands }
 {
-    if subcommand.sets_metrics() && words == 0 {
-        return Request::Wrong(left);
+    match flags.all_scores() {
+        Some(flag) => Request::Wrong(UsageError::AllScores(subcommand, flag)),
+        None => {
+            let options = Options {
+                flags,
+                words,
+                operands,
+            };
+            Request::Run(subcommand, options)
+        }
     }
-    let options = Options {
-        flags,
-        words,
-        operands,
-    };
-    Request::Run(subcommand, options)
 }
 
 fn help_request(words: &[Vec<u8>]) -> Request
@@ -167,9 +168,9 @@ fn help_request(words: &[Vec<u8>]) -> Request
         [word] if is(word, "help") => Request::Help(None),
         [word] => match named(word) {
             Some(subcommand) => Request::Help(Some(subcommand)),
-            None => Request::Wrong(1),
+            None => Request::Wrong(UsageError::UnknownCommand(1)),
         },
-        [_, more @ ..] => Request::Wrong(more.len()),
+        [_, more @ ..] => Request::Wrong(UsageError::Unexpected(more.len())),
     }
 }
 
@@ -179,7 +180,7 @@ fn alone(request: Request, words: &[Vec<u8>]) -> Request
 {
     match words {
         [] => request,
-        _ => Request::Wrong(words.len()),
+        _ => Request::Wrong(UsageError::Unexpected(words.len())),
     }
 }
 
@@ -190,7 +191,7 @@ fn is(word: &[u8], text: &str) -> bool
 }
 
 /// Whether a word begins with a hyphen, and is not one alone.
-fn is_option(word: &[u8]) -> bool
+pub(crate) fn is_option(word: &[u8]) -> bool
     ensures { result ≡ is_option word.now }
 {
     matches!(word, [b'-', _, ..])

@@ -1,16 +1,17 @@
 //! A run of the command: what it does, what it reports, and its exit status.
 
-ghost use Rattle.std.specs.Prelude.{◌≡◌, ◌↔◌, ◌++◌, IsTrue, MatchResult, codes};
+ghost use Rattle.std.specs.Prelude.{◌≡◌, ◌↔◌, IsTrue, MatchResult};
 ghost use Rattle.cvss_program.specs.Reports.{Reports, reported};
 ghost use Rattle.cvss_subcommands.specs.Done.{help_of};
-ghost use Rattle.cvss_subcommands.specs.Ending.{EndsBefore, EndsCommand, EndsServed, IsClosed, ReportsHint, ReportsNote, ReportsStop, ReportsWrite, fault_report, is_audit, is_silent, wrong_text};
+ghost use Rattle.cvss_subcommands.specs.Ending.{EndsBefore, EndsCommand, EndsServed, IsClosed, ReportsHint, ReportsNote, ReportsStop, ReportsWrite, fault_report, is_audit, is_silent};
 
-use crate::command::{last, run_command};
+use crate::command::run_command;
 use crate::help::{
     AUDIT_USAGE, EXPLAIN_USAGE, FIND_USAGE, SCORE_USAGE, SET_USAGE, TRIAGE_USAGE, USAGE, VERSION,
 };
 use crate::hint::first_hint;
 use crate::subcommand::Subcommand;
+use crate::usage_error::report_usage;
 use cvss_lines::RunFault;
 use cvss_program::{
     Files, Report, Served, WatchedReader, WatchedWriter, exit_status, report_error,
@@ -68,8 +69,8 @@ fn run_with<F: Files, R: Read, W: Write, E: Write>(
 {
     match run_command(alloc, arguments, files, reader, writer, report) {
         Ok(served) => end(arguments, writer.has_taken, writer.error, served, report),
-        Err(left) => {
-            report_wrong(last(arguments, left), report);
+        Err(error) => {
+            report_usage(error, arguments, report);
             2
         }
     }
@@ -186,26 +187,4 @@ fn report_note<E: Write>(noted: bool, report: &mut Report<E>)
     if noted {
         report.write(b"cvss: no vector was found\n");
     }
-}
-
-/// Reports the first of the arguments that are not understood, and the usage.
-fn report_wrong<E: Write>(wrong: &[Vec<u8>], report: &mut Report<E>)
-    ensures { Reports (reported E.contents report.old) (reported E.contents report.new)
-        (wrong_text USAGE.now wrong.now) }
-{
-    match wrong.split_first() {
-        Some((word, _)) => report_word(word, report),
-        None => report.write(USAGE.as_bytes()),
-    }
-}
-
-/// Reports a word that is not understood, and the usage.
-fn report_word<E: Write>(word: &[u8], report: &mut Report<E>)
-    ensures { Reports (reported E.contents report.old) (reported E.contents report.new)
-        (codes "cvss: not understood: " ++ word.now ++ codes "\n" ++ USAGE.now) }
-{
-    report.write(b"cvss: not understood: ");
-    report.write(word);
-    report.write(b"\n");
-    report.write(USAGE.as_bytes());
 }

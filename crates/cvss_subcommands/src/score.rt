@@ -5,7 +5,7 @@ ghost use Rattle.cvss_program.specs.Reports.{reported};
 ghost use Rattle.cvss_subcommands.specs.Scoring.{Scores, ServesTable};
 
 use crate::flags::Flags;
-use crate::tasks::{Score, ScoreIncomplete, ScoreRow};
+use crate::tasks::{Score, ScoreRow};
 use cvss_lines::write_whole;
 use cvss_program::{EachLine, Files, Report, Served, WatchedReader, are_many, serve_operands};
 use cvss_rows::{Format, header};
@@ -22,7 +22,8 @@ pub(crate) fn score<F: Files, R: Read, W: Write, E: Write>(
     writer: &mut W,
     report: &mut Report<E>,
 ) -> Served
-    ensures { Scores flags.json flags.tsv flags.allow_incomplete (F.contents files.now) operands.now
+    ensures { Scores flags.json flags.tsv flags.base flags.allow_incomplete
+        (F.contents files.now) operands.now
         (R.remaining reader.old.reader) (R.remaining reader.new.reader)
         (W.contents writer.old) (W.contents writer.new)
         (reported E.contents report.old) (reported E.contents report.new) result }
@@ -45,12 +46,12 @@ pub(crate) fn score<F: Files, R: Read, W: Write, E: Write>(
             writer,
             report,
         )
-    } else if allow_incomplete {
-        let answer = ScoreIncomplete;
-        let task = EachLine { answer };
-        serve_operands(alloc, &task, operands, files, reader, writer, report)
     } else {
-        let task = EachLine { answer: Score };
+        let answer = Score {
+            scoring: flags.scoring(),
+            allow_incomplete,
+        };
+        let task = EachLine { answer };
         serve_operands(alloc, &task, operands, files, reader, writer, report)
     }
 }

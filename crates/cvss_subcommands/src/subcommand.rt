@@ -45,15 +45,24 @@ impl Subcommand {
         ensures { result.now ≡ flags_of self }
     {
         match self {
-            Subcommand::Score => &[Flag::Json, Flag::Tsv, Flag::AllowIncomplete],
-            Subcommand::Find => &[Flag::Json, Flag::Annotate, Flag::All, Flag::AllowIncomplete],
+            Subcommand::Score => &[Flag::Json, Flag::Tsv, Flag::Base, Flag::AllowIncomplete],
+            Subcommand::Find => {
+                &[
+                    Flag::Json,
+                    Flag::Annotate,
+                    Flag::All,
+                    Flag::Base,
+                    Flag::AllowIncomplete,
+                ]
+            }
             Subcommand::Explain => &[Flag::Json, Flag::WhatIf, Flag::AllowIncomplete],
-            Subcommand::Set => &[],
+            Subcommand::Set => &[Flag::Base, Flag::AllowIncomplete],
             Subcommand::Triage => {
                 &[
                     Flag::Set,
                     Flag::Profile,
                     Flag::KeepGoing,
+                    Flag::Base,
                     Flag::AllowIncomplete,
                 ]
             }

@@ -1,6 +1,5 @@
 //! What the subcommands do with a line.
 
-ghost use Rattle.std.specs.Prelude.{false, true};
 ghost use Rattle.cvss_vector.specs.Lines.{score_rule};
 ghost use Rattle.cvss_lines.specs.Prefixed.{is_one_text};
 ghost use Rattle.cvss_lines.specs.Runs.{Ends};
@@ -9,16 +8,21 @@ ghost use Rattle.cvss_rows.specs.Rows.{IsRow};
 use cvss_lines::{Answering, OutputBuffer, RunFault, Summary, run};
 use cvss_program::{LineAnswer, Task};
 use cvss_rows::{Format, Rows};
-use cvss_vector::answer_score;
+use cvss_vector::{Scoring, answer_score};
 use std::alloc::{AllocError, Global};
 use std::io::{Read, Write};
 
-/// Scores the vector, which has to be complete.
+/// Prints the score line of the vector.
 #[derive(Drop)]
-pub(crate) struct Score;
+pub(crate) struct Score {
+    /// Which score is printed.
+    pub(crate) scoring: Scoring,
+    /// A vector of CVSS v3 may lack base metrics.
+    pub(crate) allow_incomplete: bool,
+}
 
 impl Answering for Score {
-    ghost rule = { λ _. score_rule false };
+    ghost rule = { λ score. score_rule score.scoring score.allow_incomplete };
 
     #[inline(always)]
     fn answer_line(
@@ -28,34 +32,11 @@ impl Answering for Score {
         line: &[u8],
         answers: &mut OutputBuffer,
     ) -> Result<bool, AllocError> {
-        answer_score(line, false, answers)
+        answer_score(line, self.allow_incomplete, self.scoring, answers)
     }
 }
 
 impl LineAnswer for Score {
-    ghost one_text = { λ _. is_one_text _ _ };
-}
-
-/// Scores the vector, which may lack base metrics if it is one of CVSS v3.
-#[derive(Drop)]
-pub(crate) struct ScoreIncomplete;
-
-impl Answering for ScoreIncomplete {
-    ghost rule = { λ _. score_rule true };
-
-    #[inline(always)]
-    fn answer_line(
-        &self,
-        _alloc: Global,
-        _number: u64,
-        line: &[u8],
-        answers: &mut OutputBuffer,
-    ) -> Result<bool, AllocError> {
-        answer_score(line, true, answers)
-    }
-}
-
-impl LineAnswer for ScoreIncomplete {
     ghost one_text = { λ _. is_one_text _ _ };
 }
 

@@ -2,6 +2,7 @@
 
 ghost use Rattle.std.specs.Prelude.{◌≡◌, IfOk, map};
 ghost use Rattle.cvss_program.specs.Reports.{reported};
+ghost use Rattle.cvss_subcommands.specs.Flags.{scoring_of};
 ghost use Rattle.cvss_subcommands.specs.Triaging.{kind_of, settings_of};
 ghost use Rattle.cvss_triage.specs.Settings.{as_words};
 ghost use Rattle.cvss_triage.specs.Triage.{Triages};
@@ -24,8 +25,8 @@ pub(crate) fn triage_lines<F: Files, R: Read, W: Write, E: Write>(
     writer: &mut W,
     report: &mut Report<E>,
 ) -> Served
-    ensures { Triages (settings_of words.now) flags.keep_going flags.allow_incomplete
-        (F.contents files.now) operands.now
+    ensures { Triages (settings_of words.now) flags.keep_going (scoring_of flags.base)
+        flags.allow_incomplete (F.contents files.now) operands.now
         (R.remaining reader.old.reader) (R.remaining reader.new.reader)
         (W.contents writer.old) (W.contents writer.new)
         (reported E.contents report.old) (reported E.contents report.new) result }
@@ -36,6 +37,7 @@ pub(crate) fn triage_lines<F: Files, R: Read, W: Write, E: Write>(
     let asked = Triage {
         settings: &settings,
         keep_going: flags.keep_going,
+        scoring: flags.scoring(),
         allow_incomplete: flags.allow_incomplete,
     };
     rank_operands(alloc, &asked, operands, files, reader, writer, report)

@@ -59,7 +59,7 @@ place_text name index = name_text name ++ number_text index
 -- why a line has no row
 abbrev pub reason_words : Reason → List ℕ
 reason_words NoVector = codes "no vector"
-reason_words SeveralVectors = codes "several vectors"
+reason_words SeveralVectors = codes "more than one vector on this line"
 reason_words (Rejected error) = error_message error
 
 -- what is reported of the line of this index
@@ -77,7 +77,7 @@ pub record ReportsBad (starts : List ℕ) (many : Bool) (operands : List (Vec �
 
 -- what is reported of metrics, which are at this place if they are from a profile
 abbrev pub unknown_text : List ℕ → List ℕ → List ℕ
-unknown_text place metrics = codes "cvss: " ++ (place ++ (codes "not a metric of any version: " ++ (metrics ++ 10 ∷ [])))
+unknown_text place metrics = codes "cvss: " ++ (place ++ (codes "no CVSS version has " ++ (metrics ++ 10 ∷ [])))
 
 -- each of some is reported in turn, as the step says
 abbrev pub ReportsEach : {X : Type 0} → (X → Reported → Reported → Type 0) → List X → Reported → Reported → Type 0

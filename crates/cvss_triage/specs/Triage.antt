@@ -4,6 +4,7 @@ use Rattle.std.specs.Global.{Vec}
 use Rattle.std.specs.Io.KnownBytes.{Appends, Keeps}
 use Rattle.std.specs.List.{list_any}
 use Rattle.cvss_lines.specs.declared.fault.RunFault.TheVariants.{Memory, Read, Write}
+use Rattle.cvss_vector.specs.declared.scoring.Scoring.{Scoring}
 use Rattle.cvss_program.specs.Exit.{after, nothing_served}
 use Rattle.cvss_program.specs.Operands.{many_files}
 use Rattle.cvss_program.specs.Reports.{Reported}
@@ -48,16 +49,16 @@ abbrev pub shown : Bool → Served → List Row → List ℕ
 shown keep_going served rows = if keep_going || not (served.rejected || served.unread) then flat_map row_text rows else []
 
 -- the lines of the inputs are ranked, and this is the text of their rows; lines without one are reported
-pub record IsRanked (keep_going allow_incomplete : Bool) (overrides : List Override) (operands : List (Vec ℕ))
+pub record IsRanked (keep_going : Bool) (scoring : Scoring) (allow_incomplete : Bool) (overrides : List Override) (operands : List (Vec ℕ))
     (inputs : List (Option (Vec ℕ))) (report report' : Reported) (text : List ℕ) (served : Served) : Type 0 where
   pub ranking : Ranking
-  pub is : IsRanking overrides allow_incomplete (lines_in inputs) ranking
+  pub is : IsRanking overrides scoring allow_incomplete (lines_in inputs) ranking
   pub reported : ReportsEach (ReportsBadLine (starts_of inputs) (many_files operands) operands) ranking.bad.items report report'
   pub served_is : served ≡ served_of ranking.bad.items inputs
   pub text_is : text ≡ shown keep_going served ranking.rows.items
 
 -- all operands are read in turn after the settings, and their lines are ranked
-pub record Ranks (settings : List (SettingKind × List ℕ)) (keep_going allow_incomplete : Bool) (contents : List ℕ → Option (List ℕ))
+pub record Ranks (settings : List (SettingKind × List ℕ)) (keep_going : Bool) (scoring : Scoring) (allow_incomplete : Bool) (contents : List ℕ → Option (List ℕ))
     (operands : List (Vec ℕ)) (unread unread' : Option (List ℕ)) (report report' : Reported) (text : List ℕ) (served : Served) : Type 0 where
   pub texts : List SettingText
   pub overrides : List Override
@@ -68,12 +69,12 @@ pub record Ranks (settings : List (SettingKind × List ℕ)) (keep_going allow_i
   pub inputs : List (Option (Vec ℕ))
   pub report''' : Reported
   pub read : ReadsEach (ReadsInput contents) (inputs_of operands) unread'' unread' report'' report''' inputs
-  pub ranked : IsRanked keep_going allow_incomplete overrides operands inputs report''' report' text served
+  pub ranked : IsRanked keep_going scoring allow_incomplete overrides operands inputs report''' report' text served
 
 -- what is to be written once all is read, and what triage comes to then
-abbrev pub IsOutcome : List (SettingKind × List ℕ) → Bool → Bool → (List ℕ → Option (List ℕ)) → List (Vec ℕ) → Option (List ℕ) → Option (List ℕ) → Reported → Reported → List ℕ → Served → Type 0
-IsOutcome settings keep_going allow_incomplete contents operands unread unread' report report' text served =
-    Ranks settings keep_going allow_incomplete contents operands unread unread' report report' text served
+abbrev pub IsOutcome : List (SettingKind × List ℕ) → Bool → Scoring → Bool → (List ℕ → Option (List ℕ)) → List (Vec ℕ) → Option (List ℕ) → Option (List ℕ) → Reported → Reported → List ℕ → Served → Type 0
+IsOutcome settings keep_going scoring allow_incomplete contents operands unread unread' report report' text served =
+    Ranks settings keep_going scoring allow_incomplete contents operands unread unread' report report' text served
     ⊎ IsNotUnderstood settings contents unread unread' report report' text served
 
 -- the text is written, or a beginning of it where the writer fails
@@ -83,9 +84,9 @@ WritesOutcome text served written written' served' =
     ⊎ ((served' ≡ after served (Err Write)) × ((count : ℕ) × Appends written written' (take count text)))
 
 -- nothing is written where memory runs out, and nothing before all is read
-abbrev pub Triages : List (SettingKind × List ℕ) → Bool → Bool → (List ℕ → Option (List ℕ)) → List (Vec ℕ) → Option (List ℕ) → Option (List ℕ) → Option (List ℕ) → Option (List ℕ) → Reported → Reported → Served → Type 0
-Triages settings keep_going allow_incomplete contents operands unread unread' written written' report report' served' =
+abbrev pub Triages : List (SettingKind × List ℕ) → Bool → Scoring → Bool → (List ℕ → Option (List ℕ)) → List (Vec ℕ) → Option (List ℕ) → Option (List ℕ) → Option (List ℕ) → Option (List ℕ) → Reported → Reported → Served → Type 0
+Triages settings keep_going scoring allow_incomplete contents operands unread unread' written written' report report' served' =
     ((text : List ℕ) × (served : Served)
-    × IsOutcome settings keep_going allow_incomplete contents operands unread unread' report report' text served
+    × IsOutcome settings keep_going scoring allow_incomplete contents operands unread unread' report report' text served
     × WritesOutcome text served written written' served')
     ⊎ ((served' ≡ after nothing_served (Err Memory)) × Keeps written written')

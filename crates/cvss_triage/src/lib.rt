@@ -1,5 +1,5 @@
-//! `cvss triage`: the lines of its inputs, ranked by the scores that count all metrics, after metrics of
-//! an organisation's own are set in their vectors.
+//! `cvss triage`: the lines of its inputs, ranked by the scores of their vectors after an organisation's
+//! own metrics are set in them.
 #![tactic(auto)]
 
 mod inputs;

@@ -102,9 +102,9 @@ fn started(alloc: Global) -> Result<OutputBuffer, AllocError>
 
 fn push_unknown(metrics: &[u8], text: &mut OutputBuffer) -> Result<(), AllocError>
     ensures { OnOk result (text.new.bytes.items ≡ text.old.bytes.items
-        ++ (codes "not a metric of any version: " ++ (metrics.now ++ 10 ∷ []))) }
+        ++ (codes "no CVSS version has " ++ (metrics.now ++ 10 ∷ []))) }
 {
-    text.push(b"not a metric of any version: ")?;
+    text.push(b"no CVSS version has ")?;
     text.push(metrics)?;
     text.push(b"\n")
 }
@@ -151,7 +151,7 @@ fn push_reason(
 {
     match reason {
         Reason::NoVector => text.push(b"no vector\n"),
-        Reason::SeveralVectors => text.push(b"several vectors\n"),
+        Reason::SeveralVectors => text.push(b"more than one vector on this line\n"),
         Reason::Rejected(error) => push_error(alloc, *error, text),
     }
 }

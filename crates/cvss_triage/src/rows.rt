@@ -2,7 +2,7 @@
 
 ghost use Rattle.std.specs.Prelude.{◌≡◌, ◌++◌, IfOk, OnOk, flat_map};
 ghost use Rattle.cvss_vector.specs.Answers.{score_of_tenths, text_of};
-ghost use Rattle.cvss_triage.specs.Rows.{overall_text, row_text, scored_text};
+ghost use Rattle.cvss_triage.specs.Rows.{row_text, score_text, scored_text};
 
 use cvss_base::{OneDecimal, TENTH};
 use cvss_lines::OutputBuffer;
@@ -40,7 +40,7 @@ fn write_row(row: &Row<'_>, text: &mut OutputBuffer) -> fmt::Result
     Ok(())
 }
 
-/// Writes the score, its rating and the vector, with a blank between two of them.
+/// Writes the score, its severity and the vector, with a blank between two of them.
 fn write_scored(row: &Row<'_>, text: &mut OutputBuffer) -> fmt::Result
     ensures { OnOk result (text.new.bytes.items ≡ text.old.bytes.items ++ scored_text row.now) }
 {
@@ -61,7 +61,7 @@ fn score_of(row: &Row<'_>) -> OneDecimal
 
 fn write_score(score: OneDecimal, text: &mut OutputBuffer) -> fmt::Result
     ensures { OnOk result (text.new.bytes.items
-        ≡ text.old.bytes.items ++ overall_text score.count) }
+        ≡ text.old.bytes.items ++ score_text score.count) }
 {
     write!(text, "{score}")
 }

@@ -15,6 +15,7 @@ use crate::settings::{Setting, read_settings};
 use cvss_lines::{RunFault, write_whole};
 use cvss_program::{Files, Report, Served, WatchedReader, are_many};
 use cvss_rank::{BadLine, Override, Row, rank};
+use cvss_vector::Scoring;
 use std::alloc::{AllocError, Global};
 use std::io::{Read, Write};
 
@@ -27,6 +28,8 @@ pub struct Triage<'a> {
     pub keep_going: bool,
     /// Vectors of CVSS v3 may lack base metrics.
     pub allow_incomplete: bool,
+    /// By which score of each vector lines are ranked.
+    pub scoring: Scoring,
 }
 
 /// What is written, and what triage comes to once it is.
@@ -49,7 +52,7 @@ pub fn rank_operands<F: Files, R: Read, W: Write, E: Write>(
     report: &mut Report<E>,
 ) -> Served
     ensures { Triages (map as_words asked.now.settings.now) asked.now.keep_going
-        asked.now.allow_incomplete (F.contents files.now) operands.now
+        asked.now.scoring asked.now.allow_incomplete (F.contents files.now) operands.now
         (R.remaining reader.old.reader) (R.remaining reader.new.reader)
         (W.contents writer.old) (W.contents writer.new)
         (reported E.contents report.old) (reported E.contents report.new) result }
@@ -80,7 +83,8 @@ fn outcome_of<F: Files, R: Read, E: Write>(
     report: &mut Report<E>,
 ) -> Result<Outcome, AllocError>
     ensures { IfOk result (λ outcome. IsOutcome (map as_words asked.now.settings.now)
-        asked.now.keep_going asked.now.allow_incomplete (F.contents files.now) operands.now
+        asked.now.keep_going asked.now.scoring asked.now.allow_incomplete
+        (F.contents files.now) operands.now
         (R.remaining reader.old.reader) (R.remaining reader.new.reader)
         (reported E.contents report.old) (reported E.contents report.new)
         outcome.text.items outcome.served) }
@@ -107,13 +111,19 @@ fn ranked<E: Write>(
     inputs: &[Option<Vec<u8>>],
     report: &mut Report<E>,
 ) -> Result<Outcome, AllocError>
-    ensures { IfOk result (λ outcome. IsRanked asked.now.keep_going asked.now.allow_incomplete
-        overrides.now operands.now inputs.now
+    ensures { IfOk result (λ outcome. IsRanked asked.now.keep_going asked.now.scoring
+        asked.now.allow_incomplete overrides.now operands.now inputs.now
         (reported E.contents report.old) (reported E.contents report.new)
         outcome.text.items outcome.served) }
 {
     let lines = lines_of(alloc, inputs)?;
-    let ranking = rank(alloc, &lines.lines, overrides, asked.allow_incomplete)?;
+    let ranking = rank(
+        alloc,
+        &lines.lines,
+        overrides,
+        asked.allow_incomplete,
+        asked.scoring,
+    )?;
     let many = are_many(operands);
     report_bad(alloc, &ranking.bad, &lines.starts, many, operands, report)?;
     let served = served_of(&ranking.bad, inputs);

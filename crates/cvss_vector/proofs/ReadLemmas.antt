@@ -44,6 +44,7 @@ use Rattle.cvss_vector.specs.Refusals.{refusal_of}
 use Rattle.cvss_vector.specs.declared.metric_type.MetricType.{MetricType}
 use Rattle.cvss_vector.specs.declared.metric_type.MetricType.TheVariants.{V2, V3, V4}
 use Rattle.cvss_vector.specs.declared.published.Published.{Published}
+use Rattle.cvss_vector.specs.declared.scoring.Scoring.{Scoring}
 use Rattle.cvss_vector.specs.declared.refusal.Refusal as declared
 use Rattle.cvss_vector.specs.declared.vector.Cvss.{Cvss}
 use Rattle.cvss_vector.specs.declared.vector.Cvss.TheVariants.{CvssV20, CvssV30, CvssV31, CvssV40}
@@ -255,7 +256,7 @@ module _ (text : List ℕ) where
     read_v4 (suc minor) is = absurd (omega (arith, is.known))
 
 -- what is published of a vector that was read, whose canonical text is given; it lacks no base metric, unless it may
-pub IsPublishedBy-read : {text canonical : List ℕ} {cvss : Cvss} {published : Published} (allow_incomplete : Bool) → IsRead text (Ok cvss)
-    → canonical ≡ text_of cvss → IsPublished cvss published → missing_by allow_incomplete cvss ≡ None → IsPublishedBy allow_incomplete text canonical published
+pub IsPublishedBy-read : {text canonical : List ℕ} {scoring : Scoring} {cvss : Cvss} {published : Published} (allow_incomplete : Bool) → IsRead text (Ok cvss)
+    → canonical ≡ text_of cvss → IsPublished scoring cvss published → missing_by allow_incomplete cvss ≡ None → IsPublishedBy scoring allow_incomplete text canonical published
 IsPublishedBy-read {cvss = cvss} allow_incomplete read canonical_is is complete =
     record { of = record { cvss = cvss; canonical_is = canonical_is; denoted = read.denoted; utf8 = read.utf8; is = is }; complete = complete }

@@ -1,3 +1,4 @@
+mod AloneLemmas
 mod OverridingLemmas
 mod PrintingLemmas
 mod TriageLemmas

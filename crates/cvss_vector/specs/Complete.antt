@@ -11,6 +11,7 @@ use Rattle.cvss_vector.specs.declared.metric_type.MetricType.{MetricType}
 use Rattle.cvss_vector.specs.declared.metric_type.MetricType.TheVariants.{V3}
 use Rattle.cvss_vector.specs.declared.published.Published.{Published}
 use Rattle.cvss_vector.specs.declared.refusal.ReadError.{ReadError}
+use Rattle.cvss_vector.specs.declared.scoring.Scoring.{Scoring}
 use Rattle.cvss_vector.specs.declared.vector.Cvss.{Cvss}
 use Rattle.cvss_vector.specs.declared.vector.Cvss.TheVariants.{CvssV30, CvssV31}
 
@@ -27,13 +28,13 @@ missing_by false cvss = first_missing cvss
 
 -- that is published of the vector that the text denotes, whose canonical text is given; it lacks no base metric, unless
 -- it may
-pub record IsPublishedBy (allow_incomplete : Bool) (text canonical : List ℕ) (published : Published) : Type 0 where
-  pub of : IsPublishedAs text canonical published
+pub record IsPublishedBy (scoring : Scoring) (allow_incomplete : Bool) (text canonical : List ℕ) (published : Published) : Type 0 where
+  pub of : IsPublishedAs scoring text canonical published
   pub complete : missing_by allow_incomplete of.cvss ≡ None
 
 -- the same, of a text that is its vector's canonical one, and of a vector that may lack none
-abbrev pub IsPublishedOfComplete : List ℕ → Published → Type 0
-IsPublishedOfComplete text published = IsPublishedBy false text text published
+abbrev pub IsPublishedOfComplete : Scoring → List ℕ → Published → Type 0
+IsPublishedOfComplete scoring text published = IsPublishedBy scoring false text text published
 
 -- the text denotes a vector that lacks base metrics and may not, and the error says the first of them
 pub record IsMissingError (allow_incomplete : Bool) (text : List ℕ) (error : ReadError) : Type 0 where

@@ -2,12 +2,14 @@ pub mod Answers
 pub mod Bytes
 pub mod Complete
 pub mod Dispatch
+pub mod Evaluation
 pub mod Lines
 pub mod MetricTypes
 pub mod MetricsLeft
 pub mod Published
 pub mod Reasons
 pub mod Refusals
+pub mod Scores
 pub mod Segments
 pub mod Setting
 pub mod private

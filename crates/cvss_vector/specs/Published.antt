@@ -4,11 +4,13 @@ use Rattle.std.specs.Str.{IsUtf8}
 use Rattle.cvss_base.specs.Rating.{rating_of_score}
 use Rattle.cvss_base.specs.declared.severity.Severity.{Severity}
 use Rattle.cvss_score.specs.v2.Rating.{rating_of}
-use Rattle.cvss_vector.specs.Answers.{text_of, IsScoreOf, score_of_tenths, rating_by, rating_text}
+use Rattle.cvss_vector.specs.Answers.{text_of, score_of_tenths, rating_by, rating_text}
 use Rattle.cvss_vector.specs.Dispatch.{DenotesCvss}
+use Rattle.cvss_vector.specs.Scores.{IsScoreAs}
 use Rattle.cvss_vector.specs.declared.published.Published.{Published}
 use Rattle.cvss_vector.specs.declared.published.Bounds.{Bounds}
 use Rattle.cvss_vector.specs.declared.published.Bounds.TheVariants.{OfV2, SinceV3}
+use Rattle.cvss_vector.specs.declared.scoring.Scoring.{Scoring}
 use Rattle.cvss_vector.specs.declared.vector.Cvss.{Cvss}
 
 -- the rating of a score, a count of 10^-24, by such bounds
@@ -16,19 +18,19 @@ abbrev pub rating_within : Bounds → ℤ → Severity
 rating_within OfV2 = rating_of
 rating_within SinceV3 = rating_of_score
 
--- the tenths are those of the vector's score, which its version rates by these bounds
-pub record IsPublished (cvss : Cvss) (published : Published) : Type 0 where
-  pub scored : IsScoreOf cvss (score_of_tenths published.tenths)
+-- the tenths are those of the vector's score that is told, which its version rates by these bounds
+pub record IsPublished (scoring : Scoring) (cvss : Cvss) (published : Published) : Type 0 where
+  pub scored : IsScoreAs scoring cvss (score_of_tenths published.tenths)
   pub rated : rating_by cvss ≡ rating_within published.bounds
   pub to_ten : published.tenths ≤ 100
 
 -- that is published of the vector that the text denotes, whose canonical text is given
-pub record IsPublishedAs (text canonical : List ℕ) (published : Published) : Type 0 where
+pub record IsPublishedAs (scoring : Scoring) (text canonical : List ℕ) (published : Published) : Type 0 where
   pub cvss : Cvss
   pub canonical_is : canonical ≡ text_of cvss
   pub denoted : DenotesCvss text cvss
   pub utf8 : IsUtf8 text
-  pub is : IsPublished cvss published
+  pub is : IsPublished scoring cvss published
 
 -- what follows a vector's text in its line: a score of so many tenths and its rating within these bounds, each after a
 -- blank, and a byte 10

@@ -21,11 +21,13 @@ use Rattle.cvss_vector.specs.declared.published.Published.{Published}
 use Rattle.cvss_vector.specs.declared.refusal.ReadError.{ReadError}
 use Rattle.cvss_vector.specs.declared.refusal.Refusal as declared
 use Rattle.cvss_vector.specs.declared.refusal.Refusal.TheVariants as named
+use Rattle.cvss_vector.specs.declared.scoring.Scoring.{Scoring}
 use Rattle.cvss_vector.specs.declared.setting.SetError.{SetError}
 use Rattle.cvss_vector.specs.declared.vector.Cvss.{Cvss}
 use Rattle.cvss_vector.specs.declared.vector.Cvss.TheVariants.{CvssV30, CvssV31}
 use Rattle.cvss_vector.specs.private.ErrorLaws.{HasMissingError}
 pub mod ErrorLaws
+pub mod Tenths
 
 -- the front of a vector, from the major version with its dot, and the minor version
 abbrev pub front_of : List ℕ → ℕ → List (List ℕ)
@@ -90,11 +92,11 @@ IsUnpublished allow_incomplete text refusal =
     ⊎ ((error : ReadError) → IsReadErrorFor text (refusal_of refusal) error → IsMissingError allow_incomplete text error)
 
 -- what is written in answer to a text: the line of the vector that the text denotes, or that of an error that is right
-abbrev pub IsPublishedTo : Bool → List ℕ → List ℕ → Bool → List ℕ → Type 0
-IsPublishedTo allow_incomplete text old true new =
-    (canonical : List ℕ) × (published : Published) × IsPublishedBy allow_incomplete text canonical published
+abbrev pub IsPublishedTo : Scoring → Bool → List ℕ → List ℕ → Bool → List ℕ → Type 0
+IsPublishedTo scoring allow_incomplete text old true new =
+    (canonical : List ℕ) × (published : Published) × IsPublishedBy scoring allow_incomplete text canonical published
     × (new ≡ old ++ vector_line canonical published)
-IsPublishedTo allow_incomplete text old false new =
+IsPublishedTo scoring allow_incomplete text old false new =
     (error : ReadError) × IsReadErrorBy allow_incomplete text error × (new ≡ old ++ error_line error)
 
 -- what is answered where these are the vectors and these the reasons: no other vector, and no other reason

@@ -3,6 +3,7 @@
 ghost use Rattle.std.specs.Prelude.{ℕ, IfOk};
 ghost use Rattle.cvss_lines.specs.Answers.{WritesAnswer};
 ghost use Rattle.cvss_vector.specs.Lines.{IsAnswer, score_rule};
+ghost use Rattle.cvss_vector.specs.declared.scoring.Scoring.{Scoring};
 ghost use Rattle.cvss_vector.specs.private.{IsPublishedTo, IsRouted, IsUnpublished};
 
 use crate::lines::{write_canonical, write_error};
@@ -10,6 +11,7 @@ use crate::one_version::OneVersion;
 use crate::publishing::published_by;
 use crate::reading::{read_error_of, unread};
 use crate::refusal::Refusal;
+use crate::scoring::Scoring;
 use crate::{v2, v3, v4};
 use cvss_lines::{Answering, OutputBuffer};
 use cvss_text::buffer::TextBuffer;
@@ -30,12 +32,12 @@ impl Answering for Vectors {
         line: &[u8],
         answers: &mut OutputBuffer,
     ) -> Result<bool, AllocError> {
-        answer_score(line, true, answers)
+        answer_score(line, true, Scoring::Published, answers)
     }
 }
 
-/// Answers a line as [`Vectors`] does, but a vector of CVSS v3 that lacks base metrics by the first of
-/// them, unless they may be missing.
+/// Answers a line as [`Vectors`] does, but by a score that is chosen, and a vector of CVSS v3 that lacks
+/// base metrics by the first of them, unless they may be missing.
 ///
 /// # Errors
 ///
@@ -45,22 +47,44 @@ impl Answering for Vectors {
 pub fn answer_score(
     line: &[u8],
     allow_incomplete: bool,
+    scoring: Scoring,
     answers: &mut OutputBuffer,
 ) -> Result<bool, AllocError>
-    ensures { (number : ℕ) → IfOk result (WritesAnswer (score_rule allow_incomplete) number line.now
+    ensures { (number : ℕ) → IfOk result (WritesAnswer (score_rule scoring allow_incomplete) number line.now
         answers.old.bytes.items answers.new.bytes.items) }
 {
     let route = route_of_text(line);
     // The text is copied at one place for all versions, so that the compiler can inline it.
-    if let Some(published) = published_by(line, &route) {
+    if let Some(published) = published_by(line, &route, scoring) {
         write_canonical(line, published, answers)?;
         return Ok(true);
     }
     match route {
-        Route::V20 => answer_rest::<v2::Vector>(line, line, 0, allow_incomplete, answers),
-        Route::V30(left) => answer_rest::<v3::Vector>(line, left, 0, allow_incomplete, answers),
-        Route::V31(left) => answer_rest::<v3::Vector>(line, left, 1, allow_incomplete, answers),
-        Route::V40(left) => answer_rest::<v4::Vector>(line, left, 0, allow_incomplete, answers),
+        Route::V20 => answer_rest::<v2::Vector>(line, line, 0, allow_incomplete, scoring, answers),
+        Route::V30(left) => answer_rest::<v3::Vector>(
+            line,
+            left,
+            0,
+            allow_incomplete,
+            scoring,
+            answers,
+        ),
+        Route::V31(left) => answer_rest::<v3::Vector>(
+            line,
+            left,
+            1,
+            allow_incomplete,
+            scoring,
+            answers,
+        ),
+        Route::V40(left) => answer_rest::<v4::Vector>(
+            line,
+            left,
+            0,
+            allow_incomplete,
+            scoring,
+            answers,
+        ),
         Route::Unversioned(why) => { reject(line, allow_incomplete, unread(line, why), answers) }
     }
 }
@@ -73,10 +97,11 @@ fn answer_rest<V: OneVersion>(
     components: &[u8],
     minor_version: usize,
     allow_incomplete: bool,
+    scoring: Scoring,
     answers: &mut OutputBuffer,
 ) -> Result<bool, AllocError>
     requires { IsRouted V.has_minor V.route V.front line.now components.now minor_version }
-    ensures { IfOk result (λ is. IsPublishedTo allow_incomplete line.now
+    ensures { IfOk result (λ is. IsPublishedTo scoring allow_incomplete line.now
         answers.old.bytes.items is answers.new.bytes.items) }
 {
     let mut vector = V::without_metrics(minor_version);
@@ -94,7 +119,11 @@ fn answer_rest<V: OneVersion>(
     }
     let mut buffer = TextBuffer::new();
     let canonical = vector.canonical(minor_version, &mut buffer);
-    write_canonical(canonical, vector.join(minor_version).published(), answers)?;
+    write_canonical(
+        canonical,
+        vector.join(minor_version).published(scoring),
+        answers,
+    )?;
     Ok(true)
 }
 
@@ -106,7 +135,7 @@ fn reject(
     answers: &mut OutputBuffer,
 ) -> Result<bool, AllocError>
     requires { IsUnpublished allow_incomplete line.now refusal }
-    ensures { IfOk result (λ is. IsPublishedTo allow_incomplete line.now
+    ensures { (scoring : Scoring) → IfOk result (λ is. IsPublishedTo scoring allow_incomplete line.now
         answers.old.bytes.items is answers.new.bytes.items) }
 {
     write_error(read_error_of(line, refusal), answers)?;

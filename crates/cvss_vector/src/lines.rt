@@ -2,8 +2,8 @@
 
 ghost use Rattle.std.specs.Prelude.{◌≡◌, ◌≤◌, ◌++◌, OnOk};
 ghost use Rattle.cvss_lines.specs.Answers.{written_text};
-ghost use Rattle.cvss_vector.specs.Answers.{text_of as text_of_vector, vector_answer};
-ghost use Rattle.cvss_vector.specs.Published.{IsPublished, vector_line};
+ghost use Rattle.cvss_vector.specs.Answers.{rating_by, text_of as text_of_vector, vector_answer};
+ghost use Rattle.cvss_vector.specs.Published.{rating_within, vector_line};
 ghost use Rattle.cvss_vector.specs.Reasons.{error_line};
 ghost use Rattle.cvss_vector.specs.Segments.{segment_text, text_of};
 
@@ -48,7 +48,8 @@ pub fn write_vector(
     published: Published,
     answers: &mut OutputBuffer,
 ) -> Result<(), AllocError>
-    requires { IsPublished vector.now published }
+    requires rated { rating_by vector.now ≡ rating_within published.bounds }
+    requires to_ten { published.tenths ≤ 100 }
     ensures { OnOk result (answers.new.bytes.items ≡ answers.old.bytes.items
         ++ written_text (vector_answer vector.now published.tenths)) }
 {

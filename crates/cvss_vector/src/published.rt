@@ -1,9 +1,10 @@
-//! What is published of a vector: its score and the score's rating.
+//! What is published of a vector: a score and its severity.
 
 ghost use Rattle.std.specs.Prelude.{◌≡◌, ◌≤◌};
 ghost use Rattle.cvss_vector.specs.Answers.{HasScore, IsScoreOf, rating_by, score_of_tenths};
 ghost use Rattle.cvss_vector.specs.Published.{IsPublished, rating_within};
 
+use crate::scoring::Scoring;
 use crate::vector::Cvss;
 
 /// By which bounds a score is rated.
@@ -49,14 +50,18 @@ impl Cvss {
         }
     }
 
-    /// What is published of a vector that has a score.
+    /// A score of a vector that has one, and how it is rated.
     #[inline(always)]
-    pub fn published(&self) -> Published
+    pub fn published(&self, scoring: Scoring) -> Published
         requires scored { HasScore self.now }
-        ensures { IsPublished self.now result }
+        ensures { IsPublished scoring self.now result }
     {
         Published {
-            tenths: self.inlined_tenths(),
+            tenths: match scoring {
+                Scoring::Published => self.inlined_tenths(),
+                Scoring::Overall => self.overall_tenths(),
+                Scoring::Base => self.base_tenths(),
+            },
             bounds: self.bounds(),
         }
     }

@@ -1,97 +1,190 @@
-//! What C gets of a text: numbers, scores and metrics, or why the text is rejected.
+//! What C gets of a text: its canonical text, numbers, scores and metrics, or why it is rejected.
 
-use crate::buffers::{LEFT, print_written};
+use crate::buffers::{Form, LEFT, print_told, text_of, unset_error};
 use crate::cut;
 use crate::lists::number;
-use crate::texts::{canonical, reason};
 use cvss_base::v4::MOST_METRICS;
-use cvss_ffi::metrics::put_metrics;
-use cvss_ffi::numbers::{NOTHING, rating_number, version_number};
-use cvss_ffi::refusal::{kind_of, put_reported_kind};
-use cvss_ffi::scores::scores_by;
-use cvss_ffi::{CvssMetric, CvssScores, CvssScoresBy, put};
-use cvss_vector::Cvss;
+use cvss_ffi::metrics::metrics;
+use cvss_ffi::numbers::{NOTHING, severity};
+use cvss_ffi::score::score;
+use cvss_ffi::values::values;
+use cvss_ffi::vector::parse;
+use cvss_ffi::{CvssMetric, CvssValues, CvssVector};
 use std::io;
 
-const RATINGS: [&str; 5] = ["none", "low", "medium", "high", "critical"];
+const SEVERITIES: [&str; 5] = ["none", "low", "medium", "high", "critical"];
 
 const NOMENCLATURES: [&str; 4] = ["CVSS-B", "CVSS-BE", "CVSS-BT", "CVSS-BTE"];
 
-pub(crate) fn facts(rt: &HostRuntime, text: &[u8]) -> io::Result<()> {
-    match Cvss::read_bytes(text) {
-        Some(cvss) => print_vector(rt, text, &cvss, &CvssScores::of(&cvss)),
-        None => print_rejected(rt, text),
+pub(crate) fn facts(rt: &HostRuntime, text: &[u8], flags: u32) -> io::Result<()> {
+    canonical(rt, text, flags, Form::Kind)?;
+    let mut vector = unset_vector(65);
+    parse(text, flags, &mut vector, &mut unset_error(0), &mut []);
+    if vector.version == 99 {
+        return check_rejected(rt, text, flags, &vector);
+    }
+    print_numbers(rt, &vector)?;
+    check_values(rt, text, flags, &vector)?;
+    print_metrics(rt, text, flags)
+}
+
+/// Prints the canonical text, by calls that leave what is told of the vector as it was.
+pub(crate) fn canonical(rt: &HostRuntime, text: &[u8], flags: u32, form: Form) -> io::Result<()> {
+    print_told(rt, form, |error, buffer| {
+        let mut vector = unset_vector(63);
+        let length = parse(text, flags, &mut vector, error, buffer);
+        if is_unset(&vector, 63) { length } else { 0 }
+    })
+}
+
+/// What is told of a vector before anything is.
+fn unset_vector(size: u32) -> CvssVector {
+    CvssVector {
+        size,
+        version: 99,
+        score: 99,
+        severity: 99,
+        base: 99,
+        base_severity: 99,
+        temporal: 99,
+        temporal_severity: 99,
+        environmental: 99,
+        environmental_severity: 99,
+        nomenclature: 99,
+        by_nomenclature: [99; 4],
+        is_complete: 99,
     }
 }
 
-fn print_rejected(rt: &HostRuntime, text: &[u8]) -> io::Result<()> {
-    print!(rt; "{} ", kind_of(text))?;
-    print_written(rt, |buffer| put_reported_kind(text, buffer))?;
-    print!(rt; " ")?;
-    reason(rt, text)
+fn is_unset(vector: &CvssVector, size: u32) -> bool {
+    let scores = [
+        vector.score,
+        vector.base,
+        vector.temporal,
+        vector.environmental,
+    ];
+    let severities = [
+        vector.severity,
+        vector.base_severity,
+        vector.temporal_severity,
+        vector.environmental_severity,
+    ];
+    scores == [99; 4]
+        && severities == [99; 4]
+        && vector.by_nomenclature == [99; 4]
+        && [vector.version, vector.nomenclature, vector.is_complete] == [99; 3]
+        && vector.size == size
 }
 
-fn print_vector(rt: &HostRuntime, text: &[u8], cvss: &Cvss, scores: &CvssScores) -> io::Result<()> {
-    canonical(rt, text)?;
-    print_scores(rt, version_number(cvss), scores)?;
-    print_metrics(rt, cvss)
+/// What other calls tell of a text that is rejected is nothing.
+fn check_rejected(
+    rt: &HostRuntime,
+    text: &[u8],
+    flags: u32,
+    vector: &CvssVector,
+) -> io::Result<()> {
+    if !is_unset(vector, 65) || score(text, flags) != NOTHING {
+        print!(rt; " but it has scores")?;
+    }
+    if metrics(text, flags, &mut []) != 0 || values(text, flags, &mut unset_values(273)) {
+        print!(rt; " but it has metrics")?;
+    }
+    Ok(())
 }
 
-fn print_scores(rt: &HostRuntime, version: i32, scores: &CvssScores) -> io::Result<()> {
-    if version != scores.version {
-        print!(rt; " two versions")?;
+fn print_numbers(rt: &HostRuntime, vector: &CvssVector) -> io::Result<()> {
+    let version = vector.version;
+    if vector.size != 65 {
+        print!(rt; " another size")?;
+    }
+    if version < 0 {
+        return print!(rt; " no version");
     }
     print!(rt;
         " {}.{} {} {}",
         version / 10,
         version % 10,
-        word(&NOMENCLATURES, scores.nomenclature),
-        word(&["incomplete", "complete"], scores.is_complete)
+        word(&NOMENCLATURES, vector.nomenclature),
+        word(&["incomplete", "complete"], vector.is_complete)
     )?;
-    print_score(rt, scores.base, scores.severity)?;
-    print_score(rt, scores.temporal, scores.temporal_severity)?;
-    print_score(rt, scores.environmental, scores.environmental_severity)
+    print_score(rt, vector.score, vector.severity)?;
+    print_score(rt, vector.base, vector.base_severity)?;
+    print_score(rt, vector.temporal, vector.temporal_severity)?;
+    print_score(rt, vector.environmental, vector.environmental_severity)?;
+    for tenths in vector.by_nomenclature {
+        print_tenths(rt, tenths)?;
+    }
+    Ok(())
 }
 
 fn print_score(rt: &HostRuntime, tenths: i32, severity: i32) -> io::Result<()> {
-    let rating = word(&RATINGS, severity);
+    print_tenths(rt, tenths)?;
+    print!(rt; " {}", word(&SEVERITIES, severity))
+}
+
+fn print_tenths(rt: &HostRuntime, tenths: i32) -> io::Result<()> {
     if tenths == NOTHING {
-        print!(rt; " - {rating}")
+        print!(rt; " -")
     } else {
-        print!(rt; " {}.{} {rating}", tenths / 10, tenths % 10)
+        print!(rt; " {}.{}", tenths / 10, tenths % 10)
     }
+}
+
+/// The values of a vector before anything is written.
+fn unset_values(size: u32) -> CvssValues {
+    CvssValues {
+        size,
+        version: 99,
+        score: 99,
+        nomenclature: 99,
+        fields: [[LEFT; 8]; MOST_METRICS],
+    }
+}
+
+/// What the calls that tell less tell the same.
+fn check_values(rt: &HostRuntime, text: &[u8], flags: u32, vector: &CvssVector) -> io::Result<()> {
+    let mut found = unset_values(273);
+    let is_told = values(text, flags, &mut found);
+    let mut small = unset_values(271);
+    if values(text, flags, &mut small) || small.version != 99 || small.fields[0] != [LEFT; 8] {
+        print!(rt; " values that are too short were not left as they were")?;
+    }
+    let told = [found.version, found.score, found.nomenclature];
+    if !is_told
+        || told != [vector.version, vector.score, vector.nomenclature]
+        || found.size != 273
+    {
+        print!(rt; " other values")?;
+    }
+    let count = found.fields.iter().filter(|field| field[0] != 0).count();
+    if count != metrics(text, flags, &mut []) {
+        print!(rt; " {count} values")?;
+    }
+    if score(text, flags) != vector.score {
+        print!(rt; " another score")?;
+    }
+    Ok(())
 }
 
 /// Prints the scores by nomenclature of a vector of v4.0, or `-`.
-pub(crate) fn print_scores_by(rt: &HostRuntime, text: &[u8]) -> io::Result<()> {
-    let mut scores = CvssScoresBy {
-        b: NOTHING,
-        be: NOTHING,
-        bt: NOTHING,
-        bte: NOTHING,
-    };
-    let written = match Cvss::read_bytes(text) {
-        Some(cvss) => put(scores_by(&cvss), &mut scores),
-        None => false,
-    };
-    if written {
-        print!(rt; "{} {} {} {}", scores.b, scores.be, scores.bt, scores.bte)
-    } else if [scores.b, scores.be, scores.bt, scores.bte] == [NOTHING; 4] {
-        print!(rt; "-")
-    } else {
-        print!(rt; "the numbers were not left as they were")
+pub(crate) fn print_scores_by(rt: &HostRuntime, text: &[u8], flags: u32) -> io::Result<()> {
+    let mut vector = unset_vector(64);
+    parse(text, flags, &mut vector, &mut unset_error(0), &mut []);
+    match vector.by_nomenclature {
+        [99, 99, 99, 99] | [NOTHING, NOTHING, NOTHING, NOTHING] => print!(rt; "-"),
+        [b, be, bt, bte] => print!(rt; "{b} {be} {bt} {bte}"),
     }
 }
 
-/// Prints the rating of the tenths after the first blank by the bounds of the version before it.
-pub(crate) fn rating(rt: &HostRuntime, asked: &[u8]) -> io::Result<()> {
+/// Prints the severity of the tenths after the first blank by the bounds of the version before it.
+pub(crate) fn print_severity(rt: &HostRuntime, asked: &[u8]) -> io::Result<()> {
     let (version, tenths) = cut(asked, b' ');
     let version = i32::try_from(number(version)).unwrap_or(0);
     let tenths = match tenths {
         [b'-', digits @ ..] => -i32::try_from(number(digits)).unwrap_or(0),
         digits => i32::try_from(number(digits)).unwrap_or(i32::MAX),
     };
-    print!(rt; "{}", word(&RATINGS, rating_number(version, tenths)))
+    print!(rt; "{}", word(&SEVERITIES, severity(version, tenths)))
 }
 
 /// The word of a number, or `-`.
@@ -103,20 +196,20 @@ fn word(words: &[&'static str], number: i32) -> &'static str {
 }
 
 /// Prints the metrics that are written into an array that just fits.
-fn print_metrics(rt: &HostRuntime, cvss: &Cvss) -> io::Result<()> {
-    let mut metrics = [CvssMetric {
+fn print_metrics(rt: &HostRuntime, text: &[u8], flags: u32) -> io::Result<()> {
+    let mut own = [CvssMetric {
         name: [LEFT; 8],
         value: [LEFT; 8],
     }; MOST_METRICS];
-    let count = put_metrics(cvss, &mut []);
+    let count = metrics(text, flags, &mut []);
     if count == 0 || count > MOST_METRICS {
         return print!(rt; " {count} metrics");
     }
-    if put_metrics(cvss, &mut metrics[..count - 1]) != count || !metrics.iter().all(is_left) {
+    if metrics(text, flags, &mut own[..count - 1]) != count || !own.iter().all(is_left) {
         return print!(rt; " an array that is too short was not left as it was");
     }
-    put_metrics(cvss, &mut metrics[..count]);
-    for metric in &metrics[..count] {
+    metrics(text, flags, &mut own[..count]);
+    for metric in &own[..count] {
         print!(rt; " {}={}", text_of(&metric.name), text_of(&metric.value))?;
     }
     Ok(())
@@ -124,10 +217,4 @@ fn print_metrics(rt: &HostRuntime, cvss: &Cvss) -> io::Result<()> {
 
 fn is_left(metric: &CvssMetric) -> bool {
     metric.name == [LEFT; 8] && metric.value == [LEFT; 8]
-}
-
-/// The text before the bytes 0 that fill a field.
-fn text_of(field: &[u8; 8]) -> &str {
-    let (text, _) = cut(field, 0);
-    str::from_utf8(text).unwrap_or("not UTF-8")
 }

@@ -1,18 +1,19 @@
-//! Answers to many texts, and vectors in any text.
+//! The score lines of many texts, and vectors in any text.
 
 use crate::buffers::{LEFT, print_bytes};
 use crate::cut;
-use cvss_ffi::lines::put_answers;
-use cvss_ffi::mentioned::put_mention;
+use cvss_ffi::CvssMatch;
+use cvss_ffi::matches::find;
+use cvss_ffi::score_lines::score_lines;
 use std::io;
 
-/// The answers to lines in a buffer of the size before the first blank.
-pub(crate) fn answers(rt: &HostRuntime, asked: &[u8]) -> io::Result<()> {
+/// The score lines of lines in a buffer of the size before the first blank.
+pub(crate) fn print_score_lines(rt: &HostRuntime, asked: &[u8], flags: u32) -> io::Result<()> {
     let (size, lines) = cut(asked, b' ');
     let mut texts = Vec::from_slice(rt.alloc(), lines)?;
     replace(&mut texts, b'|', b'\n');
     let mut buffer = vec![in rt.alloc(); LEFT; number(size)]?;
-    let (written, read) = put_answers(&texts, &mut buffer);
+    let (written, read) = score_lines(&texts, flags, &mut buffer);
     replace(&mut buffer, b'\n', b'|');
     print!(rt; "{written} {read} ")?;
     print_bytes(rt, &buffer)
@@ -34,13 +35,38 @@ pub(crate) fn number(digits: &[u8]) -> usize {
     }
 }
 
-/// The first vector in a text from the offset before the first blank on.
-pub(crate) fn find(rt: &HostRuntime, asked: &[u8]) -> io::Result<()> {
-    let (from, text) = cut(asked, b' ');
-    let (mut start, mut length) = (usize::MAX, usize::MAX);
-    match put_mention(text, number(from), &mut start, &mut length) {
-        true => print!(rt; "{start} {length}"),
-        false if start == usize::MAX && length == usize::MAX => print!(rt; "-"),
-        false => print!(rt; "the numbers were not left as they were"),
+/// Prints the offset and the length of each match that a loop of calls finds in a text.
+pub(crate) fn print_matches(rt: &HostRuntime, text: &[u8]) -> io::Result<()> {
+    let mut small = new_match(31);
+    if find(text, &mut small) || small.next != 0 || small.offset != 99 || small.length != 99 {
+        return print!(rt; "a match that is too short was not left as it was");
+    }
+    let mut found = new_match(33);
+    for count in 0..=text.len() {
+        let (next, offset, length) = (found.next, found.offset, found.length);
+        if !find(text, &mut found) {
+            if count == 0 {
+                print!(rt; "-")?;
+            }
+            if (found.next, found.offset, found.length) != (next, offset, length) {
+                print!(rt; " the last match was not left as it was")?;
+            }
+            return Ok(());
+        }
+        let comma = if count == 0 { "" } else { ", " };
+        print!(rt; "{comma}{} {}", found.offset, found.length)?;
+        if found.size != 33 || found.next <= next {
+            return print!(rt; " another size, or no way on");
+        }
+    }
+    print!(rt; " and no end")
+}
+
+fn new_match(size: u32) -> CvssMatch {
+    CvssMatch {
+        size,
+        next: 0,
+        offset: 99,
+        length: 99,
     }
 }

@@ -4,24 +4,28 @@
 //! A line is a mark, a blank, and what the mark is about:
 //!
 //! - `facts TEXT`: of a vector its canonical text, its version, its nomenclature, whether all base
-//!   metrics are present, its scores with their ratings, and its metrics; of a rejected text the
-//!   number of the kind of error, the metric that it names, and the reason.
-//! - `canonical TEXT`, `without TEXT`: the canonical text, with all metrics and without the
-//!   undefined ones.
-//! - `record TEXT`, `explanation TEXT`: JSON objects, of the vector and of how it is scored.
-//! - `answer TEXT`: the line that `cvss_tool` prints.
-//! - `answers SIZE TEXTS`: in a buffer of so many bytes, full of `#`, the answers to lines: their
-//!   length, the number of bytes that were read, and the buffer. A `|` ends a line.
-//! - `find FROM TEXT`: the offset and the length of the first vector found from an offset on.
-//! - `override TEXT OVERRIDES`: the vector with these environmental metrics, and why it has none.
+//!   metrics are present, its scores with their severities (overall, base, temporal and
+//!   environmental), its scores by nomenclature, and its metrics; of a rejected text the number of the
+//!   kind of error, the metric that it names, and the message.
+//! - `canonical TEXT`, `without TEXT`: the canonical text, with all metrics and without those that are
+//!   not defined.
+//! - `record TEXT`, `account TEXT`: JSON objects, of the vector and of how it is scored.
+//! - `score_line TEXT`: the line that `cvss score` prints.
+//! - `score_lines SIZE TEXTS`: in a buffer of so many bytes, full of `#`, the score lines of lines:
+//!   their length, the number of bytes that were read, and the buffer. A `|` ends a line.
+//! - `find TEXT`: the offset and the length of each match.
 //! - `with TEXT METRICS`: the vector with these metrics set, and why they are not.
 //! - `build VERSION METRICS`: the vector of a version that these metrics make, and why they make none.
 //! - `groups TEXT`: of a vector of v4.0 its scores by nomenclature, CVSS-B, BE, BT and BTE.
-//! - `rating VERSION TENTHS`: the rating of so many tenths by the bounds of a version.
-//! - `value TEXT`: the part of a rejected text that the reason quotes.
+//! - `rating VERSION TENTHS`: the severity of so many tenths by the bounds of a version.
+//! - `value TEXT`: the part of a rejected text that the message quotes.
+//! - `error MARK ..`: all that the error of a call says: the kind, the index, the metric, where the
+//!   quoted part is in the message and its length, and the part.
+//! - `complete MARK ..`: the same as without `complete`, but a vector of v3 may not lack base metrics.
 //!
 //! `-` is an empty answer. Each call that writes into a buffer is made with one that is a byte too
-//! short, which must stay as it was, and with one that just fits.
+//! short, which must stay as it was, and with one that just fits; each that fills in a struct with one
+//! that is too short, and with one that is longer than this release has it.
 #![tactic(auto)]
 
 mod buffers;
@@ -29,14 +33,22 @@ mod facts;
 mod lists;
 mod texts;
 
+use crate::buffers::Form;
 use std::io;
 use std::io::{BufRead, BufReader};
+
+/// The flags that allow incomplete vectors, and those that do not: other bits are ignored.
+const ALLOW_INCOMPLETE: u32 = 0x8000_0001;
+
+const COMPLETE: u32 = 0xffff_fffe;
 
 fn main(rt: HostRuntime) -> io::Result<()> {
     for line in BufReader::new(rt.alloc(), rt.reader())?.split(rt.alloc(), b'\n') {
         let line = line?;
-        let (mark, asked) = cut(&line, b' ');
-        answer(&rt, mark, asked)?;
+        match cut(&line, b' ') {
+            (b"complete", asked) => answer(&rt, asked, COMPLETE)?,
+            _ => answer(&rt, &line, ALLOW_INCOMPLETE)?,
+        }
         println!(rt)?;
     }
     Ok(())
@@ -50,23 +62,24 @@ pub(crate) fn cut(bytes: &[u8], at: u8) -> (&[u8], &[u8]) {
     }
 }
 
-/// What a mark asks for.
-fn answer(rt: &HostRuntime, mark: &[u8], asked: &[u8]) -> io::Result<()> {
+/// What a line asks for.
+fn answer(rt: &HostRuntime, line: &[u8], flags: u32) -> io::Result<()> {
+    let (mark, asked) = cut(line, b' ');
     match mark {
-        b"facts" => facts::facts(rt, asked),
-        b"canonical" => texts::canonical(rt, asked),
-        b"without" => texts::without_undefined(rt, asked),
-        b"record" => texts::record(rt, asked),
-        b"account" => texts::explanation(rt, asked),
-        b"answer" => texts::answer(rt, asked),
-        b"answers" => lists::answers(rt, asked),
-        b"find" => lists::find(rt, asked),
-        b"override" => texts::print_overridden(rt, asked),
-        b"with" => texts::print_with(rt, asked),
-        b"build" => texts::print_built(rt, asked),
-        b"groups" => facts::print_scores_by(rt, asked),
-        b"rating" => facts::rating(rt, asked),
-        b"value" => texts::quoted(rt, asked),
+        b"facts" => facts::facts(rt, asked, flags),
+        b"canonical" => facts::canonical(rt, asked, flags, Form::Result),
+        b"without" => texts::print_without(rt, asked, flags, Form::Result),
+        b"record" => texts::print_record(rt, asked, flags, Form::Result),
+        b"account" => texts::print_explanation(rt, asked, flags, Form::Result),
+        b"score_line" => texts::print_score_line(rt, asked, flags),
+        b"score_lines" => lists::print_score_lines(rt, asked, flags),
+        b"find" => lists::print_matches(rt, asked),
+        b"with" => texts::print_with(rt, asked, flags, Form::Made),
+        b"build" => texts::print_made(rt, asked, flags, Form::Made),
+        b"groups" => facts::print_scores_by(rt, asked, flags),
+        b"rating" => facts::print_severity(rt, asked),
+        b"value" => facts::canonical(rt, asked, flags, Form::Quoted),
+        b"error" => texts::print_error(rt, asked, flags),
         _ => print!(rt; "no such mark"),
     }
 }

@@ -3,7 +3,7 @@
 use crate::shown::print_error;
 use crate::{v2, v3, v4};
 use cvss_base::Severity;
-use cvss_vector::{Bounds, Cvss, MetricType};
+use cvss_vector::{Bounds, Cvss, MetricType, Scoring};
 use std::{fmt, io};
 
 const OTHERWISE: &str = "read_bytes says otherwise";
@@ -103,7 +103,7 @@ fn version_of(kind: MetricType) -> &'static str {
 /// What is published of a canonical text that is seen to be one: the text, the tenths of the score, and
 /// how it is rated.
 pub(crate) fn seen(rt: &HostRuntime, text: &str) -> io::Result<()> {
-    match Cvss::published_of_canonical(text.as_bytes()) {
+    match Cvss::published_of_canonical(text.as_bytes(), Scoring::Published) {
         Some(published) => {
             println!(rt;
                 "{text} {} {}",

@@ -12,7 +12,7 @@ use Rattle.cvss_explain.specs.V3 as v3
 use Rattle.cvss_explain.specs.V4.{class_text, groups_text}
 use Rattle.cvss_explain.specs.declared.parts.Value.{Value}
 use Rattle.cvss_explain.specs.declared.parts.Value.TheVariants.{Scalar, Class, Line, Severity, Text, Version, BaseV2, TemporalV2, EnvironmentalV2, WeightsV2, BaseV3, TemporalV3, EnvironmentalV3, WeightsV3, Letters, Groups}
-use Rattle.cvss_json_record.specs.Versions.{version_of}
+use Rattle.cvss_vector.specs.Evaluation.{version_of, version_text}
 use Rattle.cvss_json_write.specs.Json.{Member, object_text, string_text}
 use Rattle.cvss_json_write.specs.Scalars.{member_view, scalar_room, scalar_text}
 use Rattle.cvss_json_write.specs.declared.member.Scalar as scalar
@@ -29,7 +29,7 @@ value_text cvss (Class class) = Some (string_text (class_text class))
 value_text cvss (Line line) = option_map decimal line
 value_text cvss (Severity tenths) = Some (string_text (severity_text (rating_by cvss (score_of_tenths tenths))))
 value_text cvss Text = Some (string_text (text_of cvss))
-value_text cvss Version = Some (string_text (version_of cvss))
+value_text cvss Version = Some (string_text (version_text (version_of cvss)))
 value_text cvss (BaseV2 numbers) = Some (object_text (v2.base_members numbers))
 value_text cvss (TemporalV2 numbers) = Some (object_text (v2.temporal_members numbers))
 value_text cvss (EnvironmentalV2 numbers) = Some (object_text (v2.environmental_members numbers))

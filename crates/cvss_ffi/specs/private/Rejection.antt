@@ -1,23 +1,20 @@
--- Why there is no new vector.
-use Rattle.std.specs.Prelude.{ℕ, List, ◌++◌, Result, Ok, Err}
-use Rattle.cvss_vector.specs.Reasons.{error_message}
+-- Why there is no vector, as it is told.
+use Rattle.std.specs.Prelude.{List, ℕ, None, Result, Ok, Err}
+use Rattle.cvss_vector.specs.Answers.{text_of}
+use Rattle.cvss_vector.specs.Reasons.{said_of}
 use Rattle.cvss_vector.specs.Refusals.{refusal_of}
-use Rattle.cvss_ffi.specs.Overriding.{no_v4_text, objection_text, override_words}
-use Rattle.cvss_ffi.specs.Setting.{no_version_text, set_reason_text}
 use Rattle.cvss_vector.specs.declared.vector.Cvss.{Cvss}
-use Rattle.cvss_vector.specs.v4.private.OverridingSteps.{objection_of}
+use Rattle.cvss_ffi.specs.Errors.{Told, no_version, not_utf8, told_of}
 use Rattle.cvss_ffi.specs.declared.rejection.Rejection.{Rejection}
-use Rattle.cvss_ffi.specs.declared.rejection.Rejection.TheVariants.{Text, NoVersion, OtherVersion, Metrics, Override}
+use Rattle.cvss_ffi.specs.declared.rejection.Rejection.TheVariants.{Text, NoVersion, Metrics}
 
--- what a rejection says
-abbrev pub rejection_text : Rejection → List ℕ
-rejection_text (Text error) = error_message error
-rejection_text NoVersion = no_version_text
-rejection_text OtherVersion = no_v4_text
-rejection_text (Metrics index reason) = set_reason_text index (refusal_of reason)
-rejection_text (Override index fault) = override_words index ++ objection_text (objection_of fault)
+-- what is told of a rejection
+abbrev pub told : Rejection → Told
+told (Text error) = said_of (told_of None) not_utf8 error
+told NoVersion = no_version
+told (Metrics index reason) = told_of index (refusal_of reason)
 
--- the new vector, or why there is none
-abbrev pub answered : Result Cvss Rejection → Result Cvss (List ℕ)
-answered (Ok new) = Ok new
-answered (Err rejection) = Err (rejection_text rejection)
+-- the canonical text of the new vector, or why there is none
+abbrev pub answered : Result Cvss Rejection → Result (List ℕ) Told
+answered (Ok new) = Ok (text_of new)
+answered (Err rejection) = Err (told rejection)

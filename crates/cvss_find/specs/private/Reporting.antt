@@ -12,6 +12,7 @@ abbrev pub asked_of : Line → Asked
 asked_of line = record {
   form = line.form;
   prefix = line.prefix.now;
+  scoring = line.scoring;
   allow_incomplete = line.allow_incomplete;
   number = line.number;
   line = line.bytes.now;
@@ -37,7 +38,7 @@ closing (Annotated all) = 10 ∷ []
 
 -- the answer to what is asked is written after the earlier ones
 abbrev pub AnswersLine : Asked → List ℕ → List ℕ → Bool → Type 0
-AnswersLine asked = WritesAnswer (find_rule asked.form asked.allow_incomplete asked.prefix) asked.number asked.line
+AnswersLine asked = WritesAnswer (find_rule asked.form asked.scoring asked.allow_incomplete asked.prefix) asked.number asked.line
 
 -- what is reported of the mention is written after the earlier texts
 pub record WritesReported (asked : Asked) (mention : Placed) (old new : List ℕ) (accepted : Bool) : Type 0 where

@@ -4,11 +4,11 @@ ghost use Rattle.std.specs.Prelude.{◌≡◌, map};
 ghost use Rattle.cvss_json_record.specs.WordsV2.{entry_of};
 
 use crate::field::Field::{self, Score, Text, V2, Version};
-use crate::group::Group::{Base, Environmental, Temporal};
 use crate::names::NOT_DEFINED;
 use crate::names::rows::Row;
 use MetricType::*;
 use cvss_base::v2::MetricType;
+use cvss_vector::Group::{Base, Environmental, Temporal};
 
 /// The row of a value that is not defined.
 const ND: Row = ("ND", NOT_DEFINED);

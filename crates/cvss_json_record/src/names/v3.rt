@@ -3,11 +3,11 @@
 ghost use Rattle.std.specs.Prelude.{◌≡◌, map};
 ghost use Rattle.cvss_json_record.specs.WordsV3.{entry_of};
 
-use crate::field::Field::{self, Rating, Score, Text, V3, Version};
-use crate::group::Group::{Base, Environmental, Temporal};
+use crate::field::Field::{self, Score, Severity, Text, V3, Version};
 use crate::names::rows::{Row, X};
 use MetricType::*;
 use cvss_base::v3::MetricType;
+use cvss_vector::Group::{Base, Environmental, Temporal};
 
 /// The values of an impact.
 const IMPACTS: &[Row] = &[("N", "NONE"), ("L", "LOW"), ("H", "HIGH")];
@@ -59,8 +59,8 @@ pub fn entry(kind: MetricType) -> (&'static str, &'static [Row])
 /// The members that a record may have, in the order of their names.
 #[rattlefmt::skip]
 pub(crate) const FIELDS: &[Field] = &[
-    V3(AC), V3(AV), V3(A), V3(AR), Score(Base), Rating(Base), V3(C), V3(CR), Score(Environmental),
-    Rating(Environmental), V3(E), V3(I), V3(IR), V3(MAC), V3(MAV), V3(MA), V3(MC), V3(MI), V3(MPR),
-    V3(MS), V3(MUI), V3(PR), V3(RL), V3(RC), V3(S), Score(Temporal), Rating(Temporal), V3(UI),
-    Text, Version,
+    V3(AC), V3(AV), V3(A), V3(AR), Score(Base), Severity(Base), V3(C), V3(CR),
+    Score(Environmental), Severity(Environmental), V3(E), V3(I), V3(IR), V3(MAC), V3(MAV), V3(MA),
+    V3(MC), V3(MI), V3(MPR), V3(MS), V3(MUI), V3(PR), V3(RL), V3(RC), V3(S), Score(Temporal),
+    Severity(Temporal), V3(UI), Text, Version,
 ];

@@ -3,11 +3,11 @@
 ghost use Rattle.std.specs.Prelude.{◌≡◌, map};
 ghost use Rattle.cvss_json_record.specs.WordsV4.{entry_of};
 
-use crate::field::Field::{self, Rating, Score, Text, V4, Version};
-use crate::group::Group::Base;
+use crate::field::Field::{self, Score, Severity, Text, V4, Version};
 use crate::names::rows::{Row, X};
 use MetricType::*;
 use cvss_base::v4::MetricType;
+use cvss_vector::Group::Base;
 
 /// The values of an impact.
 const IMPACTS: &[Row] = &[("N", "NONE"), ("L", "LOW"), ("H", "HIGH")];
@@ -78,8 +78,8 @@ pub fn entry(kind: MetricType) -> (&'static str, &'static [Row])
 /// The members that a record may have, in the order of their names.
 #[rattlefmt::skip]
 pub(crate) const FIELDS: &[Field] = &[
-    V4(AU), V4(R), V4(S), V4(AC), V4(AT), V4(AV), V4(AR), Score(Base), Rating(Base), V4(CR), V4(E),
-    V4(IR), V4(MAC), V4(MAT), V4(MAV), V4(MPR), V4(MSA), V4(MSC), V4(MSI), V4(MUI), V4(MVA),
-    V4(MVC), V4(MVI), V4(PR), V4(U), V4(SA), V4(SC), V4(SI), V4(UI), V4(V), Text, Version, V4(VA),
-    V4(VC), V4(VI), V4(RE),
+    V4(AU), V4(R), V4(S), V4(AC), V4(AT), V4(AV), V4(AR), Score(Base), Severity(Base), V4(CR),
+    V4(E), V4(IR), V4(MAC), V4(MAT), V4(MAV), V4(MPR), V4(MSA), V4(MSC), V4(MSI), V4(MUI),
+    V4(MVA), V4(MVC), V4(MVI), V4(PR), V4(U), V4(SA), V4(SC), V4(SI), V4(UI), V4(V), Text, Version,
+    V4(VA), V4(VC), V4(VI), V4(RE),
 ];

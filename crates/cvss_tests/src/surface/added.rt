@@ -9,8 +9,9 @@ ghost use Rattle.cvss_vector.specs.v4.Vector.{v4 as of_v4};
 use super::{Reported, Value};
 use cvss::v4::{Nomenclature, OverrideError};
 use cvss::{
-    Bounds, BytesError, Cvss, Error, Message, MetricGroup, MetricType, OneDecimal, Published,
-    ReadError, Refusal, Segment, SetError, Severity, Version, tenths, v2, v3, v4,
+    Bounds, BytesError, Cvss, Error, Evaluation, Group, Message, MetricGroup, MetricType,
+    OneDecimal, Published, Rated, ReadError, Refusal, Scoring, Segment, SetError, Severity,
+    Version, tenths, v2, v3, v4,
 };
 use std::alloc::Global;
 use std::fmt;
@@ -22,6 +23,8 @@ impl Value for OneDecimal {}
 impl Value for Bounds {}
 
 impl Value for Published {}
+
+impl Value for Scoring {}
 
 impl Value for Version {}
 
@@ -38,6 +41,12 @@ impl Printed for v2::Score {}
 impl Printed for v3::Score {}
 
 trait Copied: Copy + Clone {}
+
+impl Copied for Evaluation {}
+
+impl Copied for Group {}
+
+impl Copied for Rated {}
 
 impl Copied for ReadError<'_> {}
 
@@ -76,18 +85,61 @@ fn read_v4(text: &[u8]) -> Option<v4::Vector> {
     v4::Vector::read_bytes(text)
 }
 
-fn published_of(text: &[u8]) -> Option<Published> {
-    Cvss::published_of_canonical(text)
+fn published_of(text: &[u8], scoring: Scoring) -> Option<Published> {
+    Cvss::published_of_canonical(text, scoring)
 }
 
-fn published(cvss: &Cvss) -> (u8, &'static str, Published)
+fn published(cvss: &Cvss, scoring: Scoring) -> (u8, &'static str, Published)
     requires { HasScore cvss.now }
 {
     (
         Cvss::tenths(cvss),
         Cvss::score_text(cvss),
-        Cvss::published(cvss),
+        Cvss::published(cvss, scoring),
     )
+}
+
+fn evaluated(cvss: &Cvss, scoring: Scoring) -> (Evaluation, [u8; 3])
+    requires { HasScore cvss.now }
+{
+    (
+        Evaluation::of(cvss),
+        [
+            Cvss::tenths_as(cvss, scoring),
+            Cvss::overall_tenths(cvss),
+            Cvss::base_tenths(cvss),
+        ],
+    )
+}
+
+fn scores_of(
+    evaluation: Evaluation,
+) -> (Version, [Rated; 2], [Option<Rated>; 2], Option<MetricType>) {
+    let Evaluation {
+        version,
+        overall,
+        base,
+        temporal,
+        environmental,
+        missing,
+    } = evaluation;
+    (version, [overall, base], [temporal, environmental], missing)
+}
+
+fn rated_as(rated: Rated) -> (u8, Severity) {
+    (rated.tenths, rated.severity)
+}
+
+fn version(cvss: &Cvss) -> (Version, &'static str) {
+    (Cvss::version(cvss), Version::as_str(Cvss::version(cvss)))
+}
+
+fn scorings() -> [Scoring; 3] {
+    [Scoring::Published, Scoring::Overall, Scoring::Base]
+}
+
+fn groups_of_scores() -> [Group; 3] {
+    [Group::Base, Group::Temporal, Group::Environmental]
 }
 
 fn rated(cvss: &Cvss, score: i128) -> (Bounds, Severity) {

@@ -1,3 +1,4 @@
+pub mod Alone
 pub mod OverridingSteps
 pub mod TableLaws
 pub mod VectorLaws

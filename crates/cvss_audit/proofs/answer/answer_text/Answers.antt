@@ -18,15 +18,15 @@ returns-then-is_passed_over-clause-streamed g c =
     Streams-waiting (input_view c.args.input) c.args.text.now _ _ (g.W.Write.contents c.args.writer.now) _ (Accepted [])
     (inl (record { blank = sym c.if-is_passed_over.ensures; is = refl })) refl (sym (append-nil c.args.answers.now.bytes.items))
 
-pub returns-in_err-refuse_text-clause-stopped : goal.returns-in_err-refuse_text-clause-stopped
-returns-in_err-refuse_text-clause-stopped g c =
+pub returns-in_err-reject_text-clause-stopped : goal.returns-in_err-reject_text-clause-stopped
+returns-in_err-reject_text-clause-stopped g c =
     reported_fault c.from_residual.result Memory _ c.from_residual.ensures.1
     (Stops-waiting (input_view c.args.input) c.args.text.now c.args.answers.now.bytes.items (g.W.Write.contents c.args.writer.now))
 
 pub returns-in_default-clause-streamed : goal.returns-in_default-clause-streamed
 unfolding IsAnswer
 returns-in_default-clause-streamed g c =
-    let written = c.in_ok-refuse_text.ensures in
+    let written = c.in_ok-reject_text.ensures in
     Streams-waiting (input_view c.args.input) c.args.text.now _ _ (g.W.Write.contents c.args.writer.now) _ (Refused (written.text ∷ []))
     (inr (inl (record {
       not_utf8 = c.in_default.ensures.cases.0;
@@ -34,9 +34,9 @@ returns-in_default-clause-streamed g c =
     })))
     refl (one_text _ _ _ written.written)
 
-pub returns-in_err-refuse_text-in-Err-2-clause-stopped : goal.returns-in_err-refuse_text-in-Err-2-clause-stopped
-returns-in_err-refuse_text-in-Err-2-clause-stopped g c =
-    reported_fault c.from_residual-in_err-refuse_text-in-Err-2.result Memory _ c.from_residual-in_err-refuse_text-in-Err-2.ensures.1
+pub returns-in_err-reject_text-in-Err-2-clause-stopped : goal.returns-in_err-reject_text-in-Err-2-clause-stopped
+returns-in_err-reject_text-in-Err-2-clause-stopped g c =
+    reported_fault c.from_residual-in_err-reject_text-in-Err-2.result Memory _ c.from_residual-in_err-reject_text-in-Err-2.ensures.1
     (Stops-waiting (input_view c.args.input) c.args.text.now c.args.answers.now.bytes.items (g.W.Write.contents c.args.writer.now))
 
 pub returns-in-Ok-from_str-clause-streamed : goal.returns-in-Ok-from_str-clause-streamed
@@ -54,11 +54,11 @@ returns-in-Ok-from_str-clause-stopped g c =
     MatchResult-weaker c.answer_document.result c.answer_document.ensures.stopped (λ _ u. u)
     (λ fault. Stops-document (input_view c.args.input) c.args.text.now _ _ _ fault (view c.in-Ok-from_str.document) reads)
 
-pub returns-in_ok-refuse_text-in-Err-2-clause-streamed : goal.returns-in_ok-refuse_text-in-Err-2-clause-streamed
+pub returns-in_ok-reject_text-in-Err-2-clause-streamed : goal.returns-in_ok-reject_text-in-Err-2-clause-streamed
 unfolding IsAnswer
-returns-in_ok-refuse_text-in-Err-2-clause-streamed g c =
+returns-in_ok-reject_text-in-Err-2-clause-streamed g c =
     let text = c.in-Ok.ensures.cases in
-    let written = c.in_ok-refuse_text-in-Err-2.ensures in
+    let written = c.in_ok-reject_text-in-Err-2.ensures in
     Streams-waiting (input_view c.args.input) c.args.text.now _ _ (g.W.Write.contents c.args.writer.now) _ (Refused (written.text ∷ []))
     (inr (inr (inl (record {
       utf8 = text.1;

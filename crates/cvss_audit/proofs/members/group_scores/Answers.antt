@@ -6,6 +6,6 @@ use Rattle.cvss_audit.proofs.members.group_scores.Goals as goal
 
 pub returns : goal.returns
 returns c =
-    view-Object c.put_score-2.new.members
-    ∙ ap object (rw (c.in_ok-put_score-2.ensures, c.in_ok-put_score.ensures, c.in_ok-put.ensures.ok, c.score_value.ensures)
+    view-Object c.put-2.new.map
+    ∙ ap object (rw (c.in_ok-put-2.ensures.ok, c.score_value-2.ensures, c.in_ok-put_score-2.ensures, c.in_ok-put_score.ensures, c.in_ok-put.ensures.ok, c.score_value.ensures)
     (rw c.new-members.ensures.empty (simp with_members-append)))

@@ -6,7 +6,7 @@ use Rattle.cvss_json_tree.specs.Objects.{Member, object_of, with_members}
 use Rattle.cvss_document.specs.Places.{place_view}
 use Rattle.serde_json.specs.Data.{Members, no_members, object}
 use Rattle.cvss_json_tree.specs.Trees.{members_view}
-use Rattle.cvss_audit.specs.Objects.{accepted_members, place_members, refusal_member}
+use Rattle.cvss_audit.specs.Objects.{accepted_members, place_members, error_member}
 use Rattle.cvss_audit.specs.Answers.{is_allowed, nothing_differs}
 use Rattle.cvss_audit.specs.Inputs.{input_view}
 use Rattle.cvss_audit.proofs.place.text_object.Goals as goal
@@ -36,8 +36,8 @@ returns-in-Ok c =
 
 pub returns : goal.returns
 returns c =
-    let refusal = refusal_member (error_text c.in-Err.error) ∷ [] in
-    let refused : members_view c.put_refusal.new.members.entries ≡ with_members refusal (members_view c.put_place.new.members.entries) = search rules in
+    let refusal = error_member (error_text c.in-Err.error) ∷ [] in
+    let refused : members_view c.put_error.new.members.entries ≡ with_members refusal (members_view c.put_place.new.members.entries) = search rules in
     inr (record {
       error = c.in-Err.error;
       first = c.in-Err.ensures.refused;

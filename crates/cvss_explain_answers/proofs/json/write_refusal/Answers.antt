@@ -17,7 +17,7 @@ returns c =
     let reported : view (String reason) ≡ string (string_bytes reason) = search the_lemmas in
     let members = c.put-2.new.map in
     let is : members_view members.entries
-    ≡ with_members (given_members line ++ (line_member c.args.number ∷ (codes "refused", string (string_bytes reason)) ∷ [])) no_members =
+    ≡ with_members (given_members line ++ (line_member c.args.number ∷ (codes "error", string (string_bytes reason)) ∷ [])) no_members =
     rw (c.in_ok-put-2.ensures.ok, reported, c.in_ok-put.ensures.ok, c.from.ensures, c.in_ok-put_given.ensures, c.new-members.ensures.empty)
     (simp with_members-append) in
     let object_text : IsTextOf (object (members_view members.entries)) c.deref.result.now =

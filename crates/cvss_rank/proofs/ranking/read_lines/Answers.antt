@@ -23,4 +23,4 @@ loop-index-preserved c =
     let ranking = c.add_line.new.ranking in
     let added = c.in_ok-add_line.ensures before (length-take-le index (texts_of lines) (omega (arith, within lines index below))) c.loop-index.invariant in
     rw (take_more (texts_of lines) index [] (within lines index below))
-    (subst (λ line. AreRead c.args.overrides.now c.args.allow_incomplete 0 (before ++ line ∷ []) ranking.rows.items ranking.bad.items) (sym (here lines index _ below)) added)
+    (subst (λ line. AreRead c.args.overrides.now c.args.scoring c.args.allow_incomplete 0 (before ++ line ∷ []) ranking.rows.items ranking.bad.items) (sym (here lines index _ below)) added)

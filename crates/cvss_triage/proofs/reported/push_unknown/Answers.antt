@@ -5,7 +5,7 @@ use Rattle.cvss_triage.proofs.reported.push_unknown.Goals as goal
 pub returns : goal.returns
 returns c =
     let old = c.args.text.now.bytes.items in
-    let words = codes "not a metric of any version: " in
+    let words = codes "no CVSS version has " in
     let metrics = c.args.metrics.now in
     on_ok_weaker c.push-3.result
     (λ is. is ∙ ap (λ bytes. bytes ++ 10 ∷ []) (c.in_ok-push-2.ensures ∙ ap (λ bytes. bytes ++ metrics) c.in_ok-push.ensures ∙ append_assoc old words metrics)

@@ -17,7 +17,7 @@ returns g c =
     let new = reported g.E.Write.contents c.report_bad.new.report in
     record {
       ranking = ranking;
-      is = subst (λ lines. IsRanking c.args.overrides.now asked.allow_incomplete lines ranking) lines c.in_ok-ranking.ensures;
+      is = subst (λ lines. IsRanking c.args.overrides.now asked.scoring asked.allow_incomplete lines ranking) lines c.in_ok-ranking.ensures;
       reported =
           subst (λ starts. ReportsEach (ReportsBadLine starts (many_files operands) operands) ranking.bad.items old new) (c.deref-3.ensures.value ∙ c.in_ok-lines.ensures.starts)
           (subst (λ many. ReportsEach (ReportsBadLine c.deref-3.result.now many operands) ranking.bad.items old new) c.are_many-many.ensures

@@ -20,3 +20,6 @@ returns g c =
     let is = IsPublishedBy-read c.args.allow_incomplete (rules.read.accepted c.in_default.field-0 vector c.in_default.ensures)
     (c.canonical-canonical.ensures ∙ sym (rules.text vector)) (rw c.join-2.ensures at c.published.ensures) (rw c.join.ensures at (sym c.missing_by.ensures ∙ c.in_default-missing_by.is)) in
     (c.canonical-canonical.result.now, c.published.result, is, c.in_ok-write_canonical.ensures)
+
+pub returns-in-Some : goal.returns-in-Some
+returns-in-Some g c = c.reject-in-Some.ensures c.args.scoring

@@ -1,13 +1,14 @@
 use Rattle.std.proofs.Common.{ap, refl, sym, ◌++◌, ◌∙◌}
 use Rattle.cvss_base.specs.Text.{pieces}
 use Rattle.cvss_text.proofs.InOrderLemmas.{IsReadLeft-whole, canonical_whole}
+use Rattle.cvss_vector.specs.Published.{IsPublished}
 use Rattle.cvss_vector.proofs.ReadLemmas.{IsPublishedBy-read}
 use Rattle.cvss_vector.proofs.publishing.published_whole.Goals as goal
 
-pub published-requires : goal.published-requires
-published-requires g c =
+pub tenths-requires : goal.tenths-requires
+tenths-requires g c =
     let vector = c.in_ok-vector.vector in
-    record { scored = rw c.join.ensures ((c.reads_by_its_rules.ensures.read.accepted tt vector (IsReadLeft-whole g.V.Components.version g.met.V.Components.version_laws vector c.args.components.now _ c.in_ok-vector.ensures.whole c.without_metrics-empty.result refl)).scored) }
+    rw c.join-cvss.ensures ((c.reads_by_its_rules.ensures.read.accepted tt vector (IsReadLeft-whole g.V.Components.version g.met.V.Components.version_laws vector c.args.components.now _ c.in_ok-vector.ensures.whole c.without_metrics-empty.result refl)).scored)
 
 pub returns : goal.returns
 returns g c = λ allow_incomplete.
@@ -19,6 +20,7 @@ returns g c = λ allow_incomplete.
     let vector = c.in_ok-vector.vector in
     let whole = c.in_ok-vector.ensures.whole in
     let cut = c.requires.cut ∙ ap (λ front. front ++ pieces components) (sym empty.ensures.front) in
+    let is : IsPublished g.T.Told.scoring c.join-cvss.result (record { tenths = c.tenths.result; bounds = c.bounds.result }) = record { scored = c.tenths.ensures.value; rated = c.bounds.ensures; to_ten = c.tenths.ensures.bound } in
     IsPublishedBy-read allow_incomplete (rules.read.accepted tt vector (IsReadLeft-whole version version_laws vector components _ whole empty.result refl))
-    (canonical_whole version version_laws vector components _ whole c.args.text.now cut ∙ sym (rules.text vector)) (rw c.join.ensures at c.published.ensures)
+    (canonical_whole version version_laws vector components _ whole c.args.text.now cut ∙ sym (rules.text vector)) (rw c.join-cvss.ensures at is)
     (rules.complete allow_incomplete vector c.in_ok-vector.ensures.base)

@@ -1,7 +1,7 @@
 //! The groups of metrics of a vector (v4.0 specification, section 1.3): which it has, the vector
 //! without some, and with another's environmental metrics in place of its own (section 4).
 
-ghost use Rattle.std.specs.Prelude.{◌≡◌, ◌≤◌, ◌^◌, ◌*ℤ◌, pos};
+ghost use Rattle.std.specs.Prelude.{◌≡◌, ◌≤◌, ◌^◌, ◌*ℤ◌, pos, IsTrue};
 ghost use Rattle.cvss_base.specs.Tenths.{IsInTenths};
 ghost use Rattle.cvss_base.specs.Version.{IsComplete};
 ghost use Rattle.cvss_base.specs.declared.group.MetricGroup.TheVariants.{Environmental, Threat};
@@ -11,19 +11,23 @@ ghost use Rattle.cvss_vector.specs.v4.Merging.{effective_of};
 ghost use Rattle.cvss_vector.specs.v4.Nomenclature.{has_group, nomenclature_of};
 ghost use Rattle.cvss_vector.specs.v4.Overriding.{IsOverridden};
 ghost use Rattle.cvss_vector.specs.v4.Parts.{IsPart, IsScoreBy, IsWithout};
+ghost use Rattle.cvss_vector.specs.v4.private.Alone.{IsBaseAlone};
 ghost use Rattle.cvss_vector.specs.v4.Vector.{v4};
 
 use crate::v4::vector::Vector;
 use cvss_score::v4::{Nomenclature, nomenclature_of_groups};
 
-/// The environmental metrics of a vector: whether it has any, the vector with none of them, and the
-/// vector with those of another in their place.
+/// The environmental metrics of a vector: whether it has any, whether it has neither any nor a threat
+/// metric, the vector with none of them, and the vector with those of another in their place.
 macro_rules! environmental {
     ($what:ident $($vector:ident)*) => {
         environmental!($what($($vector)*) cr ir ar mav mac mat mpr mui mvc mvi mva msc msi msa)
     };
     (any($vector:ident) $first:ident $($field:ident)*) => {
         $vector.$first.is_some() $(|| $vector.$field.is_some())*
+    };
+    (alone($vector:ident) $($field:ident)*) => {
+        matches!($vector, Vector { e: None, $($field: None,)* .. })
     };
     (none($vector:ident) $($field:ident)*) => {
         Vector { $($field: None,)* ..*$vector }
@@ -59,6 +63,29 @@ impl Vector {
         ensures range { result ≤ 100 }
     {
         self.part(nomenclature).tenths()
+    }
+
+    /// The same, where the tenths of the vector's own score are known: of a vector without threat and
+    /// environmental metrics they are those of each nomenclature.
+    pub fn tenths_given(&self, nomenclature: Nomenclature, own: u8) -> u8
+        requires complete { IsComplete v4 self.now }
+        requires own { IsInTenths (IsScore (effective_of self.now)) (pos own *ℤ pos (10 ^ 23)) }
+        requires range { own ≤ 100 }
+        ensures value { IsScoreBy nomenclature self.now (pos result *ℤ pos (10 ^ 23)) }
+        ensures range { result ≤ 100 }
+    {
+        if self.has_base_alone() {
+            own
+        } else {
+            self.tenths_by(nomenclature)
+        }
+    }
+
+    /// Whether the vector has no threat metric and no environmental one.
+    fn has_base_alone(&self) -> bool
+        ensures { IsTrue result → IsBaseAlone self.now }
+    {
+        environmental!(alone self)
     }
 
     /// The vector without its threat metric and its environmental metrics, as far as a score of this

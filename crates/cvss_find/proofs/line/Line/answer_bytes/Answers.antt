@@ -9,5 +9,5 @@ pub returns-else-has_percent : goal.returns-else-has_percent
 returns-else-has_percent c =
     let line = c.args.self in
     let call = c.answer_text-else-has_percent in
-    subst (λ bytes. IfOk call.result (WritesAnswer (answers_as line.form line.allow_incomplete) line.number bytes c.args.answers.now.bytes.items call.new.answers.bytes.items))
+    subst (λ bytes. IfOk call.result (WritesAnswer (answers_as line.form line.scoring line.allow_incomplete) line.number bytes c.args.answers.now.bytes.items call.new.answers.bytes.items))
     (sym (same_decoded c.args.bytes.now (cc (c.has_percent.ensures, c.if-has_percent.false)))) call.ensures

@@ -12,6 +12,6 @@ returns c =
     let asked = asked_of c.args.self in
     WritesReported-answer asked (as_placed c.args.mention) c.args.answers.now.bytes.items _ _ _ _
     c.in_ok-write_before.ensures
-    (subst (λ bytes. WritesAnswer (answers_as asked.form asked.allow_incomplete) asked.number (decoded bytes) c.write_before.new.answers.bytes.items c.answer_bytes.new.answers.bytes.items c.in_ok-accepted.accepted)
+    (subst (λ bytes. WritesAnswer (answers_as asked.form asked.scoring asked.allow_incomplete) asked.number (decoded bytes) c.write_before.new.answers.bytes.items c.answer_bytes.new.answers.bytes.items c.in_ok-accepted.accepted)
     c.answered_bytes.ensures c.in_ok-accepted.ensures)
     c.end_text.ensures

@@ -8,9 +8,9 @@ pub returns : goal.returns
 returns c =
     let line = c.args.self in
     let text = line.bytes.now in
-    subst (λ form. AnswersLine (record { form = form; prefix = line.prefix.now; allow_incomplete = line.allow_incomplete; number = line.number; line = text })
+    subst (λ form. AnswersLine (record { form = form; prefix = line.prefix.now; scoring = line.scoring; allow_incomplete = line.allow_incomplete; number = line.number; line = text })
     c.args.answers.now.bytes.items c.write_canonical.new.answers.bytes.items true)
     (sym c.requires.form)
-    (canonical_reported line.prefix.now line.allow_incomplete line.number text c.args.published c.args.answers.now.bytes.items _ _ _ c.requires.published
+    (canonical_reported line.prefix.now line.scoring line.allow_incomplete line.number text c.args.published c.args.answers.now.bytes.items _ _ _ c.requires.published
     c.in_ok-write_prefix.ensures c.in_ok-write_first_place.ensures
-    (complete_written line.allow_incomplete line.number text c.args.published _ _ c.requires.published c.in_ok-write_canonical.ensures))
+    (complete_written line.scoring line.allow_incomplete line.number text c.args.published _ _ c.requires.published c.in_ok-write_canonical.ensures))

@@ -3,8 +3,8 @@ use Rattle.std.proofs.lemmas.List.{take_rest}
 use Rattle.cvss_scan.proofs.PassLemmas.{passes_no_slash}
 use Rattle.cvss_scan.proofs.mentions.Mentions.pass_no_slash.Goals as goal
 
-pub returns-in-Some : goal.returns-in-Some
-returns-in-Some c =
+pub returns-in-Some-clause-passes : goal.returns-in-Some-clause-passes
+returns-in-Some-clause-passes c =
     let text = c.args.self.now.text.now in
     let place = c.args.self.now.place in
     let count = c.no_slash.ensures in

@@ -1,9 +1,0 @@
-use Rattle.std.proofs.Common.{length}
-use Rattle.cvss_ffi.specs.Lines.{HasAnswered}
-use Rattle.cvss_ffi.proofs.lines.put_answers.Given as goal
-
-abbrev pub invariant-loop-line : goal.invariant-loop-line
-invariant-loop-line l = HasAnswered l.fn.texts l.rest l.fn.buffer l.buffer l.written
-
-abbrev pub decreases-loop-line : goal.decreases-loop-line
-decreases-loop-line l = length l.rest

@@ -1,0 +1,53 @@
+use Rattle.std.proofs.Common.{◌∙◌, None, Some, codes, subst, sym}
+use Rattle.cvss_program.specs.Reports.{Reports, reported}
+use Rattle.cvss_subcommands.specs.UsageErrors.{line_about, usage_report}
+use Rattle.cvss_subcommands.specs.declared.help.TheConstants.{USAGE}
+use Rattle.cvss_subcommands.proofs.usage_error.report_usage.Goals as goal
+
+pub returns-in-UnknownCommand : goal.returns-in-UnknownCommand
+returns-in-UnknownCommand g c =
+    let old = reported g.E.Write.contents c.args.report.now in
+    let new = reported g.E.Write.contents c.report_about.new.report in
+    subst (λ error. Reports old new (usage_report USAGE.now error c.args.arguments.now)) (sym c.in-UnknownCommand.is)
+    (subst (λ word. Reports old new (line_about (codes "cvss: unknown command '") word (codes "'; see '") None)) c.word_at-word.ensures c.report_about.ensures)
+
+pub returns-in-UnknownOption : goal.returns-in-UnknownOption
+returns-in-UnknownOption g c =
+    let old = reported g.E.Write.contents c.args.report.now in
+    let new = reported g.E.Write.contents c.report_about-in-UnknownOption.new.report in
+    subst (λ error. Reports old new (usage_report USAGE.now error c.args.arguments.now)) (sym c.in-UnknownOption.is)
+    (subst (λ word. Reports old new (line_about (codes "cvss: unknown option '") word (codes "'; see '") c.in-UnknownOption.topic)) c.word_at-word-in-UnknownOption.ensures c.report_about-in-UnknownOption.ensures)
+
+pub returns-in-Unexpected : goal.returns-in-Unexpected
+returns-in-Unexpected g c =
+    let old = reported g.E.Write.contents c.args.report.now in
+    let new = reported g.E.Write.contents c.report_about-in-Unexpected.new.report in
+    subst (λ error. Reports old new (usage_report USAGE.now error c.args.arguments.now)) (sym c.in-Unexpected.is)
+    (subst (λ word. Reports old new (line_about (codes "cvss: unexpected argument '") word (codes "'; see '") None)) c.word_at-word-in-Unexpected.ensures c.report_about-in-Unexpected.ensures)
+
+pub returns-in-NoValue : goal.returns-in-NoValue
+returns-in-NoValue g c =
+    let old = reported g.E.Write.contents c.args.report.now in
+    let new = reported g.E.Write.contents c.report_about-in-NoValue.new.report in
+    subst (λ error. Reports old new (usage_report USAGE.now error c.args.arguments.now)) (sym c.in-NoValue.is)
+    (subst (λ word. Reports old new (line_about (codes "cvss: option '") word (codes "' needs a value; see '") (Some c.in-NoValue.subcommand))) c.word_at-word-in-NoValue.ensures c.report_about-in-NoValue.ensures)
+
+pub returns-in-NoMetric : goal.returns-in-NoMetric
+returns-in-NoMetric g c =
+    let old = reported g.E.Write.contents c.args.report.now in
+    let new = reported g.E.Write.contents c.write-in-NoMetric.new.self in
+    subst (λ error. Reports old new (usage_report USAGE.now error c.args.arguments.now)) (sym c.in-NoMetric.is) c.write-in-NoMetric.ensures
+
+pub returns-in-NotUtf8 : goal.returns-in-NotUtf8
+returns-in-NotUtf8 g c =
+    let old = reported g.E.Write.contents c.args.report.now in
+    let new = reported g.E.Write.contents c.write-in-NotUtf8.new.self in
+    subst (λ error. Reports old new (usage_report USAGE.now error c.args.arguments.now)) (sym c.in-NotUtf8.is) c.write-in-NotUtf8.ensures
+
+pub returns-in-AllScores : goal.returns-in-AllScores
+returns-in-AllScores g c =
+    let old = reported g.E.Write.contents c.args.report.now in
+    let new = reported g.E.Write.contents c.report_about-in-AllScores.new.report in
+    subst (λ error. Reports old new (usage_report USAGE.now error c.args.arguments.now)) (sym c.in-AllScores.is)
+    (subst (λ word. Reports old new (line_about (codes "cvss: --base does not go with '") word (codes "', which prints all scores; see '") (Some c.in-AllScores.subcommand)))
+    (c.as_bytes-word.ensures.value ∙ c.name.ensures) c.report_about-in-AllScores.ensures)
