@@ -118,7 +118,7 @@ def try_go():
     path = ROOT / "bindings/go"
     own = re.findall(r"^module (.*)$", (path / "go.mod").read_text(), re.M)[0]
     assert f"-replace={own}=" in PAGE, f"the page names no module {own}"
-    (module / "go.mod").write_text(f"module example\n\ngo 1.19\n\nrequire {own} v0.0.0\n\nreplace {own} => {path}\n")
+    (module / "go.mod").write_text(f"module example\n\ngo 1.19\n\nrequire {own} v2.0.0\n\nreplace {own} => {path}\n")
     for block in (blocks(FROM["GO"], "go")[0], blocks(PAGE, "go")[0]):
         body = f'package main\n\nimport (\n"errors"\n"fmt"\n\n"{own}"\n)\n\nfunc main() {{\n{block}}}\n'
         (module / "main.go").write_text(body)
@@ -141,7 +141,7 @@ def try_javascript():
 
 
 def write_list():
-    """The list `vectors` of the recipes: more than two blocks of four million bytes, and its answers."""
+    """The list `vectors` of the recipes: more than two blocks of four million bytes."""
     stored = (ROOT / "crates/test_vectors/stdin").read_bytes().splitlines()
     million = 1_000_000 * b"x"
     pieces = []
@@ -149,25 +149,30 @@ def write_list():
         pieces += [*stored, million, *EDGES]
     # the last line is ended by nothing
     (FOLDER / "vectors").write_bytes(b"\n".join(pieces) + b"\nAV:N")
-    program = ROOT / "crates/cvss_tool/out/cvss_tool"
-    command = program if program.exists() else OUT / "lines"
+
+
+def printed_for_list(*command):
+    """What a program prints for the list."""
     with open(FOLDER / "vectors", "rb") as lines:
-        done = subprocess.run([command], stdin=lines, stdout=subprocess.PIPE)
-    assert done.returncode in (0, 1), done.returncode
+        done = subprocess.run(command, stdin=lines, stdout=subprocess.PIPE)
+    assert done.returncode in (0, 1), f"status {done.returncode}: {command}"
     return done.stdout
 
 
-def try_dask(answers):
+def try_dask():
+    """The dask bag prints what `cvss score` does, or the program over the C library where that is not built."""
     python = python_with("dask.bag", "the example of dask")
     if python is None:
         return
     (FOLDER / "recipe.py").write_text(block_with("from dask", "python"))
-    told = run([python, "recipe.py"], env=python_environment())
-    assert told == answers, "the answers of the dask bag are others than the program's"
-    print("dask: the answers are those of the program alone")
+    command = ROOT / "crates/cvss_command/out/cvss_command"
+    wanted = printed_for_list(command, "score") if command.exists() else printed_for_list(OUT / "lines")
+    printed = run([python, "recipe.py"], env=python_environment())
+    assert printed == wanted, "the lines of the dask bag are not those of the program"
+    print("dask: the lines are those of the program alone")
 
 
-def try_parallel(answers):
+def try_parallel():
     program = ROOT / "crates/cvss_tool/out"
     if not (program / "cvss_tool").exists():
         skip("the example of GNU parallel", "cvss_tool is not built")
@@ -178,6 +183,7 @@ def try_parallel(answers):
     assert recipe.count("cvss_tool < vectors > answers") == 1, recipe
     environment = {**os.environ, "PATH": f"{program}:{os.environ['PATH']}"}
     done = subprocess.run(recipe, shell=True, cwd=FOLDER, env=environment)
+    answers = printed_for_list(program / "cvss_tool")
     assert (FOLDER / "answers").read_bytes() == answers, "the answers of GNU parallel are others than the program's"
     count = recipe.replace("cvss_tool < vectors > answers", "'cat > /dev/null; echo' < vectors")
     number = len(run(count, shell=True).splitlines())
@@ -267,7 +273,7 @@ def try_job(environment):
         done = subprocess.run(["bash", "-c", recipe], cwd=FOLDER, env=environment, stdout=subprocess.PIPE)
         assert done.returncode == status, f"status {done.returncode}, and not {status}, over {score}: {recipe}"
         if wanted is None:
-            assert b'"refused":' in done.stdout, f"{done.stdout} tells no refusal: {recipe}"
+            assert b'"error":' in done.stdout, f"{done.stdout} has no error: {recipe}"
         else:
             check(done.stdout, wanted, recipe)
 
@@ -333,12 +339,41 @@ def check_names():
     assert names and not missing, f"docs/RUST.md has no row for {missing}"
     for page, sources, others in (
         ("RUST", "rust/src/*.rs", {"serde", "format", "N", "E", "A"}),
-        ("PYTHON", "python/cvss_proved/**/*.py", {"Critical", "python3", "f", "m", "calculator"}),
         ("GO", "go/*.go", {"8", "9"}),
     ):
         text = "".join(path.read_text() for path in (ROOT / "bindings").glob(sources))
         unknown = [name for name in words_of(FROM[page], 2) - others if not re.search(rf"\b{name}\b", text)]
         assert not unknown, f"docs/{page}.md: there is no {unknown}"
+
+
+# What the code in the tables of Python's page is about, and how it is run.
+PYTHON_ROWS = """
+import sys
+from decimal import Decimal
+from cvss_proved import *
+vector = Vector("CVSS:3.1/AV:N/AC:L/PR:N/UI:N/S:U/C:H/I:H/A:H/E:U/RL:X")
+v4 = Vector("CVSS:4.0/AV:N/AC:L/AT:N/PR:N/UI:N/VC:L/VI:H/VA:N/SC:N/SI:N/SA:N/E:P")
+text, texts, vectors, other, chosen = vector.text, [vector.text], [v4, vector], v4, vector.metrics
+try:
+    Vector("")
+except CvssError as rejected:
+    error = rejected
+for code in sys.argv[1:]:
+    try:
+        eval(code)
+    except Exception as failed:
+        sys.exit(f"{code}: {failed!r}")
+"""
+# What is no code there.
+PYTHON_WORDS = {"X", "ND", "high", "severity", "libcvss.so.2", "cvss-calculator", "--allow-incomplete"}
+
+
+def check_python_rows():
+    """All code in the last column of the tables for those who come to Python's package runs."""
+    cells = [row.split("|")[2] for row in FROM["PYTHON"].splitlines() if row.startswith("| ")]
+    code = [code for cell in cells for code in re.findall(r"`(.*?)`", cell) if code not in PYTHON_WORDS]
+    assert len(code) > 40, f"the tables have {len(code)} pieces of code"
+    run([sys.executable, "-c", PYTHON_ROWS, *code], env=python_environment())
 
 
 def first_column(heading, page=PAGE):
@@ -362,13 +397,13 @@ def check_project():
 
 
 def check_properties():
-    """What the pages call properties of Python's Vector are."""
-    listed = re.findall(r"^- `Vector` has the properties (.*?) \(a dict\)", PAGE, re.M)
+    """The properties that the page of Python lists are those of `Vector`."""
+    listed = re.findall(r"^`Vector` has the properties (.*?) \(a dict\)", PAGE, re.M)
     assert listed, "the page names no properties"
-    names = [*re.findall(r"the property `(\w+)`", FROM["PYTHON"]), *re.findall(r"`(\w+)`", listed[0])]
-    asked = f"from cvss_proved import Vector as V; print({{n for n in {names} if not isinstance(vars(V)[n], property)}})"
-    wrong = run([sys.executable, "-c", asked], env=python_environment()).decode().strip()
-    assert wrong == "set()", f"these are no properties: {wrong}"
+    names = set(re.findall(r"`(\w+)`", listed[0]))
+    asked = "from cvss_proved import Vector as V; print(*(n for n in vars(V) if isinstance(vars(V)[n], property) and n[0] != '_'))"
+    own = set(run([sys.executable, "-c", asked], env=python_environment()).decode().split())
+    assert names == own, f"the page names {names - own}, which are no properties, and does not name {own - names}"
 
 
 def main():
@@ -384,6 +419,7 @@ def main():
         try_base_scores(environment)
         try_nulls(environment)
     try_python()
+    check_python_rows()
     check_properties()
     if has("cc", "the example of C"):
         try_c()
@@ -394,9 +430,9 @@ def main():
         try_go()
     if has("node", "the example of JavaScript"):
         try_javascript()
-    answers = write_list()
-    try_dask(answers)
-    try_parallel(answers)
+    write_list()
+    try_dask()
+    try_parallel()
     print("Documents: the examples print what they say")
 
 

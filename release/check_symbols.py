@@ -50,7 +50,7 @@ def compiled_in(path, processor, folder):
         tags = [tag for file in folder.glob("*/WHEEL") for tag in re.findall(r"(?m)^Tag: (.*)$", file.read_text())]
         assert tags == [f"py3-none-manylinux2014_{processor}"], f"{path.name}: its tags are {tags}"
         libraries = [file.relative_to(folder).as_posix() for file in folder.rglob("*.so*")]
-        assert libraries == ["cvss_proved/libcvss.so.1"], f"{path.name}: its libraries are {libraries}"
+        assert libraries == ["cvss_proved/libcvss.so.2"], f"{path.name}: its libraries are {libraries}"
         return [(folder / libraries[0], NEWEST["lib"])]
     with tarfile.open(path) as archive:
         archive.extractall(folder)

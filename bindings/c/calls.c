@@ -1,6 +1,6 @@
 /*
- * Sets metrics in vectors, builds vectors from metrics and scores vectors by nomenclature, as each row of standard input
- * asks. bindings/sql/expected.py writes such rows with the expected answers. Exits with 0 if all answers are these.
+ * Sets metrics in vectors, makes vectors of metrics and scores vectors by nomenclature, as each row of standard input
+ * asks. bindings/sql/expected.py writes such rows with what is expected. Exits with 0 if all results are these.
  */
 #define _POSIX_C_SOURCE 200809L
 #include "cvss.h"
@@ -11,8 +11,7 @@
 #include <sys/types.h>
 
 enum {
-    TEXT, METRICS, ASKED, COMPONENTS, CHANGED, METRICS_REFUSAL, BUILT, BUILD_REFUSAL, REFUSAL, STRICT_REASON, B,
-    COLUMNS = B + 4
+    TEXT, METRICS, ASKED, COMPONENTS, CHANGED, METRICS_ERROR, MADE, MADE_ERROR, ERROR, STRICT_MESSAGE, B, COLUMNS = B + 4
 };
 
 /* A column of a row, of which there may be none. */
@@ -55,12 +54,37 @@ static bool is_cut(char *line, Column columns[COLUMNS])
     return false;
 }
 
-/* Whether an answer of this length in a buffer is the column; it is empty if there is no column. */
-static bool is_answer(const Column *column, const char *buffer, size_t told, size_t size)
+/* What a call returns and writes. */
+typedef struct Result {
+    char *buffer;
+    size_t size, told;
+    CvssError error;
+} Result;
+
+/* Whether the buffer has the column. */
+static bool is_column(const Column *column, const Result *own)
 {
-    if (!column->is_there)
-        return told == 0;
-    return told == column->length && told <= size && memcmp(buffer, column->bytes, told) == 0;
+    return own->told == column->length && own->told <= own->size && memcmp(own->buffer, column->bytes, own->told) == 0;
+}
+
+/* Whether an error is that of a column: its kind, the metric and what is quoted, which a column of an unknown version has too. */
+static bool is_error(const Column *column, const Result *own, bool quotes)
+{
+    const CvssError *error = &own->error;
+    char head[24];
+    size_t begun = (size_t)snprintf(head, sizeof head, "%d %s ", (int)error->kind, error->metric[0] == '\0' ? "-" : error->metric);
+    if (!column->is_there || own->told > own->size || column->length < begun || memcmp(column->bytes, head, begun) != 0)
+        return false;
+    return !quotes ? error->quoted_length == 0 : column->length - begun == error->quoted_length
+        && memcmp(column->bytes + begun, own->buffer + error->quoted_start, error->quoted_length) == 0;
+}
+
+/* Whether a result is that of a column, or its error that of another. */
+static bool is_either(const Column *column, const Column *error, const Result *own, bool quotes)
+{
+    if (own->error.kind == CVSS_ACCEPTED)
+        return column->is_there && !error->is_there && is_column(column, own);
+    return !column->is_there && is_error(error, own, quotes);
 }
 
 static int32_t version_of(const Column *asked)
@@ -73,60 +97,77 @@ static int32_t version_of(const Column *asked)
     return CVSS_NOTHING;
 }
 
-/* Writes the kind, the metric and the quoted part of a refusal as rows have them. Returns 0 if the text is accepted. */
-static size_t put_refusal(const Column *text, char *buffer, size_t size)
-{
-    char metric[8] = "-";
-    int32_t kind = cvss_refusal_kind(text->bytes, text->length);
-    size_t named = cvss_refusal_metric(text->bytes, text->length, metric, sizeof metric);
-    size_t begun = (size_t)snprintf(buffer, size, "%d %.*s ", (int)kind, named == 0 ? 1 : (int)named, metric);
-    return kind == CVSS_ACCEPTED ? 0 : begun + cvss_refusal_value(text->bytes, text->length, buffer + begun, size - begun);
-}
-
 /* Whether the four scores are those of the columns, which only a vector of v4.0 has. */
-static bool are_scored(const Column columns[COLUMNS])
+static bool are_scored(const Column columns[COLUMNS], const CvssVector *vector)
 {
-    int32_t scores[4];
-    bool is_right = cvss_nomenclature_scores(columns[TEXT].bytes, columns[TEXT].length, scores) == columns[B].is_there;
+    bool is_right = (vector->version == 40) == columns[B].is_there;
     for (size_t i = 0; i < 4 && is_right && columns[B].is_there; i++) {
         char told[8];
-        size_t length = (size_t)snprintf(told, sizeof told, "%d.%d", (int)(scores[i] / 10), (int)(scores[i] % 10));
-        is_right = is_answer(&columns[B + i], told, length, sizeof told);
+        int32_t tenths = vector->by_nomenclature[i];
+        size_t length = (size_t)snprintf(told, sizeof told, "%d.%d", (int)(tenths / 10), (int)(tenths % 10));
+        is_right = columns[B + i].length == length && memcmp(columns[B + i].bytes, told, length) == 0;
     }
     return is_right;
 }
 
-static bool is_right(const Column columns[COLUMNS], char *buffer, size_t size)
+/* The text by itself: its error, without the flag also that of an incomplete vector, and its scores. */
+static bool is_parsed(const Column columns[COLUMNS], Result *own)
+{
+    const Column *text = &columns[TEXT];
+    CvssVector vector = CVSS_VECTOR_INIT;
+    own->told = cvss_parse(text->bytes, text->length, 0, &vector, &own->error, own->buffer, own->size);
+    bool is_right = (own->error.kind == CVSS_ACCEPTED) == !columns[STRICT_MESSAGE].is_there;
+    is_right = is_right && (own->error.kind == CVSS_ACCEPTED || is_column(&columns[STRICT_MESSAGE], own));
+    own->told = cvss_parse(text->bytes, text->length, CVSS_ALLOW_INCOMPLETE, &vector, &own->error, own->buffer, own->size);
+    is_right = is_right && (own->error.kind == CVSS_ACCEPTED) == !columns[ERROR].is_there;
+    is_right = is_right && (own->error.kind == CVSS_ACCEPTED || is_error(&columns[ERROR], own, true));
+    return is_right && are_scored(columns, &vector);
+}
+
+/* Whether a result without the flag is the same if it is complete, and otherwise the error of an incomplete vector. */
+static bool is_as_complete(const Column *column, const Result *strict)
+{
+    CvssVector vector = CVSS_VECTOR_INIT;
+    CvssError error = CVSS_ERROR_INIT;
+    if (!column->is_there)
+        return strict->error.kind != CVSS_ACCEPTED;
+    cvss_parse(column->bytes, column->length, CVSS_ALLOW_INCOMPLETE, &vector, &error, NULL, 0);
+    return vector.is_complete ? is_column(column, strict) : strict->error.kind == CVSS_MISSING_METRIC;
+}
+
+static bool is_right(const Column columns[COLUMNS], Result *own)
 {
     const Column *text = &columns[TEXT], *metrics = &columns[METRICS], *components = &columns[COMPONENTS];
     int32_t version = version_of(&columns[ASKED]);
-    CvssScores scores;
-    size_t told = cvss_with(text->bytes, text->length, metrics->bytes, metrics->length, buffer, size);
-    bool right = is_answer(&columns[CHANGED], buffer, told, size);
-    told = cvss_with_reason(text->bytes, text->length, metrics->bytes, metrics->length, buffer, size);
-    right &= (told == 0) == columns[CHANGED].is_there;
-    told = cvss_build(version, components->bytes, components->length, buffer, size);
-    right &= is_answer(&columns[BUILT], buffer, told, size);
-    told = cvss_build_reason(version, components->bytes, components->length, buffer, size);
-    right &= (told == 0) == columns[BUILT].is_there;
-    right &= is_answer(&columns[REFUSAL], buffer, put_refusal(text, buffer, size), size);
-    right &= (cvss_scores(text->bytes, text->length, &scores) && scores.is_complete) == !columns[STRICT_REASON].is_there;
-    return right && are_scored(columns);
+    bool right = is_parsed(columns, own);
+    own->told = cvss_with_metrics(text->bytes, text->length, metrics->bytes, metrics->length, CVSS_ALLOW_INCOMPLETE, &own->error,
+                                  own->buffer, own->size);
+    /* a text that is rejected has its own error */
+    const Column *error = &columns[columns[ERROR].is_there ? ERROR : METRICS_ERROR];
+    right = right && is_either(&columns[CHANGED], error, own, true) && (own->error.index < 0 || !columns[ERROR].is_there);
+    own->told = cvss_with_metrics(text->bytes, text->length, metrics->bytes, metrics->length, 0, &own->error, own->buffer, own->size);
+    right = right && is_as_complete(&columns[CHANGED], own);
+    own->told = cvss_from_metrics(version, components->bytes, components->length, CVSS_ALLOW_INCOMPLETE, &own->error, own->buffer,
+                                  own->size);
+    right = right && is_either(&columns[MADE], &columns[MADE_ERROR], own, version != CVSS_NOTHING);
+    own->told = cvss_from_metrics(version, components->bytes, components->length, 0, &own->error, own->buffer, own->size);
+    return right && is_as_complete(&columns[MADE], own);
 }
 
 int main(void)
 {
     static char buffer[1 << 20];
+    Result own = {buffer, sizeof buffer, 0, CVSS_ERROR_INIT};
     char *line = NULL;
     size_t room = 0, rows = 0;
     bool right = true;
     while (right && getline(&line, &room, stdin) >= 0) {
         Column columns[COLUMNS];
-        right = is_cut(line, columns) && is_right(columns, buffer, sizeof buffer);
+        right = is_cut(line, columns) && is_right(columns, &own);
         rows++;
     }
     if (!right)
-        printf("row %zu: another answer\n", rows);
+        printf("row %zu: another result\n", rows);
     free(line);
     return right && rows > 0 ? 0 : 1;
 }

@@ -38,7 +38,7 @@ typedef struct CvssMetricType {
     const char *name;     /* the abbreviation, as "AV" */
     const char *title;    /* the name in words, as "Attack Vector" */
     const char *group;    /* "base", "temporal", "threat", "environmental" or "supplemental" */
-    bool is_mandatory;    /* whether FIRST's documents ask for it: true for the base metrics */
+    bool is_mandatory;    /* whether a vector that lacks it is incomplete: true for the base metrics */
     const char *question; /* one that a form asks */
     const CvssValueType *values;
     size_t count; /* of the values */

@@ -1,6 +1,6 @@
 /*
  * Scores and sub-scores of vectors that need not be complete, numbers that are rounded, and temporal scores with another
- * impact. Ends with status 0 where each answer is as it must be, and nothing is written beside false.
+ * impact. Ends with status 0 where each number is as it must be, and nothing is written beside false.
  */
 #include "cvss.h"
 
@@ -52,9 +52,10 @@ static bool has_numbers(const Row *row)
 {
     CvssNumbers numbers;
     memset(&numbers, '#', sizeof numbers);
+    numbers.size = sizeof numbers;
     bool right = cvss_numbers(row->version, row->metrics, strlen(row->metrics), &numbers) && numbers.base == row->base;
     right = right && numbers.temporal == row->temporal && numbers.environmental == row->environmental;
-    right = right && numbers.reserved == 0 && is_number(numbers.impact, row->impact, 0);
+    right = right && numbers.size == sizeof numbers && is_number(numbers.impact, row->impact, 0);
     right = right && is_number(numbers.exploitability, row->exploitability, 0);
     return right && is_number(numbers.adjusted_impact, row->adjusted_impact, row->rest);
 }
@@ -63,6 +64,7 @@ static bool is_rejected(const Row *row)
 {
     CvssNumbers numbers, old;
     memset(&numbers, '#', sizeof numbers);
+    numbers.size = sizeof numbers;
     old = numbers;
     return !cvss_numbers(row->version, row->metrics, strlen(row->metrics), &numbers) && !memcmp(&numbers, &old, sizeof old);
 }

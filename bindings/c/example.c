@@ -8,53 +8,48 @@
 #include <stdlib.h>
 #include <string.h>
 
-static const char *const ratings[] = {"none", "low", "medium", "high", "critical"};
-
-/* Prints a score, if the version has it. */
-static void print_score(const char *name, int32_t tenths)
+/* Prints a score with its severity, if the version has it. */
+static void print_score(const char *name, int32_t tenths, int32_t severity)
 {
     if (tenths != CVSS_NOTHING)
-        printf("  %s: %d.%d\n", name, (int)(tenths / 10), (int)(tenths % 10));
+        printf("  %s: %d.%d %s\n", name, (int)(tenths / 10), (int)(tenths % 10), cvss_severity_name(severity));
 }
 
-/* Prints why a text is rejected; gets the length first, and then the reason. */
-static int print_reason(const char *text)
+static void print_scores(const CvssVector *vector)
 {
-    size_t size = cvss_reason(text, strlen(text), NULL, 0);
-    char *reason = malloc(size);
-    if (reason == NULL)
+    print_score("score", vector->score, vector->severity);
+    print_score("base", vector->base, vector->base_severity);
+    print_score("temporal", vector->temporal, vector->temporal_severity);
+    print_score("environmental", vector->environmental, vector->environmental_severity);
+}
+
+/* Prints the facts of a vector, or why the text is rejected; gets the length of what is written first. */
+static int print_vector(const char *text)
+{
+    CvssVector vector = CVSS_VECTOR_INIT;
+    CvssError error = CVSS_ERROR_INIT;
+    size_t length = strlen(text);
+    size_t size = cvss_parse(text, length, 0, &vector, &error, NULL, 0);
+    char *buffer = malloc(size);
+    if (buffer == NULL)
         return 2;
-    size_t length = cvss_reason(text, strlen(text), reason, size);
-    if (length <= size)
-        printf("%s\n  refused: %.*s\n", text, (int)length, reason);
-    free(reason);
-    return 1;
+    cvss_parse(text, length, 0, &vector, &error, buffer, size);
+    if (error.kind == CVSS_ACCEPTED) {
+        printf("%.*s\n", (int)size, buffer);
+        print_scores(&vector);
+    } else {
+        printf("%s\n  error: %.*s\n", text, (int)size, buffer);
+    }
+    free(buffer);
+    return error.kind == CVSS_ACCEPTED ? 0 : 1;
 }
 
 int main(int count, char **texts)
 {
     int status = 0;
-    for (int i = 1; i < count; i++) {
-        const char *text = texts[i];
-        size_t length = strlen(text);
-        CvssScores scores = {0};
-        if (!cvss_scores(text, length, &scores)) {
-            status = print_reason(text);
-            if (status == 2)
-                return status;
-            continue;
-        }
-        /* the canonical text is as long as the text */
-        char *canonical = malloc(length);
-        if (canonical == NULL)
-            return 2;
-        cvss_canonical(text, length, canonical, length);
-        printf("%.*s\n", (int)length, canonical);
-        free(canonical);
-        print_score(scores.version == 40 ? "score" : "base", scores.base);
-        print_score("temporal", scores.temporal);
-        print_score("environmental", scores.environmental);
-        printf("  severity: %s\n", ratings[scores.severity]);
+    for (int i = 1; i < count && status != 2; i++) {
+        int own = print_vector(texts[i]);
+        status = own > status ? own : status;
     }
     return fflush(stdout) == 0 ? status : 2;
 }

@@ -1,31 +1,35 @@
-// Prints the canonical text, the score and its rating of a vector, and why another is rejected.
+// Prints the canonical text, the score and its severity of a vector, and why another is rejected.
 #include "cvss.h"
 
 #include <iostream>
 #include <string>
 
-static std::string reason_of(const std::string &text)
+// What cvss_parse writes: the canonical text of the vector, or the message.
+static std::string parse(const std::string &text, CvssVector &vector, CvssError &error)
 {
-    std::string reason(cvss_reason(text.data(), text.size(), nullptr, 0), ' ');
-    cvss_reason(text.data(), text.size(), &reason[0], reason.size());
-    return reason;
+    std::string written(cvss_parse(text.data(), text.size(), 0, &vector, &error, nullptr, 0), ' ');
+    cvss_parse(text.data(), text.size(), 0, &vector, &error, &written[0], written.size());
+    return written;
 }
 
 int main()
 {
-    static const char *const ratings[] = {"none", "low", "medium", "high", "critical"};
     const std::string text = "CVSS:3.1/A:H/I:H/C:H/S:U/UI:N/PR:N/AC:L/AV:N";
-    CvssScores scores = {};
-    if (!cvss_scores(text.data(), text.size(), &scores))
+    CvssVector vector = CVSS_VECTOR_INIT;
+    CvssError error = CVSS_ERROR_INIT;
+    const std::string canonical = parse(text, vector, error);
+    if (error.kind != CVSS_ACCEPTED)
         return 1;
-    std::string canonical(text.size(), ' ');
-    cvss_canonical(text.data(), text.size(), &canonical[0], canonical.size());
-    std::cout << canonical << ' ' << scores.base / 10 << '.' << scores.base % 10 << ' ' << ratings[scores.severity]
-              << '\n';
+    std::cout << canonical << ' ' << vector.score / 10 << '.' << vector.score % 10 << ' '
+              << cvss_severity_name(vector.severity) << '\n';
     CvssMetric metrics[CVSS_MOST_METRICS];
-    const size_t count = cvss_metrics(text.data(), text.size(), metrics, CVSS_MOST_METRICS);
+    const size_t count = cvss_metrics(text.data(), text.size(), 0, metrics, CVSS_MOST_METRICS);
     if (count != 8 || metrics[7].name != std::string("A") || metrics[7].value != std::string("H"))
         return 1;
-    std::cout << reason_of("CVSS:3.1/AV:Q") << '\n';
+    const std::string message = parse("CVSS:3.1/AV:Q", vector, error);
+    if (error.kind != CVSS_INVALID_VALUE || error.metric != std::string("AV")
+        || message.substr(error.quoted_start, error.quoted_length) != "Q")
+        return 1;
+    std::cout << message << '\n';
     return std::cout.flush() ? 0 : 2;
 }

@@ -1,6 +1,6 @@
 /*
- * Prints the facts of each line of standard input, as bindings/stored/facts.py does, and does the same with
- * buffers that are too small, which must be left as they were.
+ * Prints the facts of each line of standard input, as bindings/stored/facts.py does. Ends with status 3 where another function
+ * disagrees with cvss_parse, or something is written that must be left as it was.
  */
 #define _POSIX_C_SOURCE 200809L
 #include "cvss.h"
@@ -11,25 +11,60 @@
 #include <string.h>
 #include <sys/types.h>
 
-enum { MOST = 1 << 20 };
+/* What cvss_parse gives. */
+typedef struct Parsed {
+    CvssVector vector;
+    CvssError error;
+    char *text; /* the canonical text or the message, and a byte 0 */
+    size_t length;
+} Parsed;
 
-static const char *const ratings[] = {"none", "low", "medium", "high", "critical"};
-static const char *const nomenclatures[] = {"CVSS-B", "CVSS-BE", "CVSS-BT", "CVSS-BTE"};
-
-typedef size_t (*Call)(const void *, size_t, void *, size_t);
-
-/* What a call writes, in memory that just fits. Ends the program where a smaller buffer is touched. */
-static char *written(Call call, const char *text, size_t length, size_t *count)
+static void require(bool is_right, const char *what, const char *text)
 {
-    char small[1] = {'#'};
-    *count = call(text, length, NULL, 0);
-    if (*count > MOST || (*count > 1 && (call(text, length, small, 1) != *count || small[0] != '#')))
+    if (!is_right) {
+        printf("%s: %s\n", what, text);
         exit(3);
-    char *buffer = malloc(*count + 1);
-    if (buffer == NULL || call(text, length, buffer, *count) != *count)
-        exit(3);
-    buffer[*count] = '\0';
-    return buffer;
+    }
+}
+
+static void *filled(size_t size)
+{
+    void *memory = malloc(size + 1);
+    if (memory == NULL)
+        exit(2);
+    return memset(memory, '#', size + 1);
+}
+
+/* Whether a buffer that is too small by one byte is left as it was, and the rest is written all the same. */
+static bool is_untouched(const char *text, size_t length, uint32_t flags, const Parsed *parsed)
+{
+    CvssVector vector = CVSS_VECTOR_INIT;
+    CvssError error = CVSS_ERROR_INIT;
+    char *buffer = filled(parsed->length), *before = filled(parsed->length);
+    bool is = cvss_parse(text, length, flags, &vector, &error, buffer, parsed->length - 1) == parsed->length;
+    is = is && memcmp(buffer, before, parsed->length + 1) == 0 && memcmp(&error, &parsed->error, sizeof error) == 0;
+    is = is && (error.kind != CVSS_ACCEPTED || memcmp(&vector, &parsed->vector, sizeof vector) == 0);
+    free(before);
+    free(buffer);
+    return is;
+}
+
+/* What a text gives; on an error its vector is left as it was. */
+static Parsed parsed(const char *text, size_t length, uint32_t flags)
+{
+    Parsed own;
+    memset(&own, 0x5a, sizeof own);
+    own.vector.size = sizeof own.vector;
+    own.error.size = sizeof own.error;
+    CvssVector before = own.vector;
+    own.length = cvss_parse(text, length, flags, &own.vector, &own.error, NULL, 0);
+    own.text = filled(own.length);
+    require(cvss_parse(text, length, flags, &own.vector, &own.error, own.text, own.length) == own.length, "length", text);
+    require(own.text[own.length] == '#', "a byte after the buffer", text);
+    own.text[own.length] = '\0';
+    require(own.error.kind == CVSS_ACCEPTED || memcmp(&own.vector, &before, sizeof before) == 0, "vector", text);
+    require(is_untouched(text, length, flags, &own), "a buffer that is too small", text);
+    return own;
 }
 
 static void print_score(int32_t tenths, int32_t severity)
@@ -37,57 +72,38 @@ static void print_score(int32_t tenths, int32_t severity)
     if (tenths == CVSS_NOTHING && severity == CVSS_NOTHING)
         printf(" - -");
     else
-        printf(" %d.%d %s", (int)(tenths / 10), (int)(tenths % 10), ratings[severity]);
+        printf(" %d.%d %s", (int)(tenths / 10), (int)(tenths % 10), cvss_severity_name(severity));
 }
 
 /* Writes the metrics as segments of a text, without those that are not defined if these are left out. */
-static void put_metrics(const char *text, size_t length, bool without_undefined, const char *format, char *end)
+static void put_metrics(const char *text, size_t length, bool without_not_defined, const char *format, char *end)
 {
     CvssMetric metrics[CVSS_MOST_METRICS], untouched = {"#", "#"};
-    size_t count = cvss_metrics(text, length, metrics, CVSS_MOST_METRICS);
-    if (count > CVSS_MOST_METRICS || cvss_metrics(text, length, &untouched, 1) != count)
-        exit(3);
-    if (count > 1 && untouched.name[0] != '#')
-        exit(3);
+    size_t count = cvss_metrics(text, length, CVSS_ALLOW_INCOMPLETE, metrics, CVSS_MOST_METRICS);
+    require(count > 0 && count <= CVSS_MOST_METRICS, "the number of metrics", text);
+    require(cvss_metrics(text, length, CVSS_ALLOW_INCOMPLETE, &untouched, 1) == count, "the number of metrics", text);
+    require(count == 1 || untouched.name[0] == '#', "an array that is too short", text);
     for (size_t i = 0; i < count; i++) {
         const CvssMetric *metric = &metrics[i];
-        if (without_undefined && (strcmp(metric->value, "X") == 0 || strcmp(metric->value, "ND") == 0))
+        if (without_not_defined && (strcmp(metric->value, "X") == 0 || strcmp(metric->value, "ND") == 0))
             continue;
         end += sprintf(end, format, metric->name, metric->value);
     }
 }
 
-/* Whether the text has the defined metrics of the canonical text, and no others; or all, where none is defined. */
-static bool is_without_undefined(const char *shorter, const char *canonical, size_t length)
+/* Whether cvss_without_not_defined writes the defined metrics of the canonical text, and no others; or all, if none is. */
+static bool is_without_not_defined(const char *canonical, size_t length)
 {
-    char expected[400] = "";
+    char expected[400] = "", shorter[400] = "";
+    CvssError error = CVSS_ERROR_INIT;
     bool has_version = strncmp(canonical, "CVSS:", 5) == 0;
+    cvss_without_not_defined(canonical, length, CVSS_ALLOW_INCOMPLETE, &error, shorter, sizeof shorter);
     put_metrics(canonical, length, true, "/%s:%s", expected + 8);
     if (has_version)
         memcpy(expected, canonical, 8);
     if (has_version && expected[8] == '\0')
         return strcmp(shorter, canonical) == 0;
-    return strcmp(shorter, has_version ? expected : expected + 9) == 0;
-}
-
-/* Whether one call returns what two others do, also if the buffer is too small or the text is rejected. */
-static bool is_read_alike(const char *text, size_t length)
-{
-    CvssScores scores, read, unfit;
-    memset(&scores, 0x5a, sizeof scores);
-    memcpy(&read, &scores, sizeof read);
-    memcpy(&unfit, &scores, sizeof unfit);
-    size_t count = cvss_canonical(text, length, NULL, 0);
-    char *canonical = malloc(count + 1), *buffer = malloc(count + 1);
-    if (canonical == NULL || buffer == NULL)
-        exit(3);
-    bool is_alike = cvss_scores(text, length, &scores) == (count > 0) && cvss_canonical(text, length, canonical, count) == count
-        && cvss_read(text, length, &read, buffer, count) == count && cvss_read(text, length, &unfit, NULL, 0) == count
-        && memcmp(canonical, buffer, count) == 0 && memcmp(&scores, &read, sizeof read) == 0
-        && memcmp(&scores, &unfit, sizeof unfit) == 0;
-    free(canonical);
-    free(buffer);
-    return is_alike;
+    return error.kind == CVSS_ACCEPTED && strcmp(shorter, has_version ? expected : expected + 9) == 0;
 }
 
 /* The value that a vector has for a metric; an empty string if it has none. */
@@ -99,17 +115,15 @@ static const char *value_of(const CvssMetric *metrics, size_t count, const char 
     return "";
 }
 
-/* Whether the values are those of the metrics, in the order of the version, and the score is the one of the scores. */
-static bool are_values(const char *text, size_t length, const CvssScores *scores)
+/* Whether the values are those of the metrics, in the order of the version, and the score is the vector's. */
+static bool are_values(const char *text, size_t length, const CvssVector *vector)
 {
-    CvssValues values;
+    CvssValues values = CVSS_VALUES_INIT;
     CvssMetric metrics[CVSS_MOST_METRICS];
-    size_t count = cvss_metrics(text, length, metrics, CVSS_MOST_METRICS), types_count;
-    if (!cvss_values(text, length, &values) || values.version != scores->version || values.reserved != 0)
-        return false;
-    bool are = values.score == scores->base && values.nomenclature == scores->nomenclature
-        && cvss_score(text, length) == scores->base;
-    const CvssMetricType *types = cvss_metric_types(scores->version, &types_count);
+    size_t count = cvss_metrics(text, length, CVSS_ALLOW_INCOMPLETE, metrics, CVSS_MOST_METRICS), types_count;
+    bool are = cvss_values(text, length, CVSS_ALLOW_INCOMPLETE, &values) && values.version == vector->version;
+    are = are && values.score == vector->score && values.nomenclature == vector->nomenclature;
+    const CvssMetricType *types = cvss_metric_types(vector->version, &types_count);
     for (size_t i = 0; i < CVSS_MOST_METRICS; i++) {
         char field[8] = "";
         if (i < types_count)
@@ -119,47 +133,82 @@ static bool are_values(const char *text, size_t length, const CvssScores *scores
     return are;
 }
 
-/* Whether a rejected text has no score, and leaves the values as they were. */
-static bool has_no_values(const char *text, size_t length)
+static void print_vector(const char *text, size_t length, const Parsed *parsed)
 {
-    CvssValues values, before;
-    memset(&values, 0x5a, sizeof values);
-    memcpy(&before, &values, sizeof values);
-    return cvss_score(text, length) == CVSS_NOTHING && !cvss_values(text, length, &values)
-        && memcmp(&values, &before, sizeof values) == 0;
-}
-
-static void print_vector(const char *text, size_t length, const CvssScores *scores)
-{
-    size_t count;
-    char *canonical = written(cvss_canonical, text, length, &count);
-    if (count != length || scores->version != cvss_version(text, length) || !are_values(text, length, scores))
-        exit(3);
-    printf("%s %d.%d", canonical, (int)(scores->version / 10), (int)(scores->version % 10));
-    printf(" %s", scores->nomenclature == CVSS_NOTHING ? "-" : nomenclatures[scores->nomenclature]);
-    printf(" %s", scores->is_complete ? "complete" : "incomplete");
-    print_score(scores->base, scores->severity);
-    print_score(scores->temporal, scores->temporal_severity);
-    print_score(scores->environmental, scores->environmental_severity);
+    const CvssVector *vector = &parsed->vector;
+    require(parsed->length == length && are_values(text, length, vector), "values", text);
+    require(cvss_score(text, length, CVSS_ALLOW_INCOMPLETE) == vector->score, "score", text);
+    require(is_without_not_defined(parsed->text, length), "without not defined", text);
+    const char *nomenclature = cvss_nomenclature_name(vector->nomenclature);
+    printf("%s %s %s", parsed->text, cvss_version_name(vector->version), nomenclature == NULL ? "-" : nomenclature);
+    printf(" %s", vector->is_complete ? "complete" : "incomplete");
+    print_score(vector->score, vector->severity);
+    print_score(vector->base, vector->base_severity);
+    print_score(vector->temporal, vector->temporal_severity);
+    print_score(vector->environmental, vector->environmental_severity);
+    for (size_t i = 0; i < 4; i++) {
+        int32_t tenths = vector->by_nomenclature[i];
+        if (tenths == CVSS_NOTHING)
+            printf(" -");
+        else
+            printf(" %d.%d", (int)(tenths / 10), (int)(tenths % 10));
+    }
     char metrics[400] = "";
     put_metrics(text, length, false, " %s=%s", metrics);
     printf("%s", metrics);
-    char *shorter = written(cvss_without_undefined, text, length, &count);
-    if (!is_without_undefined(shorter, canonical, length))
-        exit(3);
-    free(shorter);
-    free(canonical);
 }
 
-static void print_refusal(const char *text, size_t length)
+/* Whether a rejected text has no score, no metrics and no values. */
+static bool has_nothing(const char *text, size_t length, uint32_t flags)
 {
-    size_t named, count;
-    char *metric = written(cvss_refusal_metric, text, length, &named);
-    char *reason = written(cvss_reason, text, length, &count);
-    printf("%d %s ", (int)cvss_refusal_kind(text, length), named == 0 ? "-" : metric);
-    fwrite(reason, 1, count, stdout);
-    free(metric);
-    free(reason);
+    CvssValues values;
+    CvssMetric metric = {"#", "#"};
+    memset(&values, 0x5a, sizeof values);
+    values.size = sizeof values;
+    CvssValues before = values;
+    return cvss_score(text, length, flags) == CVSS_NOTHING && !cvss_values(text, length, flags, &values)
+        && memcmp(&values, &before, sizeof values) == 0 && cvss_metrics(text, length, flags, &metric, 1) == 0
+        && metric.name[0] == '#';
+}
+
+/* Prints the error; the part that the message quotes is between backticks, or at the end after a version's colon. */
+static void print_error(const char *text, size_t length, const Parsed *parsed)
+{
+    const CvssError *error = &parsed->error;
+    const char *begin = strchr(parsed->text, '`'), *end = strrchr(parsed->text, '`');
+    if (error->kind == CVSS_UNSUPPORTED_VERSION) {
+        begin = parsed->text + strlen("unsupported CVSS version:");
+        end = parsed->text + parsed->length;
+    }
+    size_t start = begin == NULL ? 0 : (size_t)(begin - parsed->text) + 1;
+    require(error->quoted_start == start && error->index == CVSS_NOTHING && error->reserved == 0, "error", text);
+    require(error->quoted_length == (begin == NULL ? 0 : (size_t)(end - begin) - 1), "the quoted part", text);
+    require(has_nothing(text, length, CVSS_ALLOW_INCOMPLETE), "a rejected text", text);
+    printf("%d %s %s", (int)error->kind, error->metric[0] == '\0' ? "-" : error->metric, parsed->text);
+}
+
+/* Whether an error is that of an incomplete vector, or there is none as there is none with the flag. */
+static bool is_as_complete(const Parsed *strict, const Parsed *lenient)
+{
+    if (lenient->error.kind == CVSS_ACCEPTED && !lenient->vector.is_complete)
+        return strict->error.kind == CVSS_MISSING_METRIC && strict->error.index == CVSS_NOTHING && strict->error.metric[0] != '\0'
+            && strict->error.quoted_start == 0 && strict->error.quoted_length == 0;
+    return memcmp(&strict->error, &lenient->error, sizeof strict->error) == 0 && strict->length == lenient->length
+        && memcmp(&strict->vector, &lenient->vector, sizeof strict->vector) == 0 && strcmp(strict->text, lenient->text) == 0;
+}
+
+static void print_facts(const char *text, size_t length)
+{
+    Parsed lenient = parsed(text, length, CVSS_ALLOW_INCOMPLETE), strict = parsed(text, length, 0);
+    if (lenient.error.kind == CVSS_ACCEPTED)
+        print_vector(text, length, &lenient);
+    else
+        print_error(text, length, &lenient);
+    require(is_as_complete(&strict, &lenient), "without the flag", text);
+    require(strict.error.kind == CVSS_ACCEPTED || has_nothing(text, length, 0), "a text rejected without the flag", text);
+    free(strict.text);
+    free(lenient.text);
+    putchar('\n');
 }
 
 int main(void)
@@ -171,16 +220,8 @@ int main(void)
         size_t length = (size_t)count;
         if (length > 0 && line[length - 1] == '\n')
             length--;
-        CvssScores scores;
-        memset(&scores, 0x5a, sizeof scores);
-        CvssScores before = scores;
-        if (!is_read_alike(line, length))
-            exit(3);
-        if (cvss_scores(line, length, &scores))
-            print_vector(line, length, &scores);
-        else if (memcmp(&scores, &before, sizeof scores) == 0 && has_no_values(line, length))
-            print_refusal(line, length);
-        putchar('\n');
+        line[length] = '\0';
+        print_facts(line, length);
     }
     free(line);
     return ferror(stdin) || fflush(stdout) != 0 ? 2 : 0;

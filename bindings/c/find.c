@@ -1,23 +1,24 @@
 /*
- * Prints each vector in the lines of standard input, as `cvss find` does: the line's number and the column of
- * the match in bytes, both from 1, and what cvss_tool answers to it.
+ * Prints each vector in the lines of standard input: the line's number and the column of the match in bytes, both from 1, and
+ * what `cvss score` prints for the match.
  */
 #define _POSIX_C_SOURCE 200809L
 #include "cvss.h"
 
 #include <stdio.h>
 #include <stdlib.h>
+#include <string.h>
 #include <sys/types.h>
 
-static void print_answer(const char *text, size_t length)
+static void print_line(const char *text, size_t length)
 {
-    size_t told = cvss_answer(text, length, NULL, 0);
-    char *answer = malloc(told);
-    if (answer == NULL || cvss_answer(text, length, answer, told) != told)
+    size_t told = cvss_score_line(text, length, 0, NULL, 0);
+    char *line = malloc(told);
+    if (line == NULL || cvss_score_line(text, length, 0, line, told) != told)
         exit(3);
-    fwrite(answer, 1, told, stdout);
+    fwrite(line, 1, told, stdout);
     putchar('\n');
-    free(answer);
+    free(line);
 }
 
 /* The bytes of a line in memory that just fits, so that a byte read after it is noticed. */
@@ -26,20 +27,26 @@ static char *copied(const char *line, size_t length)
     char *text = malloc(length > 0 ? length : 1);
     if (text == NULL)
         exit(3);
-    for (size_t i = 0; i < length; i++)
-        text[i] = line[i];
+    memcpy(text, line, length);
     return text;
 }
 
-static void print_mentions(unsigned long number, const char *text, size_t length)
+/* Prints the matches, each of which begins after the one before it and has bytes. */
+static void print_matches(unsigned long number, const char *text, size_t length)
 {
-    size_t start = 0, found = 0;
-    while (cvss_find(text, length, start + found, &start, &found)) {
-        if (found == 0 || start >= length || found > length - start)
+    CvssMatch match = CVSS_MATCH_INIT, last = match;
+    while (cvss_find(text, length, &match)) {
+        if (match.size != sizeof match || match.length == 0 || match.offset < last.next || match.offset >= length
+            || match.length > length - match.offset || match.next < match.offset + match.length || match.next > length)
             exit(3);
-        printf("%lu:%zu ", number, start + 1);
-        print_answer(text + start, found);
+        printf("%lu:%zu ", number, match.offset + 1);
+        print_line(text + match.offset, match.length);
+        last = match;
     }
+    /* nothing is written where none is left, also if it is asked for again */
+    if (cvss_find(text, length, &match) || match.next != last.next || match.offset != last.offset
+        || match.length != last.length)
+        exit(3);
 }
 
 int main(void)
@@ -52,7 +59,7 @@ int main(void)
         if (length > 0 && line[length - 1] == '\n')
             length--;
         char *text = copied(line, length);
-        print_mentions(number, text, length);
+        print_matches(number, text, length);
         free(text);
     }
     free(line);

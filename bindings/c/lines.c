@@ -1,38 +1,48 @@
-/* Answers each line of standard input by one line, as the program cvss_tool does. */
+/*
+ * Prints for each line of standard input what `cvss score` prints; with an argument, vectors of v3 may lack base metrics. A
+ * buffer that is too small by one byte must be left as it was.
+ */
 #define _POSIX_C_SOURCE 200809L
 #include "cvss.h"
 
 #include <stdio.h>
 #include <stdlib.h>
+#include <string.h>
 #include <sys/types.h>
 
-int main(void)
+/* Prints the line of a text. Returns the status of the program if it cannot go on, and otherwise 0. */
+static int print_line(const char *text, size_t length, uint32_t flags)
 {
+    size_t told = cvss_score_line(text, length, flags, NULL, 0);
+    char *line = malloc(told), *untouched = malloc(told);
+    if (line == NULL || untouched == NULL)
+        return 2;
+    memset(line, '#', told);
+    memset(untouched, '#', told);
+    int status = cvss_score_line(text, length, flags, line, told - 1) == told && memcmp(line, untouched, told) == 0 ? 0 : 3;
+    status = cvss_score_line(text, length, flags, line, told) == told ? status : 3;
+    fwrite(line, 1, told, stdout);
+    putchar('\n');
+    free(untouched);
+    free(line);
+    return status;
+}
+
+int main(int count, char **words)
+{
+    uint32_t flags = count > 1 && words[1][0] != '\0' ? CVSS_ALLOW_INCOMPLETE : 0;
     char *line = NULL;
     size_t room = 0;
-    char *answer = NULL;
-    size_t size = 0;
-    ssize_t count;
-    while ((count = getline(&line, &room, stdin)) >= 0) {
-        const char *text = line;
-        size_t length = (size_t)count;
-        if (length > 0 && text[length - 1] == '\n')
+    ssize_t read;
+    int status = 0;
+    while (status == 0 && (read = getline(&line, &room, stdin)) >= 0) {
+        size_t length = (size_t)read;
+        if (length > 0 && line[length - 1] == '\n')
             length--;
-        if (length > 0 && text[length - 1] == '\r')
+        if (length > 0 && line[length - 1] == '\r')
             length--;
-        if (answer == NULL && (answer = malloc(size = 1)) == NULL)
-            return 2;
-        size_t told = cvss_answer(text, length, answer, size);
-        if (told > size) {
-            free(answer);
-            if ((answer = malloc(size = told)) == NULL)
-                return 2;
-            told = cvss_answer(text, length, answer, size);
-        }
-        fwrite(answer, 1, told, stdout);
-        putchar('\n');
+        status = print_line(line, length, flags);
     }
-    free(answer);
     free(line);
-    return ferror(stdin) || fflush(stdout) != 0 ? 2 : 0;
+    return ferror(stdin) || fflush(stdout) != 0 ? 2 : status;
 }

@@ -1,6 +1,7 @@
 /*
- * Answers the lines of standard input by cvss_answers, with a buffer of so many bytes as the argument says, which
- * grows if an answer does not fit. Ends with status 3 if the buffer is changed after the answers.
+ * Prints the lines of cvss_score_lines for standard input, with a buffer of so many bytes as the first argument says, which
+ * grows if a line does not fit; with a second argument, vectors of v3 may lack base metrics. Ends with status 3 if the buffer
+ * is changed after the lines.
  */
 #include "cvss.h"
 
@@ -29,11 +30,11 @@ static char *input(size_t *length)
     return NULL;
 }
 
-/* Answers texts, and returns how many bytes of them; the status of the program if it cannot go on. */
-static int answer(const char *texts, size_t length, char *buffer, size_t size, size_t *read)
+/* Prints the lines of texts, and sets how many bytes of them these are for; returns the status of the program if it cannot go on. */
+static int print_lines(const char *texts, size_t length, uint32_t flags, char *buffer, size_t size, size_t *read)
 {
     memset(buffer, '#', size);
-    size_t told = cvss_answers(texts, length, buffer, size, read);
+    size_t told = cvss_score_lines(texts, length, flags, buffer, size, read);
     for (size_t i = told; i < size; i++)
         if (buffer[i] != '#')
             return 3;
@@ -43,13 +44,14 @@ static int answer(const char *texts, size_t length, char *buffer, size_t size, s
 int main(int count, char **words)
 {
     size_t size = count > 1 ? strtoul(words[1], NULL, 10) : 1 << 20;
+    uint32_t flags = count > 2 ? CVSS_ALLOW_INCOMPLETE : 0;
     size_t length, done = 0;
     char *texts = input(&length);
     char *buffer = malloc(size + 1);
     int status = texts == NULL || buffer == NULL ? 2 : 0;
     while (status == 0 && memchr(texts + done, '\n', length - done) != NULL) {
         size_t read;
-        status = answer(texts + done, length - done, buffer, size, &read);
+        status = print_lines(texts + done, length - done, flags, buffer, size, &read);
         done += read;
         if (read == 0) {
             free(buffer);

@@ -51,6 +51,7 @@ void __wrap_free(void *block)
 
 enum { MOST = 1 << 16 };
 static char buffer[MOST];
+static CvssError error = CVSS_ERROR_INIT;
 
 /* A function of one text, and its name. */
 typedef struct Call {
@@ -58,75 +59,57 @@ typedef struct Call {
     void (*make)(const char *text, size_t length);
 } Call;
 
-static void make_version(const char *text, size_t length) { cvss_version(text, length); }
-static void make_canonical(const char *text, size_t length) { cvss_canonical(text, length, buffer, MOST); }
-static void make_without(const char *text, size_t length) { cvss_without_undefined(text, length, buffer, MOST); }
-static void make_record(const char *text, size_t length) { cvss_record(text, length, buffer, MOST); }
-static void make_account(const char *text, size_t length) { cvss_account(text, length, buffer, MOST); }
-static void make_reason(const char *text, size_t length) { cvss_reason(text, length, buffer, MOST); }
-static void make_kind(const char *text, size_t length) { cvss_refusal_kind(text, length); }
-static void make_metric(const char *text, size_t length) { cvss_refusal_metric(text, length, buffer, MOST); }
-static void make_answer(const char *text, size_t length) { cvss_answer(text, length, buffer, MOST); }
-
-static void make_scores(const char *text, size_t length)
+static void make_parse(const char *text, size_t length)
 {
-    CvssScores scores;
-    cvss_scores(text, length, &scores);
+    CvssVector vector = CVSS_VECTOR_INIT;
+    cvss_parse(text, length, CVSS_ALLOW_INCOMPLETE, &vector, &error, buffer, MOST);
 }
 
-static void make_score(const char *text, size_t length) { cvss_score(text, length); }
-
-static void make_values(const char *text, size_t length)
-{
-    CvssValues values;
-    cvss_values(text, length, &values);
-}
-
-static void make_read(const char *text, size_t length)
-{
-    CvssScores scores;
-    cvss_read(text, length, &scores, buffer, MOST);
-}
+static void make_score(const char *text, size_t length) { cvss_score(text, length, 0); }
 
 static void make_metrics(const char *text, size_t length)
 {
     CvssMetric metrics[CVSS_MOST_METRICS];
-    cvss_metrics(text, length, metrics, CVSS_MOST_METRICS);
+    cvss_metrics(text, length, CVSS_ALLOW_INCOMPLETE, metrics, CVSS_MOST_METRICS);
+}
+
+static void make_values(const char *text, size_t length)
+{
+    CvssValues values = CVSS_VALUES_INIT;
+    cvss_values(text, length, CVSS_ALLOW_INCOMPLETE, &values);
+}
+
+static void make_with(const char *text, size_t length)
+{
+    cvss_with_metrics(text, length, "E:A/AV:N", 8, 0, &error, buffer, MOST);
+    cvss_with_metrics(text, length, "/", 1, 0, &error, buffer, MOST);
+}
+
+static void make_from(const char *text, size_t length) { cvss_from_metrics(20, text, length, 0, &error, buffer, MOST); }
+static void make_without(const char *text, size_t length) { cvss_without_not_defined(text, length, 1, &error, buffer, MOST); }
+static void make_record(const char *text, size_t length) { cvss_record(text, length, 1, &error, buffer, MOST); }
+static void make_explain(const char *text, size_t length) { cvss_explain(text, length, 1, &error, buffer, MOST); }
+static void make_line(const char *text, size_t length) { cvss_score_line(text, length, 0, buffer, MOST); }
+
+/* The text is followed by its newline. */
+static void make_lines(const char *text, size_t length)
+{
+    size_t read;
+    cvss_score_lines(text, length + 1, 0, buffer, MOST, &read);
 }
 
 static void make_find(const char *text, size_t length)
 {
-    size_t start, found_length;
-    cvss_find(text, length, 0, &start, &found_length);
+    CvssMatch match = CVSS_MATCH_INIT;
+    while (cvss_find(text, length, &match))
+        ;
 }
 
-/* The text is followed by its newline. */
-static void make_answers(const char *text, size_t length)
-{
-    size_t read;
-    cvss_answers(text, length + 1, buffer, MOST, &read);
-}
-
-static void make_overridden(const char *text, size_t length)
-{
-    cvss_overridden(text, length, "MSI:S/CR:H", 10, buffer, MOST);
-}
-
-static void make_with(const char *text, size_t length) { cvss_with(text, length, "E:A/AV:N", 8, buffer, MOST); }
-static void make_with_reason(const char *text, size_t length) { cvss_with_reason(text, length, "/", 1, buffer, MOST); }
-static void make_build(const char *text, size_t length) { cvss_build(20, text, length, buffer, MOST); }
-static void make_build_reason(const char *text, size_t length) { cvss_build_reason(20, text, length, buffer, MOST); }
-static void make_value(const char *text, size_t length) { cvss_refusal_value(text, length, buffer, MOST); }
-
-static void make_groups(const char *text, size_t length)
-{
-    int32_t scores[4];
-    cvss_nomenclature_scores(text, length, scores);
-}
+static void make_severity(const char *text, size_t length) { cvss_severity(31, (int32_t)length + text[0]); }
 
 static void make_numbers(const char *text, size_t length)
 {
-    CvssNumbers numbers;
+    CvssNumbers numbers = CVSS_NUMBERS_INIT;
     cvss_numbers(20, text, length, &numbers);
 }
 
@@ -144,26 +127,16 @@ static void make_temporal(const char *text, size_t length)
     cvss_temporal_with_impact(text, length, &impact, &tenths);
 }
 
-static void make_objection(const char *text, size_t length)
-{
-    cvss_override_reason(text, length, "MSI:S/CR:H", 10, buffer, MOST);
-}
-
 static const Call calls[] = {
-    {"cvss_version", make_version},     {"cvss_scores", make_scores},
-    {"cvss_canonical", make_canonical}, {"cvss_read", make_read},
-    {"cvss_metrics", make_metrics},     {"cvss_without_undefined", make_without},
-    {"cvss_find", make_find},           {"cvss_overridden", make_overridden},
-    {"cvss_reason", make_reason},       {"cvss_refusal_kind", make_kind},
-    {"cvss_refusal_metric", make_metric}, {"cvss_answer", make_answer},
-    {"cvss_answers", make_answers},     {"cvss_override_reason", make_objection},
-    {"cvss_record", make_record},       {"cvss_account", make_account},
-    {"cvss_with", make_with},           {"cvss_build", make_build},
-    {"cvss_with_reason", make_with_reason}, {"cvss_build_reason", make_build_reason},
-    {"cvss_refusal_value", make_value}, {"cvss_nomenclature_scores", make_groups},
+    {"cvss_parse", make_parse},         {"cvss_score", make_score},
+    {"cvss_metrics", make_metrics},     {"cvss_values", make_values},
+    {"cvss_with_metrics", make_with},   {"cvss_from_metrics", make_from},
+    {"cvss_without_not_defined", make_without},
+    {"cvss_record", make_record},       {"cvss_explain", make_explain},
+    {"cvss_score_line", make_line},     {"cvss_score_lines", make_lines},
+    {"cvss_find", make_find},           {"cvss_severity", make_severity},
     {"cvss_numbers", make_numbers},     {"cvss_rounded", make_rounded},
-    {"cvss_temporal_with_impact", make_temporal}, {"cvss_score", make_score},
-    {"cvss_values", make_values},
+    {"cvss_temporal_with_impact", make_temporal},
 };
 
 /* Whether no function makes a request over a text, which a newline follows. */
@@ -197,7 +170,7 @@ static bool are_counted(void)
     ssize_t count;
     bool right = counts();
     while ((count = getline(&line, &room, stdin)) > 0 && line[count - 1] == '\n') {
-        bool is_accepted = cvss_refusal_kind(line, (size_t)count - 1) == CVSS_ACCEPTED;
+        bool is_accepted = cvss_metrics(line, (size_t)count - 1, 1, NULL, 0) > 0;
         right &= are_right(line, (size_t)count - 1);
         accepted += is_accepted;
         rejected += !is_accepted;

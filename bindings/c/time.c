@@ -1,4 +1,8 @@
-/* Prints the nanoseconds that a call takes, over the lines of standard input that are accepted. */
+/*
+ * Prints the nanoseconds that a call takes, over the lines of standard input, which are valid vectors.
+ *
+ * usage: time [NAME]    with a name only that call, once over the lines, for a tool that counts instructions
+ */
 #define _POSIX_C_SOURCE 200809L
 #include "cvss.h"
 
@@ -13,75 +17,120 @@ static char *lines[MOST_LINES];
 static size_t lengths[MOST_LINES];
 static size_t count;
 static char buffer[4096];
-static char all[1 << 20], answers[1 << 21];
+static char all[1 << 20], written[1 << 21];
+static CvssError error = CVSS_ERROR_INIT;
 static size_t all_length;
 
-static size_t scores(const char *text, size_t length)
+static size_t parse(const char *text, size_t length)
 {
-    CvssScores scores = {0};
-    return cvss_scores(text, length, &scores) + (size_t)scores.base;
+    CvssVector vector = CVSS_VECTOR_INIT;
+    return cvss_parse(text, length, CVSS_ALLOW_INCOMPLETE, &vector, &error, buffer, sizeof buffer) + (size_t)vector.score;
 }
 
+/* Neither facts nor the error are wanted. */
 static size_t canonical(const char *text, size_t length)
 {
-    return cvss_canonical(text, length, buffer, sizeof buffer);
+    static CvssVector none;
+    static CvssError unwanted;
+    return cvss_parse(text, length, CVSS_ALLOW_INCOMPLETE, &none, &unwanted, buffer, sizeof buffer);
+}
+
+/* The text without its last byte has a value that no metric has. */
+static size_t parse_rejected(const char *text, size_t length)
+{
+    CvssVector vector = CVSS_VECTOR_INIT;
+    return cvss_parse(text, length - 1, CVSS_ALLOW_INCOMPLETE, &vector, &error, buffer, sizeof buffer) + error.quoted_start;
+}
+
+static size_t score(const char *text, size_t length)
+{
+    return (size_t)cvss_score(text, length, CVSS_ALLOW_INCOMPLETE);
 }
 
 static size_t metrics(const char *text, size_t length)
 {
-    CvssMetric told[CVSS_MOST_METRICS];
-    return cvss_metrics(text, length, told, CVSS_MOST_METRICS) + (size_t)told[0].name[0];
+    CvssMetric own[CVSS_MOST_METRICS];
+    return cvss_metrics(text, length, CVSS_ALLOW_INCOMPLETE, own, CVSS_MOST_METRICS) + (size_t)own[0].name[0];
 }
 
-static size_t without_undefined(const char *text, size_t length)
+static size_t values(const char *text, size_t length)
 {
-    return cvss_without_undefined(text, length, buffer, sizeof buffer);
+    CvssValues own = CVSS_VALUES_INIT;
+    return cvss_values(text, length, CVSS_ALLOW_INCOMPLETE, &own) + (size_t)own.score;
 }
 
-/* Overrides that are put into a vector of v4.0. */
-static size_t overridden(const char *text, size_t length)
+/* Two metrics, which a vector of v2 does not have. */
+static size_t with_metrics(const char *text, size_t length)
 {
-    static const char own[] = "MSI:S/CR:H";
-    return cvss_overridden(text, length, own, sizeof own - 1, buffer, sizeof buffer);
+    static const char own[] = "MAV:L/CR:H";
+    return cvss_with_metrics(text, length, own, sizeof own - 1, CVSS_ALLOW_INCOMPLETE, &error, buffer, sizeof buffer);
 }
 
-/* The second override is rejected, with a reason; or the vector is not of v4.0. */
-static size_t override_reason(const char *text, size_t length)
+/* The second metric is rejected, with a message. */
+static size_t with_rejected(const char *text, size_t length)
 {
-    static const char own[] = "MSI:S/CR:Q";
-    return cvss_override_reason(text, length, own, sizeof own - 1, buffer, sizeof buffer);
+    static const char own[] = "CR:H/IR:Q";
+    return cvss_with_metrics(text, length, own, sizeof own - 1, CVSS_ALLOW_INCOMPLETE, &error, buffer, sizeof buffer);
+}
+
+static size_t without_not_defined(const char *text, size_t length)
+{
+    return cvss_without_not_defined(text, length, CVSS_ALLOW_INCOMPLETE, &error, buffer, sizeof buffer);
 }
 
 static size_t record(const char *text, size_t length)
 {
-    return cvss_record(text, length, buffer, sizeof buffer);
+    return cvss_record(text, length, CVSS_ALLOW_INCOMPLETE, &error, buffer, sizeof buffer);
 }
 
-static size_t account(const char *text, size_t length)
+static size_t explain(const char *text, size_t length)
 {
-    return cvss_account(text, length, buffer, sizeof buffer);
+    return cvss_explain(text, length, CVSS_ALLOW_INCOMPLETE, &error, buffer, sizeof buffer);
 }
 
-static size_t answer(const char *text, size_t length)
+static size_t find(const char *text, size_t length)
 {
-    return cvss_answer(text, length, buffer, sizeof buffer);
+    CvssMatch match = CVSS_MATCH_INIT;
+    return cvss_find(text, length, &match) + match.length;
+}
+
+static size_t score_line(const char *text, size_t length)
+{
+    return cvss_score_line(text, length, CVSS_ALLOW_INCOMPLETE, buffer, sizeof buffer);
 }
 
 /* All lines in one call, which is made for the first line alone. */
-static size_t many(const char *text, size_t length)
+static size_t score_lines(const char *text, size_t length)
 {
     size_t read = length;
     if (text != lines[0])
         return 0;
-    return cvss_answers(all, all_length, answers, sizeof answers, &read) + read;
+    return cvss_score_lines(all, all_length, CVSS_ALLOW_INCOMPLETE, written, sizeof written, &read) + read;
 }
 
+static const struct { const char *name; size_t (*call)(const char *, size_t); } calls[] = {
+    {"cvss_parse", parse},
+    {"cvss_parse, the text alone", canonical},
+    {"cvss_parse, rejected", parse_rejected},
+    {"cvss_score", score},
+    {"cvss_metrics", metrics},
+    {"cvss_values", values},
+    {"cvss_with_metrics", with_metrics},
+    {"cvss_with_metrics, rejected", with_rejected},
+    {"cvss_without_not_defined", without_not_defined},
+    {"cvss_record", record},
+    {"cvss_explain", explain},
+    {"cvss_find", find},
+    {"cvss_score_line", score_line},
+    {"cvss_score_lines", score_lines},
+};
+
 /* Of the rounds the fastest, which other programs on the machine have disturbed least. */
-static void print_time(const char *name, size_t (*call)(const char *, size_t))
+static void print_time(const char *name, size_t (*call)(const char *, size_t), int rounds)
 {
     size_t sum = 0;
     double least = 1e18;
-    for (int round = 0; round < ROUNDS; round++) {
+    for (int round = 0; round < rounds; round++) {
         struct timespec from, to;
         clock_gettime(CLOCK_MONOTONIC, &from);
         for (size_t i = 0; i < count; i++)
@@ -94,36 +143,39 @@ static void print_time(const char *name, size_t (*call)(const char *, size_t))
     printf("C: %s %.0f ns (%zu lines, sum %zu)\n", name, least / (double)count, count, sum);
 }
 
-int main(void)
+/* Reads the lines. Returns whether there is memory for them. */
+static bool read_lines(void)
 {
     char *line = NULL;
     size_t room = 0;
     while (count < MOST_LINES && getline(&line, &room, stdin) >= 0) {
         size_t length = strcspn(line, "\r\n");
-        if (cvss_version(line, length) == CVSS_NOTHING)
-            continue;
         lines[count] = malloc(length + 1);
         if (lines[count] == NULL)
-            return 2;
+            return false;
         memcpy(lines[count], line, length);
         lengths[count++] = length;
         if (all_length + length + 1 > sizeof all)
-            return 2;
+            return false;
         memcpy(all + all_length, line, length);
         all_length += length;
         all[all_length++] = '\n';
     }
-    if (count == 0)
-        return 1;
-    print_time("cvss_scores", scores);
-    print_time("cvss_canonical", canonical);
-    print_time("cvss_metrics", metrics);
-    print_time("cvss_without_undefined", without_undefined);
-    print_time("cvss_overridden", overridden);
-    print_time("cvss_override_reason", override_reason);
-    print_time("cvss_record", record);
-    print_time("cvss_account", account);
-    print_time("cvss_answer", answer);
-    print_time("cvss_answers", many);
-    return 0;
+    free(line);
+    return true;
+}
+
+int main(int words, char **names)
+{
+    const char *only = words > 1 ? names[1] : NULL;
+    int status = 1;
+    if (!read_lines())
+        return 2;
+    for (size_t i = 0; i < sizeof calls / sizeof *calls && count > 0; i++) {
+        if (only != NULL && strcmp(only, calls[i].name) != 0)
+            continue;
+        print_time(calls[i].name, calls[i].call, only == NULL ? ROUNDS : 1);
+        status = 0;
+    }
+    return status;
 }

@@ -12,14 +12,15 @@ int main(int count, char **texts)
 {
     const char *text = count > 1 ? texts[1] : "";
     size_t length = strlen(text);
-    size_t size = cvss_account(text, length, NULL, 0);
-    if (size == 0)
+    CvssError error = CVSS_ERROR_INIT;
+    size_t size = cvss_explain(text, length, 0, &error, NULL, 0);
+    if (error.kind != CVSS_ACCEPTED)
         return 1;
-    char *account = malloc(size);
-    if (account == NULL)
+    char *explanation = malloc(size);
+    if (explanation == NULL)
         return 2;
-    cvss_account(text, length, account, size);
-    printf("%.*s\n", (int)size, account);
-    free(account);
+    cvss_explain(text, length, 0, &error, explanation, size);
+    printf("%.*s\n", (int)size, explanation);
+    free(explanation);
     return fflush(stdout) == 0 ? 0 : 2;
 }

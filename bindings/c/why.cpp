@@ -4,16 +4,17 @@
 #include <iostream>
 #include <string>
 
-static std::string account_of(const std::string &text)
+// The explanation of a vector; if the text is rejected, the message.
+static std::string explain(const std::string &text)
 {
-    std::string account(cvss_account(text.data(), text.size(), nullptr, 0), ' ');
-    cvss_account(text.data(), text.size(), &account[0], account.size());
-    return account;
+    CvssError error = CVSS_ERROR_INIT;
+    std::string written(cvss_explain(text.data(), text.size(), 0, &error, nullptr, 0), ' ');
+    cvss_explain(text.data(), text.size(), 0, &error, &written[0], written.size());
+    return written;
 }
 
 int main()
 {
-    const std::string text = "CVSS:4.0/AV:N/AC:L/AT:N/PR:N/UI:N/VC:L/VI:H/VA:N/SC:N/SI:N/SA:N/E:P";
-    std::cout << account_of(text) << '\n';
+    std::cout << explain("CVSS:4.0/AV:N/AC:L/AT:N/PR:N/UI:N/VC:L/VI:H/VA:N/SC:N/SI:N/SA:N/E:P") << '\n';
     return std::cout.flush() ? 0 : 2;
 }

@@ -31,11 +31,15 @@ static bool has_words(const CvssMetricType *types, size_t count, const CvssMetri
 static int without_words(const char *line, size_t length)
 {
     CvssMetric metrics[CVSS_MOST_METRICS];
-    size_t count, i, own = cvss_metrics(line, length, metrics, CVSS_MOST_METRICS);
-    const CvssMetricType *types = cvss_metric_types(cvss_version(line, length), &count);
+    CvssValues values = CVSS_VALUES_INIT;
+    size_t count, i, own = cvss_metrics(line, length, CVSS_ALLOW_INCOMPLETE, metrics, CVSS_MOST_METRICS);
+    const CvssMetricType *types;
     int missing = 0;
-    if (types == NULL)
+    if (!cvss_values(line, length, CVSS_ALLOW_INCOMPLETE, &values))
         return -1;
+    types = cvss_metric_types(values.version, &count);
+    if (types == NULL)
+        return 1;
     for (i = 0; i < own; i++)
         missing += !has_words(types, count, &metrics[i]);
     return missing;
@@ -51,10 +55,10 @@ static bool has_names(void)
     size_t count = 1;
     return is_name(cvss_version_name(20), "2.0") && is_name(cvss_version_name(30), "3.0")
            && is_name(cvss_version_name(31), "3.1") && is_name(cvss_version_name(40), "4.0")
-           && is_name(cvss_version_name(CVSS_NOTHING), NULL) && is_name(cvss_rating_name(CVSS_NONE), "none")
-           && is_name(cvss_rating_name(CVSS_LOW), "low") && is_name(cvss_rating_name(CVSS_MEDIUM), "medium")
-           && is_name(cvss_rating_name(CVSS_HIGH), "high") && is_name(cvss_rating_name(CVSS_CRITICAL), "critical")
-           && is_name(cvss_rating_name(CVSS_NOTHING), NULL) && is_name(cvss_rating_name(5), NULL)
+           && is_name(cvss_version_name(CVSS_NOTHING), NULL) && is_name(cvss_severity_name(CVSS_NONE), "none")
+           && is_name(cvss_severity_name(CVSS_LOW), "low") && is_name(cvss_severity_name(CVSS_MEDIUM), "medium")
+           && is_name(cvss_severity_name(CVSS_HIGH), "high") && is_name(cvss_severity_name(CVSS_CRITICAL), "critical")
+           && is_name(cvss_severity_name(CVSS_NOTHING), NULL) && is_name(cvss_severity_name(5), NULL)
            && is_name(cvss_nomenclature_name(CVSS_B), "CVSS-B") && is_name(cvss_nomenclature_name(CVSS_BE), "CVSS-BE")
            && is_name(cvss_nomenclature_name(CVSS_BT), "CVSS-BT") && is_name(cvss_nomenclature_name(CVSS_BTE), "CVSS-BTE")
            && is_name(cvss_nomenclature_name(CVSS_NOTHING), NULL) && is_name(cvss_nomenclature_name(4), NULL)

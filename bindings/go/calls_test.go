@@ -9,12 +9,12 @@ import (
 	"strings"
 	"testing"
 
-	"yuntabek.example/cvss"
+	"yuntabek.example/cvss/v2"
 )
 
 var escape = regexp.MustCompile(`\\x(..)`)
 
-// unescaped is a column of a row that bindings/sql/expected.py has written; "-" where there is none.
+// unescaped is a column of a row that bindings/sql/expected.py has written; "-" if there is none.
 func unescaped(column string) string {
 	if column == `\N` {
 		return "-"
@@ -25,26 +25,22 @@ func unescaped(column string) string {
 	})
 }
 
-// outcome is the text of a vector; or the number of the kind of the refusal, the metric and what is quoted.
+// outcome is the text of a vector; or the number of the kind of the error, the metric and what is quoted.
 func outcome(vector cvss.Vector, err error) [2]string {
-	var refused *cvss.RefusedError
-	if !errors.As(err, &refused) {
+	var rejected *cvss.ParseError
+	if !errors.As(err, &rejected) {
 		return [2]string{vector.String(), "-"}
 	}
-	metric := refused.Metric
-	if metric == "" {
-		metric = "-"
-	}
-	return [2]string{"-", fmt.Sprintf("%d %s %s", refused.Kind, metric, refused.Value)}
+	return [2]string{"-", fmt.Sprintf("%d %s %s", rejected.Kind, orDash(rejected.Metric), rejected.Value)}
 }
 
-// metricsOf are the metrics that a text joins; ok is false where one of them has no colon.
+// metricsOf are the metrics that a text joins; ok is false if one of them has no colon.
 func metricsOf(text string) (metrics []cvss.Metric, ok bool) {
 	if text == "" {
 		return nil, true
 	}
-	for _, piece := range strings.Split(text, "/") {
-		name, value, found := strings.Cut(piece, ":")
+	for _, segment := range strings.Split(text, "/") {
+		name, value, found := strings.Cut(segment, ":")
 		if !found {
 			return nil, false
 		}
@@ -53,20 +49,19 @@ func metricsOf(text string) (metrics []cvss.Metric, ok bool) {
 	return metrics, true
 }
 
-func scoresBy(vector cvss.Vector) [4]string {
-	var told [4]string
-	for i, nomenclature := range []cvss.Nomenclature{cvss.B, cvss.BE, cvss.BT, cvss.BTE} {
-		told[i] = "-"
-		if score, ok := vector.NomenclatureScore(nomenclature); ok {
-			told[i] = score.String()
+// completed is the outcome of a vector that has to be complete: the first missing base metric of an incomplete one of v3.
+func completed(own [2]string) [2]string {
+	for _, name := range []string{"AV", "AC", "PR", "UI", "S", "C", "I", "A"} {
+		if strings.HasPrefix(own[0], "CVSS:3") && !strings.Contains(own[0], "/"+name+":") {
+			return [2]string{"-", "7 " + name + " "}
 		}
 	}
-	return told
+	return own
 }
 
-// Metrics that are set, vectors that are built, what reasons quote, and the four scores of v4.0 are those of the second
-// implementation in reference/. The variable CVSS_ROWS names a file with other rows.
-func TestMetricsAreSetAndVectorsBuilt(t *testing.T) {
+// rows are those of bindings/stored/calls, or of the file that the variable CVSS_ROWS names.
+func rows(t *testing.T) [][]string {
+	t.Helper()
 	path := os.Getenv("CVSS_ROWS")
 	if path == "" {
 		path = "../stored/calls"
@@ -75,41 +70,58 @@ func TestMetricsAreSetAndVectorsBuilt(t *testing.T) {
 	if err != nil {
 		t.Fatal(err)
 	}
-	rows, tried := strings.Split(strings.TrimSuffix(string(text), "\n"), "\n"), 0
-	for _, row := range rows {
-		columns := strings.Split(row, "\t")
+	var rows [][]string
+	for _, line := range strings.Split(strings.TrimSuffix(string(text), "\n"), "\n") {
+		columns := strings.Split(line, "\t")
 		for i, column := range columns {
 			columns[i] = unescaped(column)
 		}
-		vector, err := cvss.Parse(columns[0])
-		if metrics, ok := metricsOf(columns[1]); ok {
-			own, refused := vector.WithMetrics(metrics)
+		rows = append(rows, columns)
+	}
+	return rows
+}
+
+// Vectors with other metrics, vectors that are made from metrics, what errors quote, and the four scores of v4.0 are those
+// of the second implementation in reference/.
+func TestCallsHaveTheirResults(t *testing.T) {
+	rows, tried := rows(t), 0
+	for _, row := range rows {
+		vector, err := cvss.ParseIncomplete(row[0])
+		if metrics, ok := metricsOf(row[1]); ok {
+			own, rejected := vector.WithMetrics(metrics)
+			testIndex(t, row[1], metrics, rejected, vector.WithMetrics)
 			if err != nil {
-				refused = err
+				rejected = err
 			}
-			if got := outcome(own, refused); got != [2]string{columns[4], columns[5]} {
-				t.Errorf("%s: %q", row, got)
-			}
-			tried++
-		}
-		if metrics, ok := metricsOf(columns[3]); ok {
-			if got := outcome(cvss.FromMetrics(cvss.Version(columns[2]), metrics)); got != [2]string{columns[6], columns[7]} {
-				t.Errorf("%s: %q", row, got)
+			if got := outcome(own, rejected); got != [2]string{row[4], row[5]} {
+				t.Errorf("%q: %q", row, got)
 			}
 			tried++
 		}
-		if got := outcome(vector, err); got[1] != columns[8] {
-			t.Errorf("%s: %q", row, got)
+		if metrics, ok := metricsOf(row[3]); ok {
+			version := cvss.Version(row[2])
+			expected := [2]string{row[6], row[7]}
+			own, rejected := cvss.FromMetricsIncomplete(version, metrics)
+			if got := outcome(own, rejected); got != expected {
+				t.Errorf("%q: %q", row, got)
+			}
+			if got := outcome(cvss.FromMetrics(version, metrics)); got != completed(expected) {
+				t.Errorf("%q: %q", row, got)
+			}
+			tried++
 		}
-		strict := "-"
-		if _, err := cvss.ParseComplete(columns[0]); err != nil {
-			strict = err.Error()
+		if got := outcome(vector, err); got[1] != row[8] {
+			t.Errorf("%q: %q", row, got)
 		}
-		if strict != columns[9] {
-			t.Errorf("%s: %q", row, strict)
+		message := "-"
+		if _, err := cvss.Parse(row[0]); err != nil {
+			message = err.Error()
 		}
-		if got := scoresBy(vector); strings.Join(got[:], " ") != strings.Join(columns[10:], " ") {
-			t.Errorf("%s: %v", row, got)
+		if message != row[9] {
+			t.Errorf("%q: %q", row, message)
+		}
+		if got := scoresOf(vector)[4:]; strings.Join(got, " ") != strings.Join(row[10:], " ") {
+			t.Errorf("%q: %v", row, got)
 		}
 	}
 	if tried <= len(rows) {
@@ -117,9 +129,26 @@ func TestMetricsAreSetAndVectorsBuilt(t *testing.T) {
 	}
 }
 
-func TestMetricsAreRefusedByWhatIsQuoted(t *testing.T) {
+// The metrics before the index are accepted by themselves, and with the one at the index the error is the same.
+func testIndex(t *testing.T, text string, metrics []cvss.Metric, err error, set func([]cvss.Metric) (cvss.Vector, error)) {
+	t.Helper()
+	var rejected *cvss.ParseError
+	if !errors.As(err, &rejected) || rejected.Index < 0 {
+		return
+	}
+	if _, before := set(metrics[:rejected.Index]); before != nil {
+		t.Errorf("%q: %v, and not from %d on", text, before, rejected.Index)
+	}
+	if _, own := set(metrics[:rejected.Index+1]); own == nil || own.Error() != err.Error() {
+		t.Errorf("%q: %v at %d", text, own, rejected.Index)
+	}
+}
+
+func TestMetricsAreRejectedWithWhatIsQuoted(t *testing.T) {
 	vector := parsed(t, stored)
-	for _, metric := range []cvss.Metric{{Name: "E", Value: "A/RC:C"}, {Name: "E/RC:C/E", Value: "A"}, {Name: "/", Value: ""}} {
+	for _, metric := range []cvss.Metric{
+		{Name: "E", Value: "P/RC:C"}, {Name: "E", Value: "A/RC:C"}, {Name: "E/RC:C/E", Value: "A"}, {Name: "/", Value: ""},
+	} {
 		component := metric.Name + ":" + metric.Value
 		if got := outcome(vector.WithMetrics([]cvss.Metric{metric})); got[1] != "1 - "+component {
 			t.Errorf("%s: %q", component, got)
@@ -127,8 +156,12 @@ func TestMetricsAreRefusedByWhatIsQuoted(t *testing.T) {
 		if got := outcome(cvss.FromMetrics(cvss.V31, []cvss.Metric{metric})); got[1] != "1 - "+component {
 			t.Errorf("%s: %q", component, got)
 		}
+		_, err := vector.WithMetrics([]cvss.Metric{{Name: "RL", Value: "O"}, metric, {Name: "E", Value: "Q"}})
+		if err.Error() != "invalid CVSS metric group component: `"+component+"`" || err.(*cvss.ParseError).Index != 1 {
+			t.Errorf("%#v", err)
+		}
 	}
-	for _, quoted := range []string{"`", "A`B", "``", "A\n`"} {
+	for _, quoted := range []string{"`", "A`B", "``", "A\n`", strings.Repeat("`", 3000)} {
 		if got := outcome(vector.WithMetrics([]cvss.Metric{{Name: "E", Value: quoted}})); got[1] != "5 E "+quoted {
 			t.Errorf("%q: %q", quoted, got)
 		}
@@ -138,8 +171,72 @@ func TestMetricsAreRefusedByWhatIsQuoted(t *testing.T) {
 	}
 }
 
+func TestTheFirstRejectedMetricHasItsIndex(t *testing.T) {
+	vector := parsed(t, stored)
+	for _, row := range []struct {
+		metrics string
+		kind    cvss.Kind
+		metric  string
+		index   int
+	}{
+		{"E:P/XX:N/RC:Q", cvss.UnknownMetric, "", 1}, {"E:P/RL:O/RC:Q/XX:N", cvss.InvalidValue, "RC", 2},
+		{"AV:Q", cvss.InvalidValue, "AV", 0}, {"E:P/e:u", cvss.DuplicateMetric, "E", 1},
+		{"E:P/RL:O:O", cvss.InvalidComponent, "", 1}, {"E:P/RL:\xff", cvss.NotUTF8, "", -1},
+	} {
+		metrics, _ := metricsOf(row.metrics)
+		for name, call := range map[string]func([]cvss.Metric) (cvss.Vector, error){
+			"WithMetrics": vector.WithMetrics,
+			"FromMetrics": func(metrics []cvss.Metric) (cvss.Vector, error) { return cvss.FromMetrics(cvss.V31, metrics) },
+		} {
+			_, err := call(metrics)
+			var rejected *cvss.ParseError
+			if !errors.As(err, &rejected) || rejected.Kind != row.kind || rejected.Metric != row.metric || rejected.Index != row.index {
+				t.Errorf("%s of %s: %#v", name, row.metrics, err)
+			}
+		}
+	}
+	_, err := cvss.FromMetrics(cvss.V40, []cvss.Metric{{Name: "AV", Value: "N"}})
+	var rejected *cvss.ParseError
+	if !errors.As(err, &rejected) || rejected.Kind != cvss.MissingMetric || rejected.Metric != "AC" || rejected.Index != -1 {
+		t.Errorf("%#v", err)
+	}
+}
+
+// Names and values of v3 and v4.0 are in any ASCII case. A metric of any version that is there twice is rejected.
+func TestMetricsAreSetInAnyCase(t *testing.T) {
+	for _, row := range []struct{ text, metric, expected string }{
+		{"AV:N/AC:L/Au:N/C:N/I:N/A:C/TD:L", "TD:H", "/TD:H"},
+		{stored[:5] + "3.0" + stored[8:] + "/MAV:L", "mav:p", "/MAV:P"},
+		{stored + "/CR:L", "Cr:h", "/CR:H"},
+		{"CVSS:4.0/AV:N/AC:L/AT:N/PR:N/UI:N/VC:L/VI:L/VA:L/SC:N/SI:N/SA:N/MSI:L", "msi:s", "/MSI:S"},
+	} {
+		vector := parsed(t, row.text)
+		metrics, _ := metricsOf(row.metric)
+		own, err := vector.WithMetrics(metrics)
+		if err != nil || own.String() != row.text[:strings.LastIndex(row.text, "/")]+row.expected {
+			t.Errorf("%s: %v, %v", row.text, own, err)
+		}
+		twice, _ := metricsOf(row.metric + row.expected)
+		if got := outcome(vector.WithMetrics(twice)); !strings.HasPrefix(got[1], "6 ") {
+			t.Errorf("%s: %q", row.text, got)
+		}
+		for _, metric := range []cvss.Metric{{Name: "M\u017f", Value: "U"}, {Name: "", Value: ""}} {
+			if got := outcome(vector.WithMetrics([]cvss.Metric{metric})); !strings.HasPrefix(got[1], "4 ") {
+				t.Errorf("%v: %q", metric, got)
+			}
+		}
+	}
+	vector := parsed(t, "AV:N/AC:L/Au:N/C:N/I:N/A:C")
+	if got := outcome(vector.WithMetrics([]cvss.Metric{{Name: "td", Value: "h"}})); got[1] != "4 - td" {
+		t.Errorf("%q", got)
+	}
+	if got := outcome(parsed(t, stored).WithMetrics([]cvss.Metric{{Name: "CR", Value: "Q"}})); got[1] != "5 CR Q" {
+		t.Errorf("%q", got)
+	}
+}
+
 // The bounds are those of the table in section 5 of the v3.1 specification, and of NVD for v2.
-func TestScoresAreRated(t *testing.T) {
+func TestScoresHaveSeverities(t *testing.T) {
 	for tenths := 0; tenths <= 100; tenths++ {
 		score := cvss.Score(float64(tenths) / 10)
 		v2, v3 := cvss.Low, cvss.None

@@ -3,6 +3,14 @@
 package cvss
 
 // #include "library.h"
+// static bool numbers(int32_t version, _GoString_ metrics, CvssNumbers *numbers)
+// {
+//     return cvss_numbers(version, _GoStringPtr(metrics), _GoStringLen(metrics), numbers);
+// }
+// static bool temporal_with_impact(_GoString_ metrics, const CvssNumber *impact, int32_t *tenths)
+// {
+//     return cvss_temporal_with_impact(_GoStringPtr(metrics), _GoStringLen(metrics), impact, tenths);
+// }
 import "C"
 
 import (
@@ -25,28 +33,22 @@ type Numbers struct {
 }
 
 // NumbersOf are those of the vector of V20, V30 or V31 with these metrics, in any order. Any metric may be missing; a
-// missing base metric weighs nothing. The error is a *RefusedError, and for V40 one of kind UnsupportedVersion.
+// missing base metric has no weight. The error is a *ParseError, and for V40 one of kind UnsupportedVersion.
 func NumbersOf(version Version, metrics []Metric) (Numbers, error) {
-	own, err := joined(metrics)
-	if err != nil {
-		return Numbers{}, err
-	}
-	given, length := bytesOf(own)
-	var numbers C.CvssNumbers
-	if !C.cvss_numbers(numberOf(version), pointer(given), length, &numbers) {
-		return Numbers{}, componentRefusal(version, metrics)
+	own := C.CvssNumbers{size: C.sizeof_CvssNumbers}
+	if !C.numbers(numberOf(version), componentsOf(metrics), &own) {
+		return Numbers{}, metricError(version, metrics)
 	}
 	return Numbers{
-		scoreOf(float64(numbers.base)), scoreOf(float64(numbers.temporal)), scoreOf(float64(numbers.environmental)),
-		ratOf(numbers.impact), ratOf(numbers.exploitability), ratOf(numbers.adjusted_impact),
+		scoreOf(int(own.base)), scoreOf(int(own.temporal)), scoreOf(int(own.environmental)),
+		ratOf(own.impact), ratOf(own.exploitability), ratOf(own.adjusted_impact),
 	}, nil
 }
 
-// componentRefusal is why the library takes none of the metrics.
-func componentRefusal(version Version, metrics []Metric) error {
-	if number := numberOf(version); number == 0 || version == V40 {
-		name := string(version)
-		return &RefusedError{UnsupportedVersion, "", name, "unsupported CVSS version: " + name}
+// metricError is why metrics have no numbers in a version.
+func metricError(version Version, metrics []Metric) error {
+	if numberOf(version) == 0 || version == V40 {
+		return unsupported(version)
 	}
 	_, err := FromMetrics(version, metrics)
 	return err
@@ -72,10 +74,6 @@ func Rounded(number *big.Rat, version Version) (*big.Rat, error) {
 // TemporalWithImpact is the temporal score of the vector of V20 with these metrics, as of NumbersOf, and with an impact in
 // place of its own. It may be below 0. An impact that is nil, or a million or more from 0, is an error.
 func TemporalWithImpact(metrics []Metric, impact *big.Rat) (*big.Rat, error) {
-	text, err := joined(metrics)
-	if err != nil {
-		return nil, err
-	}
 	if impact == nil {
 		return nil, errors.New("cvss: there is no impact: the *big.Rat is nil")
 	}
@@ -83,10 +81,9 @@ func TemporalWithImpact(metrics []Metric, impact *big.Rat) (*big.Rat, error) {
 	if !ok {
 		return nil, errors.New("cvss: an impact is a number less than a million from 0")
 	}
-	given, length := bytesOf(text)
 	var tenths C.int32_t
-	if !C.cvss_temporal_with_impact(pointer(given), length, &own, &tenths) {
-		return nil, componentRefusal(V20, metrics)
+	if !C.temporal_with_impact(componentsOf(metrics), &own, &tenths) {
+		return nil, metricError(V20, metrics)
 	}
 	return big.NewRat(int64(tenths), 10), nil
 }
@@ -96,7 +93,7 @@ func ratOf(number C.CvssNumber) *big.Rat {
 	return new(big.Rat).SetFrac(count.Add(count, big.NewInt(int64(number.rest))), units)
 }
 
-// numberFrom is the library's number for a number, whose decimals behind the 24th are cut off. One that is a million or more
+// numberFrom is the library's number for a number, whose decimals after the 24th are cut off. One that is a million or more
 // from 0 has none.
 func numberFrom(number *big.Rat) (own C.CvssNumber, ok bool) {
 	count := new(big.Int).Mul(number.Num(), units)

@@ -7,7 +7,7 @@ import (
 	"math/big"
 	"testing"
 
-	"yuntabek.example/cvss"
+	"yuntabek.example/cvss/v2"
 )
 
 func rat(text string) *big.Rat {
@@ -20,28 +20,32 @@ func rat(text string) *big.Rat {
 
 func TestVectorsNeedNotBeCompleteForTheirNumbers(t *testing.T) {
 	metrics := []cvss.Metric{{"C", "P"}, {"I", "P"}, {"A", "P"}, {"CR", "H"}, {"IR", "H"}, {"AR", "H"}}
-	told, err := cvss.NumbersOf(cvss.V20, metrics)
-	if err != nil || told.Base != 2.8 || told.Environmental != 4.1 || told.Exploitability.Sign() != 0 {
-		t.Error(told, err)
+	numbers, err := cvss.NumbersOf(cvss.V20, metrics)
+	if err != nil || numbers.Base != 2.8 || numbers.Environmental != 4.1 || numbers.Exploitability.Sign() != 0 {
+		t.Error(numbers, err)
 	}
-	if told.Impact.Cmp(rat("6.44297671875")) != 0 || told.AdjustedImpact.Cmp(rat("8.32857186375328125")) != 0 {
-		t.Error(told)
+	if numbers.Impact.Cmp(rat("6.44297671875")) != 0 || numbers.AdjustedImpact.Cmp(rat("8.32857186375328125")) != 0 {
+		t.Error(numbers)
 	}
 	vector := parsed(t, "AV:N/AC:L/Au:N/C:N/I:N/A:C")
-	if told, err := cvss.NumbersOf(vector.Version(), vector.Metrics()); err != nil || told.Impact.Cmp(rat("6.8706")) != 0 {
-		t.Error(told, err)
+	if numbers, err := cvss.NumbersOf(vector.Version(), vector.Metrics()); err != nil || numbers.Impact.Cmp(rat("6.8706")) != 0 {
+		t.Error(numbers, err)
 	}
-	if told, err := cvss.NumbersOf(cvss.V31, nil); err != nil || told.Base != 0 || told.Impact.Sign() != 0 {
-		t.Error(told, err)
+	if numbers, err := cvss.NumbersOf(cvss.V31, nil); err != nil || numbers.Base != 0 || numbers.Impact.Sign() != 0 {
+		t.Error(numbers, err)
 	}
-	var refused *cvss.RefusedError
+	var rejected *cvss.ParseError
 	for _, version := range []cvss.Version{cvss.V40, "5.0"} {
-		if _, err := cvss.NumbersOf(version, nil); !errors.As(err, &refused) || refused.Kind != cvss.UnsupportedVersion {
+		if _, err := cvss.NumbersOf(version, nil); !errors.As(err, &rejected) || rejected.Kind != cvss.UnsupportedVersion {
 			t.Error(version, err)
 		}
 	}
 	_, err = cvss.NumbersOf(cvss.V20, []cvss.Metric{{"AV", "Q"}})
-	if !errors.As(err, &refused) || refused.Kind != cvss.InvalidValue || refused.Metric != "AV" {
+	if !errors.As(err, &rejected) || rejected.Kind != cvss.InvalidValue || rejected.Metric != "AV" || rejected.Index != 0 {
+		t.Error(err)
+	}
+	_, err = cvss.NumbersOf(cvss.V31, []cvss.Metric{{"AV", "N"}, {"AC", "L/PR:N"}})
+	if !errors.As(err, &rejected) || rejected.Kind != cvss.InvalidComponent || rejected.Index != 1 || rejected.Value != "AC:L/PR:N" {
 		t.Error(err)
 	}
 }

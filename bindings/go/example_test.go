@@ -5,7 +5,7 @@ import (
 	"errors"
 	"fmt"
 
-	"yuntabek.example/cvss"
+	"yuntabek.example/cvss/v2"
 )
 
 func Example() {
@@ -16,36 +16,53 @@ func Example() {
 	}
 	fmt.Println(vector, vector.Score(), vector.Severity())
 	_, err = cvss.Parse("CVSS:3.1/AV:Q")
-	var refused *cvss.RefusedError
-	if errors.As(err, &refused) {
-		fmt.Println(refused.Metric, refused)
+	var rejected *cvss.ParseError
+	if errors.As(err, &rejected) {
+		fmt.Println(rejected.Metric, rejected)
 	}
 	// Output:
 	// CVSS:3.1/AV:N/AC:L/PR:N/UI:N/S:U/C:H/I:H/A:H 9.8 critical
 	// AV invalid CVSSv3 AV (Attack Vector) metric: `Q`
 }
 
-func ExampleVector_Account() {
+func ExampleParseIncomplete() {
+	_, err := cvss.Parse("CVSS:3.1/AV:N/AC:L/PR:N/UI:N/S:U/C:H")
+	fmt.Println(err)
+	vector, err := cvss.ParseIncomplete("CVSS:3.1/AV:N/AC:L/PR:N/UI:N/S:U/C:H")
+	fmt.Println(vector.Score(), vector.IsComplete(), err)
+	// Output:
+	// missing mandatory CVSSv3 I (Integrity Impact) metric
+	// 7.5 false <nil>
+}
+
+func ExampleVector_Score() {
+	vector, err := cvss.Parse("CVSS:3.1/AV:N/AC:L/PR:N/UI:N/S:U/C:H/I:H/A:H/E:U/RL:O/RC:C")
+	fmt.Println(vector.Score(), vector.BaseScore(), err)
+	// Output:
+	// 8.5 9.8 <nil>
+}
+
+func ExampleVector_Explain() {
 	vector, err := cvss.Parse("CVSS:4.0/AV:N/AC:L/AT:N/PR:N/UI:N/VC:L/VI:H/VA:N/SC:N/SI:N/SA:N/E:P")
 	if err != nil {
 		fmt.Println(err)
 		return
 	}
-	var account struct {
+	var explanation struct {
 		MacroVector  string
 		Value        float64
 		Mean, Number float64
 		Score        float64
 		Groups       []struct {
 			Group string
-			Taken *float64
+			Share *float64
 		}
 	}
-	err = json.Unmarshal(vector.Account(), &account)
-	fmt.Println(account.MacroVector, account.Value, account.Mean, account.Number, account.Score, err)
-	for _, group := range account.Groups {
-		if group.Taken != nil {
-			fmt.Println(group.Group, *group.Taken)
+	err = json.Unmarshal(vector.Explain(), &explanation)
+	fmt.Println(explanation.MacroVector, explanation.Value, explanation.Mean, explanation.Number, explanation.Score, err)
+	for _, group := range explanation.Groups {
+		if group.Share != nil {
+			fmt.Println(group.Group, *group.Share)
 		}
 	}
 	// Output:

@@ -1,3 +1,3 @@
-module yuntabek.example/cvss
+module yuntabek.example/cvss/v2
 
 go 1.19

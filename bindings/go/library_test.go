@@ -39,14 +39,14 @@ func TestABuildWithoutTheLibrarySaysWhereItIs(t *testing.T) {
 	for _, with := range [][]string{nil, {"cvss.h"}, libraries} {
 		build := exec.Command("go", "build", ".")
 		build.Dir = copyOf(t, with...)
-		told, err := build.CombinedOutput()
-		if err == nil || !strings.Contains(string(told), "share/yuntabek/go of the unpacked archive in dist/, or run bindings/build") {
-			t.Errorf("%v: %v: %s", with, err, told)
+		output, err := build.CombinedOutput()
+		if err == nil || !strings.Contains(string(output), "share/yuntabek/go of the unpacked archive in dist/, or run bindings/build") {
+			t.Errorf("%v: %v: %s", with, err, output)
 		}
 	}
 	build := exec.Command("go", "build", ".")
 	build.Dir = copyOf(t, append(libraries, "cvss.h")...)
-	if told, err := build.CombinedOutput(); err != nil {
-		t.Errorf("%v: %s", err, told)
+	if output, err := build.CombinedOutput(); err != nil {
+		t.Errorf("%v: %s", err, output)
 	}
 }

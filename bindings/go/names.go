@@ -2,6 +2,9 @@
 
 package cvss
 
+// #include "library.h"
+import "C"
+
 import (
 	"database/sql/driver"
 	"fmt"
@@ -11,7 +14,7 @@ import (
 // A Version is a version of the standard.
 type Version string
 
-// The versions that are read.
+// The versions that are parsed.
 const (
 	V20 Version = "2.0"
 	V30 Version = "3.0"
@@ -19,10 +22,10 @@ const (
 	V40 Version = "4.0"
 )
 
-// A Nomenclature says which groups of metrics a score of v4.0 rests on, such as CVSS-BTE; it is empty in v2 and v3.
+// A Nomenclature says which groups of metrics a v4.0 score counts, such as CVSS-BTE; it is empty in v2 and v3.
 type Nomenclature string
 
-// The nomenclatures: the score rests on the base metrics, and on environmental (E) or threat metrics (T) that are there.
+// The nomenclatures: the score counts the base metrics, and environmental (E) or threat metrics (T) if there are any.
 const (
 	B   Nomenclature = "CVSS-B"
 	BE  Nomenclature = "CVSS-BE"
@@ -30,10 +33,10 @@ const (
 	BTE Nomenclature = "CVSS-BTE"
 )
 
-// A Severity is a qualitative severity rating. The greater is the more severe.
+// A Severity is how severe a score is, in one word. The greater is the more severe.
 type Severity int
 
-// The ratings. A score of v2 is rated by the middle three alone.
+// The severities. A v2 score has only the middle three.
 const (
 	None Severity = iota
 	Low
@@ -70,13 +73,44 @@ func valuesOf[Value comparable](words map[Value]string) []Value {
 	return values
 }
 
+// numberOf is the library's number of a version, and 0 of what is none.
+func numberOf(version Version) C.int32_t {
+	switch version {
+	case V20:
+		return 20
+	case V30:
+		return 30
+	case V31:
+		return 31
+	case V40:
+		return 40
+	}
+	return 0
+}
+
+// versionOf is the version of one of the library's numbers.
+func versionOf(number C.int32_t) Version {
+	switch number {
+	case 20:
+		return V20
+	case 30:
+		return V30
+	case 31:
+		return V31
+	}
+	return V40
+}
+
+// nomenclatureOf is the nomenclature of one of the library's numbers.
+func nomenclatureOf(number C.int32_t) Nomenclature { return nomenclatures[1+number] }
+
 // String is the version, such as 3.1.
 func (v Version) String() string { return string(v) }
 
 // String is the nomenclature, such as CVSS-BTE.
 func (n Nomenclature) String() string { return string(n) }
 
-// String is the rating in lower case.
+// String is the severity in lower case.
 func (s Severity) String() string { return wordOf(severityWords, s) }
 
 // String is the kind in words, such as invalid value.
@@ -93,12 +127,23 @@ func wordOf[Value ~int](words map[Value]string, value Value) string {
 // valueOf sets the value of an enumeration that a word names in any ASCII case.
 func valueOf[Value fmt.Stringer](target *Value, values []Value, word string) error {
 	for _, value := range values {
-		if raised(value.String()) == raised(word) {
+		if upper(value.String()) == upper(word) {
 			*target = value
 			return nil
 		}
 	}
 	return fmt.Errorf("%q is no %T", word, *target)
+}
+
+// upper is a text with its ASCII letters in upper case.
+func upper(text string) string {
+	bytes := []byte(text)
+	for i, letter := range bytes {
+		if 'a' <= letter && letter <= 'z' {
+			bytes[i] = letter - 'a' + 'A'
+		}
+	}
+	return string(bytes)
 }
 
 // marshalled is the word for a value of an enumeration, or an error if it has none.

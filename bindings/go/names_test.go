@@ -9,7 +9,7 @@ import (
 	"strings"
 	"testing"
 
-	"yuntabek.example/cvss"
+	"yuntabek.example/cvss/v2"
 )
 
 // The types whose values are words.

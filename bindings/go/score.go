@@ -27,26 +27,26 @@ func (s Score) Value() float64 { return float64(s) }
 // String is the score with one decimal.
 func (s Score) String() string { return strconv.FormatFloat(float64(s), 'f', 1, 64) }
 
-// Severity is the rating of the score by the bounds of a version, which V30, V31 and V40 share. If the number is no
+// Severity is the severity of the score by the bounds of a version, which V30, V31 and V40 share. If the number is no
 // score, or the version unknown, ok is false.
 func (s Score) Severity(version Version) (severity Severity, ok bool) {
 	var own Score
 	if own.set(float64(s)) != nil {
 		return None, false
 	}
-	rating := C.cvss_rating(numberOf(version), C.int32_t(own.Tenths()))
-	if rating == C.CVSS_NOTHING {
+	number := C.cvss_severity(numberOf(version), C.int32_t(own.Tenths()))
+	if number == C.CVSS_NOTHING {
 		return None, false
 	}
-	return Severity(rating), true
+	return Severity(number), true
 }
 
 // scoreOf is the score of a number of tenths.
-func scoreOf(tenths float64) Score { return Score(tenths / 10) }
+func scoreOf(tenths int) Score { return Score(float64(tenths) / 10) }
 
 // set sets the score that a number is, which may have been a float32.
 func (s *Score) set(number float64) error {
-	score := scoreOf(math.Abs(math.Round(number * 10)))
+	score := Score(math.Abs(math.Round(number*10)) / 10)
 	if !(score <= 10) || float32(score) != float32(number) {
 		return fmt.Errorf("%v is no CVSS score: a score is a number from 0 to 10 with at most one decimal", number)
 	}

@@ -8,7 +8,7 @@ import (
 	"strings"
 	"testing"
 
-	"yuntabek.example/cvss"
+	"yuntabek.example/cvss/v2"
 )
 
 var _ sql.Scanner = new(cvss.Score)

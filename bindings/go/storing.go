@@ -8,11 +8,12 @@ import (
 )
 
 // MarshalText is the canonical text, and empty for the zero Vector: so vectors are strings in JSON and other text
-// formats.
+// formats. It writes an incomplete vector too, which UnmarshalText rejects.
 func (v Vector) MarshalText() ([]byte, error) { return []byte(v.text), nil }
 
-// UnmarshalText reads a vector as Parse does; an empty text is the zero Vector. If the text is rejected, by a
-// *RefusedError, the vector keeps its value.
+// UnmarshalText parses a vector as Parse does, so it rejects a v3 vector that lacks base metrics; an empty text is the
+// zero Vector. If the text is rejected, by a *ParseError, the vector keeps its value. To accept incomplete vectors,
+// unmarshal a string and give it to ParseIncomplete.
 func (v *Vector) UnmarshalText(text []byte) error {
 	if len(text) == 0 {
 		*v = Vector{}
@@ -40,7 +41,8 @@ func (v Vector) Value() (driver.Value, error) {
 	return v.text, nil
 }
 
-// Scan reads what a database has kept: a text as UnmarshalText does, and NULL as the zero Vector.
+// Scan reads what a database has kept: a text as UnmarshalText does, and NULL as the zero Vector. To accept incomplete
+// vectors, scan a string and give it to ParseIncomplete.
 func (v *Vector) Scan(stored any) error {
 	switch stored := stored.(type) {
 	case nil:

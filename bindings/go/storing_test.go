@@ -14,7 +14,7 @@ import (
 	"testing"
 	"time"
 
-	"yuntabek.example/cvss"
+	"yuntabek.example/cvss/v2"
 )
 
 var (
@@ -38,8 +38,8 @@ func parsed(t *testing.T, text string) cvss.Vector {
 	return vector
 }
 
-// Parse returns the zero Vector beside an error.
-func TestEveryMethodOfTheZeroVectorAnswers(t *testing.T) {
+// Parse returns the zero Vector with an error.
+func TestEveryMethodOfTheZeroVectorCanBeCalled(t *testing.T) {
 	var zero cvss.Vector
 	if !zero.IsZero() || parsed(t, stored).IsZero() {
 		t.Error("IsZero")
@@ -47,32 +47,20 @@ func TestEveryMethodOfTheZeroVectorAnswers(t *testing.T) {
 	if zero.String() != "" || zero.Version() != "" || zero.Nomenclature() != "" || zero.IsComplete() {
 		t.Errorf("%q %q %q", zero.String(), zero.Version(), zero.Nomenclature())
 	}
-	if zero.Score() != 0 || zero.Severity() != cvss.None {
-		t.Errorf("%v %v", zero.Score(), zero.Severity())
-	}
-	if _, _, ok := zero.Temporal(); ok {
-		t.Error("a temporal score")
-	}
-	if _, _, ok := zero.Environmental(); ok {
-		t.Error("an environmental score")
+	if got := strings.Join(scoresOf(zero), " "); got != "0.0 none 0.0 none - - - - - - - -" {
+		t.Errorf("%q", got)
 	}
 	if len(zero.Metrics()) != 0 || len(zero.Described()) != 0 {
 		t.Errorf("%v %v", zero.Metrics(), zero.Described())
 	}
-	if _, ok := zero.NomenclatureScore(cvss.B); ok {
-		t.Error("a score of CVSS-B")
-	}
-	if own, err := zero.WithMetrics([]cvss.Metric{{Name: "E", Value: "A"}}); err == nil || own != zero {
-		t.Errorf("%v, %v", own, err)
-	}
-	if len(zero.Record()) != 0 || len(zero.Account()) != 0 || zero.WithoutUndefined() != zero {
-		t.Errorf("%v %s %v", zero.Metrics(), zero.Record(), zero.WithoutUndefined())
-	}
-	for _, overrides := range [][]cvss.Metric{nil, {{Name: "CR", Value: "H"}}} {
-		var refused *cvss.RefusedError
-		if own, err := zero.WithOverrides(overrides); !errors.As(err, &refused) || own != zero {
-			t.Errorf("%v: %v, %v", overrides, own, err)
+	for _, metrics := range [][]cvss.Metric{nil, {{Name: "E", Value: "A"}}, {{Name: "CR", Value: "H"}}} {
+		var rejected *cvss.ParseError
+		if own, err := zero.WithMetrics(metrics); !errors.As(err, &rejected) || own != zero {
+			t.Errorf("%v: %v, %v", metrics, own, err)
 		}
+	}
+	if len(zero.Record()) != 0 || len(zero.Explain()) != 0 || zero.WithoutNotDefined() != zero {
+		t.Errorf("%s %s %v", zero.Explain(), zero.Record(), zero.WithoutNotDefined())
 	}
 	if text, err := zero.MarshalText(); len(text) != 0 || err != nil {
 		t.Errorf("%q, %v", text, err)
@@ -116,12 +104,12 @@ func TestVectorsAreJSONStrings(t *testing.T) {
 		}
 	}
 	var back advisory
-	err := json.Unmarshal([]byte(`{"Vector":"CVSS:3.1/a:h/av:n"}`), &back)
-	if err != nil || back.Vector.String() != "CVSS:3.1/AV:N/A:H" {
+	err := json.Unmarshal([]byte(`{"Vector":"`+stored[:8]+strings.ToLower(stored[8:])+`"}`), &back)
+	if err != nil || back.Vector.String() != stored {
 		t.Errorf("%v, %v", back, err)
 	}
-	var refused *cvss.RefusedError
-	if err := json.Unmarshal([]byte(`{"Vector":"AV:Q"}`), &back); !errors.As(err, &refused) || back.Vector.IsZero() {
+	var rejected *cvss.ParseError
+	if err := json.Unmarshal([]byte(`{"Vector":"AV:Q"}`), &back); !errors.As(err, &rejected) || back.Vector.IsZero() {
 		t.Errorf("%v, %v", back, err)
 	}
 }
@@ -174,8 +162,8 @@ func TestAGobIsReadAnew(t *testing.T) {
 	if err != nil || back != vector || back.Score() != 9.8 {
 		t.Errorf("%v, %v", back, err)
 	}
-	var refused *cvss.RefusedError
-	if err := back.UnmarshalBinary([]byte("AV:\xff")); !errors.As(err, &refused) || refused.Kind != cvss.NotUTF8 {
+	var rejected *cvss.ParseError
+	if err := back.UnmarshalBinary([]byte("AV:\xff")); !errors.As(err, &rejected) || rejected.Kind != cvss.NotUTF8 {
 		t.Error(err)
 	}
 	if back != vector {
@@ -207,7 +195,7 @@ func TestVectorsAreStored(t *testing.T) {
 			columns = append(columns, []byte(text))
 		}
 		for _, column := range columns {
-			back := parsed(t, "CVSS:3.0/AV:P")
+			back := parsed(t, "AV:L/AC:H/Au:M/C:N/I:N/A:P")
 			if err := back.Scan(column); err != nil || back != vector {
 				t.Errorf("%v: %v, %v", column, back, err)
 			}
@@ -223,11 +211,49 @@ func TestWhatIsNoTextIsNotScanned(t *testing.T) {
 			t.Errorf("%v: %v", column, err)
 		}
 	}
-	var refused *cvss.RefusedError
-	if err := vector.Scan("AV:Q"); !errors.As(err, &refused) {
+	var rejected *cvss.ParseError
+	if err := vector.Scan("AV:Q"); !errors.As(err, &rejected) {
 		t.Errorf("%v", err)
 	}
 	if vector != parsed(t, stored) {
 		t.Errorf("%v", vector)
+	}
+}
+
+// An incomplete vector is written, but not read back: the text is for ParseIncomplete.
+func TestIncompleteVectorsAreNotReadBack(t *testing.T) {
+	const text = "CVSS:3.1/AV:N/C:H"
+	incomplete, err := cvss.ParseIncomplete(text)
+	if err != nil {
+		t.Fatal(err)
+	}
+	code, err := json.Marshal(incomplete)
+	if err != nil || string(code) != `"`+text+`"` {
+		t.Errorf("%s, %v", code, err)
+	}
+	column, err := incomplete.Value()
+	if err != nil || column != text {
+		t.Errorf("%v, %v", column, err)
+	}
+	back := parsed(t, stored)
+	for name, err := range map[string]error{
+		"JSON":   json.Unmarshal(code, &back),
+		"text":   back.UnmarshalText([]byte(text)),
+		"binary": back.UnmarshalBinary([]byte(text)),
+		"gob":    gob.NewDecoder(bytes.NewReader(encoded(t, incomplete))).Decode(&back),
+		"string": back.Scan(text),
+		"bytes":  back.Scan([]byte(text)),
+	} {
+		var rejected *cvss.ParseError
+		if !errors.As(err, &rejected) || rejected.Kind != cvss.MissingMetric || rejected.Metric != "AC" || back != parsed(t, stored) {
+			t.Errorf("%s: %v, %v", name, back, err)
+		}
+	}
+	var row struct{ Vector string }
+	if err := json.Unmarshal([]byte(`{"Vector":`+string(code)+`}`), &row); err != nil {
+		t.Fatal(err)
+	}
+	if own, err := cvss.ParseIncomplete(row.Vector); err != nil || own != incomplete {
+		t.Errorf("%v, %v", own, err)
 	}
 }

@@ -6,7 +6,7 @@ import (
 	"strings"
 	"testing"
 
-	"yuntabek.example/cvss"
+	"yuntabek.example/cvss/v2"
 )
 
 // The accepted lines of the file that CVSS_LINES names, and their vectors.
@@ -48,14 +48,14 @@ func BenchmarkMetrics(b *testing.B) {
 	timeVectors(b, func(v cvss.Vector) { v.Metrics() })
 }
 
-func BenchmarkWithoutUndefined(b *testing.B) {
-	timeVectors(b, func(v cvss.Vector) { v.WithoutUndefined() })
+func BenchmarkWithoutNotDefined(b *testing.B) {
+	timeVectors(b, func(v cvss.Vector) { v.WithoutNotDefined() })
 }
 
-func BenchmarkWithOverrides(b *testing.B) {
-	overrides := []cvss.Metric{{Name: "CR", Value: "H"}, {Name: "AR", Value: "L"}}
+func BenchmarkWithMetrics(b *testing.B) {
+	metrics := []cvss.Metric{{Name: "CR", Value: "H"}, {Name: "AR", Value: "L"}}
 	timeVectors(b, func(v cvss.Vector) {
-		if _, err := v.WithOverrides(overrides); err != nil {
+		if _, err := v.WithMetrics(metrics); err != nil {
 			b.Fatal(err)
 		}
 	})
@@ -65,26 +65,34 @@ func BenchmarkRecord(b *testing.B) {
 	timeVectors(b, func(v cvss.Vector) { v.Record() })
 }
 
-func BenchmarkAccount(b *testing.B) {
-	timeVectors(b, func(v cvss.Vector) { v.Account() })
+func BenchmarkExplain(b *testing.B) {
+	timeVectors(b, func(v cvss.Vector) { v.Explain() })
 }
 
-func BenchmarkAnswer(b *testing.B) {
+func BenchmarkScoreLine(b *testing.B) {
 	lines, _ := timed(b)
 	b.ResetTimer()
 	for i := 0; i < b.N; i++ {
-		cvss.Answer(lines[i%len(lines)])
+		cvss.ScoreLine(lines[i%len(lines)])
 	}
 }
 
 // The time is that of one line.
-func BenchmarkAnswerLines(b *testing.B) {
+func BenchmarkScoreLines(b *testing.B) {
 	lines, _ := timed(b)
 	all := []byte(strings.Join(lines, "\n") + "\n")
 	b.ResetTimer()
 	for i := 0; i < b.N; i += len(lines) {
-		if bytes.Count(cvss.AnswerLines(all), []byte("\n")) != len(lines) {
-			b.Fatal("an answer is missing")
+		if bytes.Count(cvss.ScoreLines(all), []byte("\n")) != len(lines) {
+			b.Fatal("a line is missing")
+		}
+	}
+}
+
+func BenchmarkParseError(b *testing.B) {
+	for i := 0; i < b.N; i++ {
+		if _, err := cvss.Parse("CVSS:3.1/AV:N/AC:L/PR:N/UI:N/S:U/C:H"); err == nil {
+			b.Fatal("an incomplete vector is accepted")
 		}
 	}
 }

@@ -1,30 +1,37 @@
 package cvss
 
 // #include "library.h"
-// static int32_t score_text(_GoString_ text)
+// static int32_t score(_GoString_ text, uint32_t flags)
 // {
-//     return cvss_score(_GoStringPtr(text), _GoStringLen(text));
+//     return cvss_score(_GoStringPtr(text), _GoStringLen(text), flags);
 // }
-// static bool values_text(_GoString_ text, CvssValues *values)
+// static bool values(_GoString_ text, uint32_t flags, CvssValues *values)
 // {
-//     return cvss_values(_GoStringPtr(text), _GoStringLen(text), values);
+//     return cvss_values(_GoStringPtr(text), _GoStringLen(text), flags, values);
 // }
 import "C"
 
 // ScoreOf is the score of a text, as Vector.Score. It is faster than Parse, and computes no other score. If the text is
-// rejected, ok is false. A v3 vector may lack base metrics.
-func ScoreOf(text string) (score Score, ok bool) {
-	tenths := C.score_text(text)
+// rejected, ok is false.
+func ScoreOf(text string) (score Score, ok bool) { return textScore(text, 0) }
+
+// ScoreOfIncomplete is ScoreOf, but a v3 vector may lack base metrics.
+func ScoreOfIncomplete(text string) (score Score, ok bool) {
+	return textScore(text, C.CVSS_ALLOW_INCOMPLETE)
+}
+
+func textScore(text string, flags C.uint32_t) (score Score, ok bool) {
+	tenths := C.score(text, flags)
 	if tenths == C.CVSS_NOTHING {
 		return 0, false
 	}
-	return scoreOf(float64(tenths)), true
+	return scoreOf(int(tenths)), true
 }
 
 // Values are a vector as the values of its metrics.
 type Values struct {
 	Version Version
-	// Score is the score: in v2 and v3 the base score, in v4.0 the score of all metrics in the vector.
+	// Score is the score with all metrics in the vector, as Vector.Score.
 	Score Score
 	// Nomenclature names the groups of metrics that the score counts, in v4.0.
 	Nomenclature Nomenclature
@@ -33,14 +40,21 @@ type Values struct {
 }
 
 // ValuesOf are the values of the vector that a text denotes. If the text is rejected, ok is false.
-func ValuesOf(text string) (values Values, ok bool) {
-	var own C.CvssValues
-	if !C.values_text(text, &own) {
+func ValuesOf(text string) (values Values, ok bool) { return textValues(text, 0) }
+
+// ValuesOfIncomplete is ValuesOf, but a v3 vector may lack base metrics.
+func ValuesOfIncomplete(text string) (values Values, ok bool) {
+	return textValues(text, C.CVSS_ALLOW_INCOMPLETE)
+}
+
+func textValues(text string, flags C.uint32_t) (values Values, ok bool) {
+	own := C.CvssValues{size: C.sizeof_CvssValues}
+	if !C.values(text, flags, &own) {
 		return Values{}, false
 	}
-	values = Values{Version: versionNumbers[own.version], Score: scoreOf(float64(own.score))}
+	values = Values{Version: versionOf(own.version), Score: scoreOf(int(own.score))}
 	if own.nomenclature != C.CVSS_NOTHING {
-		values.Nomenclature = nomenclatures[1+own.nomenclature]
+		values.Nomenclature = nomenclatureOf(own.nomenclature)
 	}
 	for i, metric := range typesOf(values.Version) {
 		values.Metrics = append(values.Metrics, Metric{metric.Name, C.GoString(&own.fields[i][0])})

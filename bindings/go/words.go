@@ -85,15 +85,3 @@ func (v Vector) Described() []Described {
 	}
 	return described
 }
-
-// isEnvironmental says whether a version has an environmental metric of this name.
-func isEnvironmental(name string) bool {
-	for _, version := range []Version{V20, V31, V40} {
-		for _, metric := range typesOf(version) {
-			if metric.Group == Environmental && raised(metric.Name) == name {
-				return true
-			}
-		}
-	}
-	return false
-}

@@ -4,13 +4,13 @@ import (
 	"strings"
 	"testing"
 
-	"yuntabek.example/cvss"
+	"yuntabek.example/cvss/v2"
 )
 
 // Each metric that a vector has is in the table of its version, with its value.
 func TestMetricsAreDescribedInWords(t *testing.T) {
 	for _, text := range storedLines(t, "stdin") {
-		vector, err := cvss.Parse(text)
+		vector, err := cvss.ParseIncomplete(text)
 		if err != nil {
 			continue
 		}
@@ -18,9 +18,9 @@ func TestMetricsAreDescribedInWords(t *testing.T) {
 		for _, own := range vector.Described() {
 			letters = append(letters, own.Metric.Name+":"+own.Value.Value)
 		}
-		if told := strings.Join(letters, "/"); told == "" || !strings.HasSuffix("/"+vector.String(), "/"+told) ||
+		if got := strings.Join(letters, "/"); got == "" || !strings.HasSuffix("/"+vector.String(), "/"+got) ||
 			len(letters) != len(vector.Metrics()) {
-			t.Errorf("%v: %s", vector, told)
+			t.Errorf("%v: %s", vector, got)
 		}
 	}
 }

@@ -14,7 +14,7 @@ from pathlib import Path
 HERE = Path(__file__).resolve().parent
 ROOT = HERE.parent.parent
 # each after those that it needs at once
-MODULES = ("metrics", "inflate", "module", "memory", "error", "vector", "find")
+MODULES = ("metrics", "inflate", "module", "memory", "words", "error", "given", "vector", "score", "find")
 NOTE = "// Written by bindings/js/make.py from bindings/js/src, cvss.wasm and bindings/metrics.json.\n"
 IMPORT = re.compile(r"^import [^;]*;\n", re.M)
 EXPORTED = re.compile(r"^export \{ (.*) \} from .*;$", re.M)

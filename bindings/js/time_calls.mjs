@@ -12,17 +12,21 @@ const LOWERED = new URL("../out/wasm64/lowered.wasm", import.meta.url);
 function naiveGlue() {
   const { exports } = new WebAssembly.Instance(new WebAssembly.Module(readFileSync(LOWERED)));
   exports.memory.grow(1);
-  const field = Number(exports.__heap_base.value);
-  const first = field + 64;
+  const vector = Number(exports.__heap_base.value);
+  const error = vector + 64;
+  const first = error + 64;
+  new Uint32Array(exports.memory.buffer).set([64], vector / 4);
+  new Uint32Array(exports.memory.buffer).set([40], error / 4);
   return (text) => {
     const bytes = new TextEncoder().encode(text);
     const buffer = first + bytes.length;
     new Uint8Array(exports.memory.buffer).set(bytes, first);
     const size = BigInt(bytes.length);
-    const length = exports.cvss_read(BigInt(first), size, BigInt(field), BigInt(buffer), size);
-    const [version, base] = new Int32Array(exports.memory.buffer.slice(field, field + 64));
+    const structs = [BigInt(vector), BigInt(error)];
+    const length = exports.cvss_parse(BigInt(first), size, 0, ...structs, BigInt(buffer), size);
+    const [, version, tenths] = new Int32Array(exports.memory.buffer.slice(vector, vector + 64));
     const canonical = exports.memory.buffer.slice(buffer, buffer + Number(length));
-    return { text: new TextDecoder().decode(canonical), version, score: base / 10 };
+    return { text: new TextDecoder().decode(canonical), version, score: tenths / 10 };
   };
 }
 
@@ -42,9 +46,9 @@ const vectors = accepted.map((line) => new cvss.Vector(line));
 if (existsSync(LOWERED)) printTime("naive glue", accepted, naiveGlue());
 printTime("score", accepted, (line) => cvss.score(line));
 printTime("Vector", accepted, (line) => new cvss.Vector(line).score);
-printTime("Vector.parse of what is rejected", accepted, (line) => cvss.Vector.parse(`${line}/XX:N`).ok);
+printTime("Vector.parse, rejected", accepted, (line) => cvss.Vector.parse(`${line}/XX:N`).ok);
 printTime("metrics", vectors, (vector) => vector.metrics);
-printTime("replace", vectors, (vector) => vector.replace({ CR: "H", AR: "L" }));
+printTime("withMetrics", vectors, (vector) => vector.withMetrics({ CR: "H", AR: "L" }));
 printTime("record", vectors, (vector) => vector.record());
 printTime("explain", vectors, (vector) => vector.explain());
-printTime("answer", accepted, (line) => cvss.answer(line));
+printTime("scoreLine", accepted, (line) => cvss.scoreLine(line));

@@ -16,7 +16,7 @@ from typing import Dict, Optional
 
 _HERE = Path(__file__).resolve().parent
 _PACKAGE = _HERE / "cvss_proved"
-_FILE = "libcvss.so.1"
+_FILE = "libcvss.so.2"
 # What all languages share. A checkout has it in bindings, a source archive in the package.
 _SHARED = ("metrics.json", "calculator/cvss-calculator.html")
 _SUFFIXES = (".py", ".typed")
@@ -30,7 +30,7 @@ _HEAD = """\
 Metadata-Version: 2.1
 Name: cvss-proved
 Version: {version}
-Summary: CVSS vectors of v2, v3.0, v3.1 and v4.0: read, printed and scored by a library whose answers are proved
+Summary: Parse, normalize and score CVSS v2, v3.0, v3.1 and v4.0 vectors, with a library whose results are proved
 License: Apache-2.0 OR MIT
 License-File: LICENSE-APACHE
 License-File: LICENSE-MIT
@@ -53,17 +53,17 @@ _SCRIPTS = "[console_scripts]\ncvss-calculator = cvss_proved.calculator:main\n"
 def _version() -> str:
     found = re.search('^__version__ = "(.*)"$', (_PACKAGE / "__init__.py").read_text(), re.M)
     if found is None:
-        raise SystemExit("cvss_proved/__init__.py tells no version")
+        raise SystemExit("cvss_proved/__init__.py has no __version__")
     return found.group(1)
 
 
 def _library() -> bytes:
     own = _PACKAGE / _FILE
     built = own if own.is_file() else _HERE.parent / "out" / _FILE
-    place = Path(os.environ.get("CVSS_LIBRARY", str(built)))
-    if not place.is_file():
-        raise SystemExit(f"{place} is missing: run bindings/build, or name the library by the variable CVSS_LIBRARY")
-    return place.read_bytes()
+    path = Path(os.environ.get("CVSS_LIBRARY", str(built)))
+    if not path.is_file():
+        raise SystemExit(f"{path} is missing: run bindings/build, or set the variable CVSS_LIBRARY to the library's path")
+    return path.read_bytes()
 
 
 def _shared() -> Dict[str, bytes]:
@@ -77,8 +77,8 @@ def _shared() -> Dict[str, bytes]:
 def _licenses() -> Dict[str, bytes]:
     root = next((root for root in _ROOTS if all((root / name).is_file() for name in _LICENSES)), None)
     if root is None:
-        looked = " nor ".join(str(root) for root in _ROOTS)
-        raise SystemExit(f"{', '.join(_LICENSES)} are neither in {looked}: put the files of the repository there")
+        searched = " nor ".join(str(root) for root in _ROOTS)
+        raise SystemExit(f"{', '.join(_LICENSES)} are neither in {searched}: copy the files of the repository there")
     return {name: (root / name).read_bytes() for name in _LICENSES}
 
 

@@ -1,6 +1,6 @@
 """Tests what build_wheel.py makes: a wheel and a source archive, each with the licences and the library.
 
-Usage: check_builds.py ROOT FOLDER. ROOT is the folder of the checkout; the two files are put into FOLDER, and stay.
+Usage: check_builds.py ROOT FOLDER. ROOT is the folder of the checkout; the two files are written into FOLDER, and stay.
 """
 
 import base64
@@ -52,7 +52,7 @@ def check_metadata(text: bytes, root: Path, files: Dict[str, bytes], folder: str
 def check_wheel(root: Path, files: Dict[str, bytes]) -> None:
     info = next(name for name in files if name.endswith("/METADATA")).rpartition("/")[0]
     check_metadata(files[f"{info}/METADATA"], root, files, info)
-    assert "cvss_proved/libcvss.so.1" in files and "cvss_proved/py.typed" in files
+    assert "cvss_proved/libcvss.so.2" in files and "cvss_proved/py.typed" in files
     for name in ("metrics.json", "calculator/cvss-calculator.html"):
         own = f"cvss_proved/{name.rpartition('/')[2]}"
         assert files[own] == (root / "bindings" / name).read_bytes(), own
@@ -62,8 +62,8 @@ def check_wheel(root: Path, files: Dict[str, bytes]) -> None:
     rows = {row[0]: row[1] for row in csv.reader(io.StringIO(files[f"{info}/RECORD"].decode()))}
     assert sorted(rows) == sorted(files)
     for name, digest in rows.items():
-        told = base64.urlsafe_b64encode(hashlib.sha256(files[name]).digest()).rstrip(b"=").decode()
-        assert digest == ("" if name.endswith("/RECORD") else f"sha256={told}"), name
+        expected = base64.urlsafe_b64encode(hashlib.sha256(files[name]).digest()).rstrip(b"=").decode()
+        assert digest == ("" if name.endswith("/RECORD") else f"sha256={expected}"), name
 
 
 def check_archive(root: Path, archive: Path, folder: Path, wheel: Dict[str, bytes]) -> None:
@@ -78,8 +78,8 @@ def check_archive(root: Path, archive: Path, folder: Path, wheel: Dict[str, byte
 
 
 if __name__ == "__main__":
-    checkout, place = Path(sys.argv[1]).resolve(), Path(sys.argv[2]).resolve()
-    content = wheel_files(built(checkout / "bindings/python", "build_wheel", place))
+    checkout, made = Path(sys.argv[1]).resolve(), Path(sys.argv[2]).resolve()
+    content = wheel_files(built(checkout / "bindings/python", "build_wheel", made))
     check_wheel(checkout, content)
-    check_archive(checkout, built(checkout / "bindings/python", "build_sdist", place), place, content)
+    check_archive(checkout, built(checkout / "bindings/python", "build_sdist", made), made, content)
     print("Python: the wheel and the source archive have the licences and the library")

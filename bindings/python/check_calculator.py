@@ -28,12 +28,12 @@ def check_command(root: Path, folder: Path) -> None:
     browser.write_text(f'#!/bin/sh\necho "$1" > "{opened}"\n')
     browser.chmod(0o755)
     printed = ran(["--print-path"], str(browser))
-    place = Path(printed.stdout.rstrip("\n"))
-    assert (printed.returncode, printed.stderr) == (0, "") and place.read_bytes() == page, printed
+    path = Path(printed.stdout.rstrip("\n"))
+    assert (printed.returncode, printed.stderr) == (0, "") and path.read_bytes() == page, printed
     assert not opened.exists()
-    told = ran([], str(browser))
-    assert (told.returncode, told.stdout, told.stderr) == (0, printed.stdout, ""), told
-    assert opened.read_text() == f"{place.as_uri()}\n"
+    done = ran([], str(browser))
+    assert (done.returncode, done.stdout, done.stderr) == (0, printed.stdout, ""), done
+    assert opened.read_text() == f"{path.as_uri()}\n"
     assert ran(["--port", "1"], str(browser)).returncode == 2
     without = ran([], "/bin/false")
     assert without.returncode == 2 and "no browser could be started" in without.stderr, without

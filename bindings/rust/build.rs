@@ -19,9 +19,9 @@ fn folder() -> PathBuf {
     };
     let named = PathBuf::from(named);
     if !named.is_absolute() {
-        let told = named.display();
+        let shown = named.display();
         fail(&format!(
-            "CVSS_LIBRARY_FOLDER has to be an absolute path, and is `{told}`"
+            "CVSS_LIBRARY_FOLDER has to be an absolute path, and is `{shown}`"
         ));
     }
     named

@@ -15,7 +15,7 @@ ROOT = Path(__file__).resolve().parents[2]
 sys.dont_write_bytecode = True  # leaves nothing in the tree
 sys.path[:0] = [str(ROOT / folder) for folder in ("reference", "bench/inputs", "bindings/sql")]
 
-import expected
+import drawing
 import lines
 import reference
 import v2
@@ -88,7 +88,7 @@ def texts(count):
     draw = random.Random(66)
     for number in range(count):
         if number % 4 == 0:
-            text = expected.hostile(draw).decode("utf-8", "replace")
+            text = drawing.hostile(draw).decode("utf-8", "replace")
             yield "".join(letter for letter in text if letter not in "\t\n\r"), draw.randrange(256)
         else:
             kind = ("any", "full", "refused")[number % 4 - 1]

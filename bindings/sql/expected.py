@@ -1,5 +1,5 @@
 #!/usr/bin/env python3
-"""Writes texts with the expected answers of the SQL functions, from the second implementation in reference/.
+"""Writes texts with the expected results of the SQL functions, from the second implementation in reference/.
 
 usage: expected.py kit|COUNT
        expected.py calls COUNT      prints the first column and those of CALLS, for other texts
@@ -7,9 +7,12 @@ usage: expected.py kit|COUNT
        expected.py utf-8 < ROWS     passes on the rows that are UTF-8
 
 The texts are those of the conformance kit, or COUNT hostile ones, random but always the same. Each text comes with random
-metrics to set in its vector, and a version and components to build one from. The columns of COLUMNS are separated by
+metrics to set in its vector, and a version and components to make a vector of. The columns of COLUMNS are separated by
 tabs, as COPY of PostgreSQL reads them: NULL is \\N, and a byte that is no visible ASCII character is written as \\x and
 two digits. The tests of Python, Rust and Go read rows of `calls`, of which some are in bindings/stored/calls.
+
+A result is that for vectors that may be incomplete. Of errors there are two columns: `error` is NULL if the text is a
+complete vector, and `incomplete_error` if it is any vector; likewise for the errors of metrics.
 """
 import random
 import re
@@ -18,79 +21,92 @@ from pathlib import Path
 
 ROOT = Path(__file__).resolve().parents[2]
 sys.dont_write_bytecode = True  # leaves nothing in the tree
-sys.path[:0] = [str(ROOT / folder) for folder in ("reference", "bench/inputs", "conformance", "bindings/stored")]
+sys.path[:0] = [str(ROOT / folder) for folder in ("reference", "bench/inputs", "conformance")]
 
 import accounts
-import facts
+import complete
 import finding
 import lines
 import records
 import reference
+import scores
 import setting
 import v3
 import v4
+from drawing import VERSIONS, hostile, some_components, some_metrics, some_version, spoilt
 from run import read_table, text_of
 
-# The number that the library has for a version.
-VERSIONS = {"2.0": 20, "3.0": 30, "3.1": 31, "4.0": 40}
-# The metrics to set, the version and components to build of, the answers, and why there is none: a reason, and of it the
-# number of the kind, the metric and what is quoted.
+NOMENCLATURES = {"b": "CVSS-B", "be": "CVSS-BE", "bt": "CVSS-BT", "bte": "CVSS-BTE"}
+RATED = ("score", "base", "temporal", "environmental")
+# The metrics to set, the version and components to make a vector of, the results, and why there is none: a message, and of
+# it the number of the kind, the metric and what is quoted.
 CALLS = ("metrics", "asked", "components", "changed", "metrics_refusal", "built", "build_refusal", "refusal",
-         "strict_reason", "b", "be", "bt", "bte")
-COLUMNS = ("text", "canonical", "version", "score", "temporal", "environmental", "severity", "nomenclature", "defined",
-           "record", "account", "reason", "found", "found_bytes", "metrics_reason", "build_reason", *CALLS)
-SCORES = ("score", "temporal", "environmental", "b", "be", "bt", "bte")
+         "strict_reason", *NOMENCLATURES)
+SEVERITIES = {name: "severity" if name == "score" else f"{name}_severity" for name in RATED}
+COLUMNS = ("text", "canonical", "version", *RATED, *SEVERITIES.values(), "nomenclature", "defined", "record",
+           "explanation", "error", "incomplete_error", "found", "found_bytes", "incomplete_found", "incomplete_found_bytes",
+           "changed_error", "incomplete_changed_error", "made_error", "incomplete_made_error", *CALLS)
+SCORES = (*RATED, *NOMENCLATURES)
 # What functions are given, which may be any bytes.
 GIVEN = ("text", "metrics", "components")
 
 
-def scored(text):
-    """The scores of a text that is accepted, by the names of the kit's columns."""
-    names = ("canonical", "version", "nomenclature", "complete", "score", "rating", "temporal", "temporal_rating",
-             "environmental", "environmental_rating")
-    return dict(zip(names, facts.facts(text).split()))
-
-
-def account(canonical):
+def explanation(canonical):
     """The explanation of a vector; none if a number has more than seven decimals, since its digits may differ."""
     told = accounts.account(canonical)
     return accounts.written(told) if accounts.is_exact(told) else None
 
 
-def defined(metrics, canonical):
-    """The canonical text less the metrics that are not defined; the whole, where none is left."""
-    pieces = [f"{name}:{value}" for name, value in metrics.items() if value not in ("X", "ND")]
-    return "/".join(canonical.split("/")[: canonical.startswith("CVSS:")] + pieces) if pieces else canonical
+def defined(version, vector):
+    """The canonical text without the metrics that are not defined; the whole, if none is left."""
+    kept = {name: value for name, value in vector.items() if value not in ("X", "ND")}
+    return setting.canonical_text(version, kept or vector)
 
 
 def outcome(call, *given):
-    """What a call returns; why it rejects; and for that the number of the kind, the metric and what is quoted."""
+    """What a call returns; the message of its error; and of that the number of the kind, the metric and what is quoted."""
     try:
         return call(*given), None, None
-    except reference.Refused as refused:
-        kind = reference.KINDS.index(refused.kind) + 1
-        return None, str(refused), f"{kind} {refused.metric or '-'} {refused.part}"
+    except reference.Refused as error:
+        kind = reference.KINDS.index(error.kind) + 1
+        # the index of the rejected metric is no part of the message
+        message = re.sub(r"^metric \d+: ", "", str(error))
+        return None, message, f"{kind} {error.metric or '-'} {error.part}"
+
+
+def missing(canonical):
+    """Why a vector is incomplete, if it is."""
+    return canonical and outcome(complete.find_missing, canonical)[1]
 
 
 def tenths(count):
     return f"{count // 10}.{count % 10}"
 
 
-def accepted(row):
-    """What is answered to a text that has these scores."""
-    canonical, version = row["canonical"], row["version"]
-    metrics = dict(piece.split(":") for piece in canonical.split("/")[version != "2.0":])
-    told = {name: row[name] for name in ("canonical", "version", "score", "temporal", "environmental", "nomenclature")}
-    told = {name: None if value == "-" else value for name, value in told.items()}
-    if version == "4.0":
-        told.update({name: tenths(v4.score_by(metrics, f"CVSS-{name.upper()}")) for name in ("b", "be", "bt", "bte")})
-    if version in ("3.0", "3.1"):
-        told["strict_reason"] = outcome(reference.find_missing, "v3", v3.METRICS, v3.BASE, metrics)[1]
-    return {**told, "severity": row["rating"], "defined": defined(metrics, canonical),
-            "record": records.record(row, metrics), "account": account(canonical)}
+def rated(version, vector):
+    """The scores with their severities."""
+    own = {"score": scores.overall(version, vector)}
+    if version == 40:
+        return own | {"base": scores.base(version, vector)}
+    of_groups = (scores.rated(version, score) for score in scores.by_group(version, vector))
+    return own | dict(zip(RATED[1:], of_groups))
 
 
-def built(version, components):
+def accepted(text):
+    """The results for a text that is a vector, which may be incomplete."""
+    version, vector = setting.read(text)
+    canonical, own = setting.canonical_text(version, vector), rated(version, vector)
+    told = {"canonical": canonical, "version": tenths(version), "defined": defined(version, vector),
+            "record": records.record(version, canonical, vector, own), "explanation": explanation(canonical)}
+    for name, (score, severity) in own.items():
+        told |= {name: tenths(score), SEVERITIES[name]: severity}
+    if version == 40:
+        told["nomenclature"] = v4.nomenclature(vector)
+        told |= {name: tenths(v4.score_by(vector, of)) for name, of in NOMENCLATURES.items()}
+    return told
+
+
+def made(version, components):
     """The canonical text of the vector of a version with these components."""
     if version not in VERSIONS:
         raise reference.Refused("version", f"unsupported CVSS version: {version}", part=version)
@@ -106,39 +122,48 @@ def is_complete(canonical):
 CHARACTER = re.compile(rb"[\xc0-\xff][\x80-\xbf]*|.", re.S)
 
 
+def match_of(mention, allow_incomplete):
+    """A match, its vector, whether that is complete, and why it is rejected."""
+    vector, error, _ = outcome(lambda: reference.read(reference.text_of(mention))[0])
+    if not allow_incomplete:
+        error = error or missing(vector)
+    if error:
+        return f"{mention.decode()} - - {error}"
+    return f"{mention.decode()} {vector} {'complete' if is_complete(vector) else 'incomplete'} -"
+
+
 def found(text):
-    """The vectors in a text, with their positions in characters and in bytes."""
-    by_characters, by_bytes = [], []
-    for place, mention, answer in finding.found(text):
-        told = mention.decode()
-        vector = answer.split(" ")[0]
-        told += " - -" if vector == "error:" else f" {vector} {'complete' if is_complete(vector) else 'incomplete'}"
-        by_characters.append(f"{len(CHARACTER.findall(text[:place])) + 1} {told}")
-        by_bytes.append(f"{place + 1} {told}")
-    return {"found": ";".join(by_characters) or None, "found_bytes": ";".join(by_bytes) or None}
-
-
-def called(draw, canonical, version, refused):
-    """The answers for random metrics: set in a vector, or rejected as its text is; and built into one."""
-    given, asked = some_metrics(draw, version), some_version(draw)
-    components = some_components(draw, asked)
-    told = {"metrics": given, "asked": asked, "components": components}
-    if refused:
-        told["metrics_reason"], told["metrics_refusal"] = refused
-    else:
-        told["changed"], told["metrics_reason"], told["metrics_refusal"] = outcome(
-            setting.with_metrics, canonical.encode(), given)
-    told["built"], told["build_reason"], told["build_refusal"] = outcome(built, asked, components)
+    """The vectors in a text, with their offsets in characters and in bytes."""
+    told = {}
+    for name, allow_incomplete in (("found", False), ("incomplete_found", True)):
+        matches = [(place, match_of(mention, allow_incomplete)) for place, mention, _ in finding.found(text)]
+        by_characters = [f"{len(CHARACTER.findall(text[:place])) + 1} {match}" for place, match in matches]
+        told[name] = ";".join(by_characters) or None
+        told[f"{name}_bytes"] = ";".join(f"{place + 1} {match}" for place, match in matches) or None
     return told
 
 
-def answers(draw, text, row=None):
-    """What is answered to a text, of which the scores may be known, and to metrics that are drawn, if any are."""
-    own, reason, refusal = outcome(lambda: accepted(row or scored(reference.text_of(text))))
-    own = own or {"reason": reason, "refusal": refusal, "strict_reason": reason}
-    told = {"text": text, **own, **found(text)}
+def called(draw, canonical, version, error):
+    """The results for random metrics: set in a vector, unless its text is rejected; and made a vector of."""
+    given, asked = some_metrics(draw, version), some_version(draw)
+    components = some_components(draw, asked)
+    told = {"metrics": given, "asked": asked, "components": components}
+    changed = (None, *error) if error else outcome(setting.with_metrics, canonical.encode(), given)
+    told["changed"], told["incomplete_changed_error"], told["metrics_refusal"] = changed
+    told["changed_error"] = changed[1] or missing(changed[0])
+    told["built"], told["incomplete_made_error"], told["build_refusal"] = outcome(made, asked, components)
+    told["made_error"] = told["incomplete_made_error"] or missing(told["built"])
+    return told
+
+
+def results(draw, text):
+    """The results for a text, and for metrics that are drawn, if any are."""
+    own, error, refusal = outcome(lambda: accepted(reference.text_of(text)))
+    own = own or {}
+    told = {"text": text, **own, "incomplete_error": error, "refusal": refusal, **found(text)}
+    told["error"] = told["strict_reason"] = error or missing(own["canonical"])
     if draw:
-        told.update(called(draw, own.get("canonical"), own.get("version"), reason and (reason, refusal)))
+        told.update(called(draw, own.get("canonical"), own.get("version"), error and (error, refusal)))
     return [told.get(name) for name in COLUMNS]
 
 
@@ -154,93 +179,30 @@ def escaped(column):
 
 def columns_of(line):
     """The bytes of a row's columns by their names."""
-    row = zip(COLUMNS, line.rstrip("\n").split("\t"))
-    return {name: None if column == "\\N" else text_of(column) for name, column in row}
+    return {name: None if column == "\\N" else text_of(column)
+            for name, column in zip(COLUMNS, line.rstrip("\n").split("\t"))}
 
 
 def is_utf8(row):
     try:
-        return all((row[name] or b"").decode("utf-8") is not None for name in GIVEN)
+        return all(row[name] is None or row[name].decode("utf-8") is not None for name in GIVEN)
     except UnicodeDecodeError:
         return False
 
 
 def kit():
-    """The texts of the kit, with the scores that are stored there; one in ten has metrics."""
+    """The texts of the kit, of which one in ten has metrics."""
     draw = random.Random(62)
     for name in ("scores.tsv", "refused.tsv"):
         for number, row in enumerate(read_table(ROOT / "conformance" / name)):
-            text = text_of(row["text"])
-            yield answers(draw if number % 10 == 0 else None, text, row if "canonical" in row else None)
-
-
-BYTES = [bytes([code]) for code in b"/:.CVSS:AVNHLPUXacegix0349 \t\n\r\"'\\`{}()-\x00\x01\x7f\x80\xc3\xa9\xff"]
-PIECES = [b"CVSS:3.1", b"CVSS:4.0", b"CVSS:3.0", b"cvss:3.1", b"/", b"//", b":", b"::", b"AV:N", b"av:n", b"Au:N",
-          b"AU:N", b"E:X", b"RL:ND", b"MSI:S", b"S:", b":N", b"CVSS:", b"CVSS:9.9", b"CVSS:\xc4\xb1.0", b"\\N", b"%s%n",
-          b"'; --", b"\xef\xbb\xbf", b"\xed\xa0\x80", "ſ:Ｎ".encode(), "Á".encode()]
-
-
-def spoilt(draw, text):
-    """A text with some bytes put in, taken away or repeated."""
-    for _ in range(draw.randrange(1, 4)):
-        start = draw.randrange(len(text) + 1)
-        end = min(len(text), start + draw.choice((0, 0, 1, 1, 2, 5, 30)))
-        cut = text[start:end]
-        put = draw.choice((b"", draw.choice(BYTES), draw.choice(PIECES), cut * 2, cut.swapcase()))
-        text = text[:start] + put + text[end:]
-    return text
-
-
-def hostile(draw):
-    """A text of one of some kinds."""
-    kind = draw.randrange(20)
-    if kind == 0:
-        return bytes(draw.randrange(256) for _ in range(draw.randrange(40)))
-    if kind == 1:
-        return b"/".join(draw.choices(PIECES, k=draw.randrange(12)))
-    if kind == 2:
-        most = 100_000 if draw.random() < 0.001 else 300
-        return draw.choice(PIECES) * draw.randrange(most // 4)
-    line = lines.line(draw, "all", draw.choice(("base", "full", "any"))).encode()
-    return line if kind < 5 else spoilt(draw, line)
-
-
-def some_version(draw):
-    return draw.choice(("5.0", "3", "", "v3.1")) if draw.random() < 0.03 else draw.choice(list(VERSIONS))
-
-
-def in_some_form(draw, pieces):
-    """Components in any order and case, some of them spoilt."""
-    draw.shuffle(pieces)
-    text = "/".join(pieces)
-    text = draw.choice((text, text, text.lower(), lines.in_some_case(draw, text))).encode()
-    return spoilt(draw, text) if draw.random() < 0.2 else text
-
-
-def some_metrics(draw, version):
-    """Components of a version's metrics, of any group; now and then of another version, or one metric twice."""
-    if version is None or draw.random() < 0.05:
-        version = draw.choice(list(VERSIONS))
-    metrics = setting.VERSIONS[VERSIONS[version]][2]
-    names = draw.sample(list(metrics), draw.choice((0, 1, 1, 1, 2, 2, 3, 5, len(metrics))))
-    names += names[:1] if draw.random() < 0.05 else []
-    return in_some_form(draw, [f"{name}:{draw.choice(list(metrics[name][1]))}" for name in names])
-
-
-def some_components(draw, version):
-    """Components of a vector of a version; now and then of another one, or without the first."""
-    names = {"2.0": "v2", "3.0": "v3.0", "3.1": "v3.1", "4.0": "v4"}
-    drawn = "all" if draw.random() < 0.1 else names.get(version, "all")
-    pieces = lines.line(draw, drawn, draw.choice(("base", "full"))).split("/")
-    pieces = pieces[pieces[0].startswith("CVSS:"):]
-    return in_some_form(draw, pieces[draw.random() < 0.1:])
+            yield results(draw if number % 10 == 0 else None, text_of(row["text"]))
 
 
 def rows(texts):
     if texts == "kit":
         return kit()
     draw = random.Random(39)
-    return (answers(draw, hostile(draw)) for _ in range(int(texts)))
+    return (results(draw, hostile(draw)) for _ in range(int(texts)))
 
 
 def calls(count):
@@ -248,7 +210,7 @@ def calls(count):
     draw = random.Random(62)
     for _ in range(count):
         line = lines.line(draw, "all", draw.choice(("base", "full", "any", "refused"))).encode()
-        row = dict(zip(COLUMNS, answers(draw, spoilt(draw, line) if draw.random() < 0.1 else line)))
+        row = dict(zip(COLUMNS, results(draw, spoilt(draw, line) if draw.random() < 0.1 else line)))
         yield [row[name] for name in ("text", *CALLS)]
 
 

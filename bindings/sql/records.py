@@ -99,19 +99,20 @@ def told_groups(version, names):
             yield "environmental"
 
 
-def record(row, metrics):
+def record(number, canonical, metrics, scores):
     """The text of the record's JSON object, with its members by their names and without spaces.
 
-    The row has the columns of the conformance kit."""
-    version = row["version"]
+    The scores are those of expected.py, with their severities. `baseScore` of v4.0 is the score with all metrics, as
+    publishers write it."""
+    version = f"{number // 10}.{number % 10}"
     table = {"2.0": V2, "4.0": V4}.get(version, V3)
-    told = {"version": version, "vectorString": row["canonical"]}
+    told = {"version": version, "vectorString": canonical}
     for name, value in metrics.items():
         member, words = table[name]
         told[member] = word(version, words, value)
     for group in told_groups(version, metrics):
-        score, rating = ("score", "rating") if group == "base" else (group, f"{group}_rating")
-        told[f"{group}Score"] = float(row[score])
+        tenths, severity = scores["score" if version == "4.0" else group]
+        told[f"{group}Score"] = tenths / 10
         if version != "2.0":
-            told[f"{group}Severity"] = row[rating].upper()
+            told[f"{group}Severity"] = severity.upper()
     return json.dumps(told, separators=(",", ":"), sort_keys=True)

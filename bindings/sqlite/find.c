@@ -1,6 +1,6 @@
 /*
- * The table-valued function cvss_find(text) of SQLite: a row for each vector in the text, in order. It
- * is an eponymous virtual table, whose hidden column is the argument.
+ * The table-valued function cvss_find(text, allow_incomplete) of SQLite: a row for each vector in the text, in order. It
+ * is an eponymous virtual table, whose hidden columns are the arguments.
  */
 #include "argument.h"
 
@@ -9,25 +9,37 @@
 
 SQLITE_EXTENSION_INIT3
 
-enum { PLACE, GIVEN, VECTOR, IS_COMPLETE, ARGUMENT };
+enum { MATCH_OFFSET, TEXT, VECTOR, IS_COMPLETE, ERROR, ARGUMENT, ALLOW_INCOMPLETE };
+
+/* Which arguments `choose` passes to `filter`, besides the text. */
+enum { WITH_FLAG = 1 };
 
 typedef struct Cursor {
     sqlite3_vtab_cursor base;
+    /* what a row is read into, which grows and is kept for the next */
+    char *buffer;
+    size_t size;
     sqlite3_value *argument; /* a copy, or NULL */
     Text text;
+    uint32_t flags;
     bool is_blob;
-    size_t start; /* where the mention begins, and its length; 0 where there is none */
-    size_t length;
+    bool has_row;
+    CvssMatch match;
     size_t counted; /* the bytes before which the characters are counted */
-    sqlite3_int64 place;
+    sqlite3_int64 offset;
     sqlite3_int64 row;
+    bool is_read; /* whether the row is read: its vector, or the error, in the buffer */
+    CvssVector vector;
+    CvssError error;
+    size_t length;
 } Cursor;
 
 static int connect(sqlite3 *database, void *data, int count, const char *const *words, sqlite3_vtab **table,
                    char **message)
 {
-    int status = sqlite3_declare_vtab(database, "CREATE TABLE found (place INTEGER, given TEXT, vector TEXT, "
-                                                "is_complete INTEGER, cvss_text HIDDEN)");
+    int status = sqlite3_declare_vtab(database, "CREATE TABLE found (match_offset INTEGER, text TEXT, vector TEXT, "
+                                                "is_complete INTEGER, error TEXT, cvss_text HIDDEN, "
+                                                "allow_incomplete HIDDEN)");
     (void)data, (void)count, (void)words, (void)message;
     if (status != SQLITE_OK)
         return status;
@@ -45,25 +57,39 @@ static int disconnect(sqlite3_vtab *table)
     return SQLITE_OK;
 }
 
-/* The argument has to be known; without one there is no row. */
+/* Which constraint gives an argument: -1 if none does, and -2 if it cannot yet be known. */
+static int given_by(const sqlite3_index_info *index, int argument)
+{
+    int found = -1;
+    for (int i = 0; i < index->nConstraint; i++) {
+        if (index->aConstraint[i].iColumn != argument || index->aConstraint[i].op != SQLITE_INDEX_CONSTRAINT_EQ)
+            continue;
+        if (index->aConstraint[i].usable)
+            return i;
+        found = -2;
+    }
+    return found;
+}
+
+/* The arguments have to be known; without a text there is no row. */
 static int choose(sqlite3_vtab *table, sqlite3_index_info *index)
 {
-    bool is_late = false;
+    int text = given_by(index, ARGUMENT), flag = given_by(index, ALLOW_INCOMPLETE);
     (void)table;
-    for (int i = 0; i < index->nConstraint; i++) {
-        if (index->aConstraint[i].iColumn != ARGUMENT || index->aConstraint[i].op != SQLITE_INDEX_CONSTRAINT_EQ)
-            continue;
-        if (!index->aConstraint[i].usable) {
-            is_late = true;
-            continue;
-        }
-        index->aConstraintUsage[i].argvIndex = 1;
-        index->aConstraintUsage[i].omit = 1;
-        index->estimatedCost = 10;
-        index->estimatedRows = 2;
+    if (text == -2 || flag == -2)
+        return SQLITE_CONSTRAINT;
+    if (text == -1)
         return SQLITE_OK;
+    index->aConstraintUsage[text].argvIndex = 1;
+    index->aConstraintUsage[text].omit = 1;
+    if (flag >= 0) {
+        index->aConstraintUsage[flag].argvIndex = 2;
+        index->aConstraintUsage[flag].omit = 1;
+        index->idxNum = WITH_FLAG;
     }
-    return is_late ? SQLITE_CONSTRAINT : SQLITE_OK;
+    index->estimatedCost = 10;
+    index->estimatedRows = 2;
+    return SQLITE_OK;
 }
 
 static int open_cursor(sqlite3_vtab *table, sqlite3_vtab_cursor **base)
@@ -79,8 +105,10 @@ static int open_cursor(sqlite3_vtab *table, sqlite3_vtab_cursor **base)
 
 static int close_cursor(sqlite3_vtab_cursor *base)
 {
-    sqlite3_value_free(((Cursor *)base)->argument);
-    sqlite3_free(base);
+    Cursor *cursor = (Cursor *)base;
+    sqlite3_value_free(cursor->argument);
+    sqlite3_free(cursor->buffer);
+    sqlite3_free(cursor);
     return SQLITE_OK;
 }
 
@@ -102,78 +130,115 @@ static sqlite3_int64 characters(const char *bytes, size_t length)
 static int next(sqlite3_vtab_cursor *base)
 {
     Cursor *cursor = (Cursor *)base;
-    size_t from = cursor->start + cursor->length;
-    cursor->length = 0;
-    if (!cvss_find(cursor->text.bytes, cursor->text.length, from, &cursor->start, &cursor->length))
+    cursor->has_row = cvss_find(cursor->text.bytes, cursor->text.length, &cursor->match);
+    if (!cursor->has_row)
         return SQLITE_OK;
-    size_t more = cursor->start - cursor->counted;
-    cursor->place += cursor->is_blob ? (sqlite3_int64)more : characters(cursor->text.bytes + cursor->counted, more);
-    cursor->counted = cursor->start;
+    size_t more = cursor->match.offset - cursor->counted;
+    cursor->offset += cursor->is_blob ? (sqlite3_int64)more : characters(cursor->text.bytes + cursor->counted, more);
+    cursor->counted = cursor->match.offset;
     cursor->row++;
+    cursor->is_read = false;
     return SQLITE_OK;
+}
+
+/* Reads the argument `allow_incomplete`, as cvss_read_flags does, and reports what is no number. */
+static int read_flags(Cursor *cursor, sqlite3_value *value)
+{
+    int status = cvss_read_flags(value, &cursor->flags);
+    if (status != SQLITE_MISMATCH)
+        return status;
+    sqlite3_free(cursor->base.pVtab->zErrMsg);
+    cursor->base.pVtab->zErrMsg = sqlite3_mprintf("%s", cvss_no_flag);
+    return SQLITE_ERROR;
 }
 
 static int filter(sqlite3_vtab_cursor *base, int number, const char *name, int count, sqlite3_value **values)
 {
     Cursor *cursor = (Cursor *)base;
-    (void)number, (void)name;
+    int status = SQLITE_OK;
+    (void)name;
     sqlite3_value_free(cursor->argument);
     memset(&cursor->argument, 0, sizeof *cursor - offsetof(Cursor, argument));
-    cursor->place = 1;
+    cursor->offset = 1;
+    cursor->match.size = sizeof cursor->match;
     if (count == 0)
         return SQLITE_OK;
     cursor->argument = sqlite3_value_dup(values[0]);
     if (cursor->argument == NULL)
         return SQLITE_NOMEM;
     cursor->is_blob = sqlite3_value_type(cursor->argument) == SQLITE_BLOB;
-    int status = cvss_read_value(cursor->argument, &cursor->text);
+    if (number == WITH_FLAG)
+        status = read_flags(cursor, values[1]);
+    if (status == SQLITE_OK)
+        status = cvss_read_value(cursor->argument, &cursor->text);
     return status == SQLITE_OK ? next(base) : status == SQLITE_EMPTY ? SQLITE_OK : status;
 }
 
 static int is_past(sqlite3_vtab_cursor *base)
 {
-    return ((Cursor *)base)->length == 0;
+    return !((Cursor *)base)->has_row;
 }
 
-/* The canonical text of the match; NULL if it is rejected. */
-static void tell_vector(sqlite3_context *context, const char *given, size_t length)
+static size_t parse(Cursor *cursor)
 {
-    char *canonical;
-    if (cvss_version(given, length) == CVSS_NOTHING)
-        return;
-    canonical = sqlite3_malloc64(length);
-    if (canonical == NULL) {
-        sqlite3_result_error_nomem(context);
-        return;
+    return cvss_parse(cursor->text.bytes + cursor->match.offset, cursor->match.length, cursor->flags, &cursor->vector,
+                      &cursor->error, cursor->buffer, cursor->size);
+}
+
+/* Reads the vector of a row: once, and only for a query that asks for what it says. */
+static int read_row(Cursor *cursor)
+{
+    if (cursor->is_read)
+        return SQLITE_OK;
+    cursor->vector.size = sizeof cursor->vector;
+    cursor->error.size = sizeof cursor->error;
+    cursor->length = parse(cursor);
+    if (cursor->length > cursor->size) {
+        char *buffer = sqlite3_realloc64(cursor->buffer, cursor->length);
+        if (buffer == NULL)
+            return SQLITE_NOMEM;
+        cursor->buffer = buffer;
+        cursor->size = cursor->length;
+        cursor->length = parse(cursor);
     }
-    cvss_canonical(given, length, canonical, length);
-    sqlite3_result_text64(context, canonical, length, sqlite3_free, SQLITE_UTF8);
+    cursor->is_read = true;
+    return SQLITE_OK;
+}
+
+/* Returns a column of what is read: of a vector its text and whether it is complete, of an error its message. */
+static int return_read(Cursor *cursor, sqlite3_context *context, int number)
+{
+    int status = read_row(cursor);
+    bool is_error = cursor->error.kind != CVSS_ACCEPTED;
+    if (status != SQLITE_OK || is_error != (number == ERROR))
+        return status;
+    if (number == IS_COMPLETE)
+        sqlite3_result_int(context, cursor->vector.is_complete);
+    else
+        sqlite3_result_text64(context, cursor->buffer, cursor->length, SQLITE_TRANSIENT, SQLITE_UTF8);
+    return SQLITE_OK;
 }
 
 static int column(sqlite3_vtab_cursor *base, sqlite3_context *context, int number)
 {
-    const Cursor *cursor = (const Cursor *)base;
-    const char *given = cursor->text.bytes + cursor->start;
+    Cursor *cursor = (Cursor *)base;
     switch (number) {
-    case PLACE:
-        sqlite3_result_int64(context, cursor->place);
-        break;
-    case GIVEN:
-        sqlite3_result_text64(context, given, cursor->length, SQLITE_TRANSIENT, SQLITE_UTF8);
-        break;
-    case VECTOR:
-        tell_vector(context, given, cursor->length);
-        break;
-    case IS_COMPLETE: {
-        int32_t answer = is_complete(&(Question){{given, cursor->length}, {"", 0}});
-        if (answer != CVSS_NOTHING)
-            sqlite3_result_int(context, answer);
-        break;
-    }
-    default:
+    case MATCH_OFFSET:
+        sqlite3_result_int64(context, cursor->offset);
+        return SQLITE_OK;
+    case TEXT:
+        sqlite3_result_text64(context, cursor->text.bytes + cursor->match.offset, cursor->match.length,
+                              SQLITE_TRANSIENT, SQLITE_UTF8);
+        return SQLITE_OK;
+    case ARGUMENT:
         sqlite3_result_value(context, cursor->argument);
+        return SQLITE_OK;
+    case ALLOW_INCOMPLETE:
+        sqlite3_result_int(context, cursor->flags == CVSS_ALLOW_INCOMPLETE);
+        return SQLITE_OK;
+    default:
+        return return_read(cursor, context, number);
     }
-    return SQLITE_OK;
 }
 
 static int row(sqlite3_vtab_cursor *base, sqlite3_int64 *number)

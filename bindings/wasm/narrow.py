@@ -3,7 +3,8 @@
 
 The module, as text on standard input, has a 32-bit memory and functions with 64-bit pointers. Each export becomes a
 function that extends its arguments, calls the exported one, and wraps the result, which fits since a memory has less
-than 2^32 bytes. The number that says where free memory begins is written with 32 bits too.
+than 2^32 bytes. The number that says where free memory begins is written with 32 bits too. Nothing changes in memory: a usize
+in a struct keeps its eight bytes.
 
 A sum of which only the low 32 bits are used is computed with 32 bits, so that wasm-opt --low-memory-unused can make a number
 that is added to an address part of the load or store. It may if no address below 1,024 is used: these are the last bytes of
@@ -17,7 +18,9 @@ WRAPPED = {"i64": "i32", "i32": "i32"}
 EXTEND = {"i64": lambda given: ["i64.extend_i32_u", given], "i32": lambda given: given}
 RESULT = {"i64": lambda call: ["i32.wrap_i64", call], "i32": lambda call: call}
 # JavaScript has no call of them, and they would make the module larger
-LEFT_OUT = ("cvss_numbers", "cvss_rounded", "cvss_temporal_with_impact", "cvss_score", "cvss_values")
+LEFT_OUT = (
+    "cvss_metrics", "cvss_numbers", "cvss_rounded", "cvss_score_lines", "cvss_temporal_with_impact", "cvss_values",
+)
 
 
 def narrow_function(public, function):

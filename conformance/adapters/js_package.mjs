@@ -20,14 +20,15 @@ const KINDS = {
 const column = (score) => score?.toFixed(1) ?? "-";
 
 function answer(text) {
-  const { ok, vector, error } = cvss.Vector.parse(text);
+  const { ok, vector, error } = cvss.Vector.parse(text, { allowIncomplete: true });
   if (!ok) return `error: ${KINDS[error.kind]}`;
-  const { scores, severities } = vector;
-  const names = ["base", "temporal", "environmental"];
-  const numbers = names.map((name) => column(scores[name]));
-  const ratings = names.map((name) => severities[name] ?? "-");
+  // the kit has the base score of v2 and v3, and for v4.0 the score with all metrics
+  const isV4 = vector.version === "4.0";
+  const scores = [isV4 ? vector.score : vector.baseScore, vector.temporalScore, vector.environmentalScore];
+  const severities = [isV4 ? vector.severity : vector.baseSeverity, vector.temporalSeverity, vector.environmentalSeverity];
   const complete = vector.isComplete ? "yes" : "no";
-  return [vector, vector.version, ...numbers, vector.nomenclature ?? "-", ...ratings, complete].join(" ");
+  return [vector, vector.version, ...scores.map(column), vector.nomenclature ?? "-",
+    ...severities.map((severity) => severity ?? "-"), complete].join(" ");
 }
 
 const input = readFileSync(0);

@@ -20,13 +20,16 @@ def column(value):
 
 def answer(text):
     try:
-        vector = Vector(text)
-    except CvssError as refusal:
-        return f"error: {kind_of(str(refusal))}"
-    scores = map(column, vector.scores)
-    ratings = (rating or "-" for rating in vector.severities)
+        vector = Vector(text, allow_incomplete=True)
+    except CvssError as error:
+        return f"error: {kind_of(str(error))}"
+    # the kit has the base score of v2 and v3, and for v4.0 the score with all metrics
+    is_v4 = vector.version == "4.0"
+    scores = [vector.score if is_v4 else vector.base_score, *vector.scores[1:]]
+    severities = [vector.severity if is_v4 else vector.base_severity, *vector.severities[1:]]
     complete = "yes" if vector.is_complete else "no"
-    return " ".join([str(vector), vector.version, *scores, vector.nomenclature or "-", *ratings, complete])
+    return " ".join([str(vector), vector.version, *map(column, scores), vector.nomenclature or "-",
+                     *(severity or "-" for severity in severities), complete])
 
 
 def main():

@@ -42,7 +42,7 @@ def defined(text: str) -> Dict[str, str]:
 
 
 def kind_of(row: Row) -> str:
-    """The score that the headline shows: of v4.0 the nomenclature, else the one that counts all defined metrics."""
+    """The score that the headline shows: of v4.0 the nomenclature, else the one that counts all metrics which are defined."""
     if row["version"] == "4.0":
         return row["nomenclature"]
     optional = set(defined(row["canonical"])) - BASE
@@ -50,19 +50,19 @@ def kind_of(row: Row) -> str:
 
 
 def check_shown(state: Dict[str, Any], row: Row) -> None:
-    """The page shows the scores, the ratings and the rest of a row of the kit."""
+    """The page shows the scores, the severities and the rest of a row of the kit."""
     kind = kind_of(row)
     score, rating = COLUMNS.get(kind, COLUMNS["base"])
-    shown = (state["number"], state["rating"], state["vector"])
+    shown = (state["number"], state["severity"], state["vector"])
     assert shown == (row[score], row[rating], row["canonical"]), (state, row)
-    words = {"base": "Base score"}.get(kind, f"{kind}: " if row["version"] == "4.0" else f"Overall score: {kind} score")
+    words = f"{kind}: " if row["version"] == "4.0" else f"{kind.capitalize()} score"
     assert state["kind"].startswith(words), (state, row)
     if row["version"] == "4.0":
         assert [name for name, _, _ in state["scores"]] == ["CVSS-B", "CVSS-BT", "CVSS-BE", "CVSS-BTE"], state
         assert [kind, row["score"], row["rating"]] in state["scores"], (state, row)
     else:
         assert state["scores"] == [[name, row[own], row[rated]] for name, (own, rated) in COLUMNS.items()], (state, row)
-    assert state["version"] == row["version"] and state["refusal"] == "" and not state["isInvalid"], (state, row)
+    assert state["version"] == row["version"] and state["rejection"] == "" and not state["isInvalid"], (state, row)
     is_complete = row["complete"] == "yes"
     assert state["note"].startswith("Incomplete") != is_complete and (state["range"] == "") == is_complete, (state, row)
     assert state["chosen"] == defined(row["canonical"]), (state, row)
@@ -87,7 +87,7 @@ def check_kit(page: Page, root: Path, clicked: int, most: int) -> None:
 def check_rejected(page: Page, root: Path) -> None:
     """The reason is next to the field, and nothing that was chosen is lost."""
     before = page.choose("3.1", metrics_of(V3))
-    kept = ("chosen", "number", "rating", "vector", "version", "scores")
+    kept = ("chosen", "number", "severity", "vector", "version", "scores")
     whole = re.compile(r"(CVSS:)?(?!.*CVSS:)[A-Za-z0-9:/.]*[A-Za-z0-9]")
     rows = [row for row in rows_of(root / "conformance" / "refused.tsv") if whole.fullmatch(row["text"])]
     drawn = [row for row in spread(rows, 120) if row["kind"] != "missing"]
@@ -95,19 +95,19 @@ def check_rejected(page: Page, root: Path) -> None:
                "version": "unsupported CVSS version", "name": "unknown CVSS metric name", "value": "invalid CVSSv",
                "repeat": "duplicate CVSSv"}
     for row, state in zip(drawn, page.paste_each([row["text"] for row in drawn])):
-        assert state["refusal"].startswith(reasons[row["kind"]]) and state["isInvalid"], (state, row)
+        assert state["rejection"].startswith(reasons[row["kind"]]) and state["isInvalid"], (state, row)
         assert "not of the rejected text" in state["note"], (state, row)
         assert all(state[name] == before[name] for name in kept), (state, row)
     # where the text has more, the part that was read comes first
     state = page.paste("Scored (CVSS:3.1/AV:Q) by us.")
-    assert state["refusal"] == "CVSS:3.1/AV:Q: invalid CVSSv3 AV (Attack Vector) metric: `Q`", state
+    assert state["rejection"] == "CVSS:3.1/AV:Q: invalid CVSSv3 AV (Attack Vector) metric: `Q`", state
     state = page.paste("")
-    assert not state["isInvalid"] and state["refusal"] == "" and state["note"] == "", state
+    assert not state["isInvalid"] and state["rejection"] == "" and state["note"] == "", state
     assert state["chosen"] == before["chosen"], state
     # one that only lacks base metrics is taken into the form, which shows what it can score
     missing = [row for row in rows if row["kind"] == "missing"][::3][:40]
     for row, state in zip(missing, page.paste_each([row["text"] for row in missing])):
-        assert state["refusal"].startswith("missing mandatory CVSSv") and state["isInvalid"], (state, row)
+        assert state["rejection"].startswith("missing mandatory CVSSv") and state["isInvalid"], (state, row)
         assert state["note"].startswith("Still to choose") and state["number"] == "–" and state["range"], (state, row)
         assert state["vector"].count(":") == row["text"].count(":"), (state, row)
     print(f"Page: {len(drawn)} rejected texts, and nothing lost; {len(missing)} incomplete ones")
@@ -118,9 +118,9 @@ def check_hints(page: Page) -> None:
     rest = V3.partition("/")[2]
     for text in (rest, f"({rest})", f"cvss:3.1/{rest}", f"CVSS3.1/{rest}", f" {rest.lower()} "):
         state = page.paste(text)
-        assert state["refusal"] and state["hint"] == V3, (text, state)
+        assert state["rejection"] and state["hint"] == V3, (text, state)
         state = page.click("#take-hint")
-        assert (state["vector"], state["text"], state["hint"], state["refusal"]) == (V3, V3, "", ""), (text, state)
+        assert (state["vector"], state["text"], state["hint"], state["rejection"]) == (V3, V3, "", ""), (text, state)
         page.click("#clear")
     assert page.paste(V4.partition("/")[2])["hint"] == V4
     assert page.paste(f"CVSS:2.0/{V2}")["hint"] == V2

@@ -36,7 +36,7 @@ def check_why(page: Page, root: Path) -> None:
         own = answers.spread([row for row in rows if row["version"] == version], 100)
         texts += list(dict.fromkeys(row["canonical"] for row in own))[::6][:12]
     assert len(texts) == len(EXPLAINED) + 12 * len(answers.VERSIONS)
-    explaining.check_accounts(page, root, texts)
+    explaining.check_explanations(page, root, texts)
     explaining.check_none(page, V4)
     print(f"Page: why the scores of {len(texts)} vectors are what they are, 0 wrong numbers")
 
@@ -58,7 +58,7 @@ def check_reading(page: Page, browser: Chromium) -> None:
 
 
 def report_times(page: Page) -> None:
-    """Prints how long a choice takes up to its answer, and the longest range; it asserts nothing."""
+    """Prints how long a choice takes until its scores are shown, and the longest range; it asserts nothing."""
     script = "const start = performance.now(); %s; return performance.now() - start;"
     page.open(f"#{V4}")
     click = "document.querySelector(`input[name=AV][value=${arguments[0]}]`).click()"
@@ -66,7 +66,7 @@ def report_times(page: Page) -> None:
     page.choose("4.0", {})
     page.browser.run("document.querySelector('details').open = true")
     longest = page.browser.run(script % "document.querySelector('input[name=E][value=U]').click()")
-    print(f"Page: a choice is answered within {statistics.median(taken):.0f} ms (median of 100, the longest "
+    print(f"Page: a choice is shown within {statistics.median(taken):.0f} ms (median of 100, the longest "
           f"{max(taken):.0f}), the range of 104,976 vectors within {longest:.0f} ms")
 
 
@@ -117,7 +117,7 @@ def main(root: Path, folder: Path, name: str, command: str) -> None:
         using.check_silent(browser, page.url)
     finally:
         browser.close()
-    print(f"Page: in {name} answers, links, history, keyboard, hostile texts and the console are as they must be")
+    print(f"Page: in {name} scores, links, history, keyboard, hostile texts and the console are as they must be")
 
 
 if __name__ == "__main__":

@@ -22,11 +22,11 @@ const isDefined = (input) => !["X", "ND"].includes(input.value);
 const read = () => {
   const chosen = [...document.querySelectorAll("#groups input:checked")].filter(isDefined);
   return {
-    number: words(at("number")), rating: words(at("rating")), kind: words(at("kind")), note: words(at("note")),
+    number: words(at("number")), severity: words(at("severity")), kind: words(at("kind")), note: words(at("note")),
     scores: rows("scores"), found: rows("found"), vector: words(at("vector")),
     range: at("range").hidden ? "" : words(at("range")),
     text: at("text").value.toWellFormed(), isInvalid: at("text").getAttribute("aria-invalid") === "true",
-    refusal: at("refusal").hidden ? "" : at("refusal").textContent,
+    rejection: at("rejection").hidden ? "" : at("rejection").textContent,
     hint: at("hint").hidden ? "" : words(at("take-hint")),
     version: document.querySelector("input[name=version]:checked").value, hash: location.hash,
     chosen: Object.fromEntries(chosen.map((input) => [input.name, input.value])),

@@ -50,7 +50,7 @@ _GROUPS = {
 }
 
 
-def _accounts(root: Path, texts: List[str]) -> List[Dict[str, Any]]:
+def _explanations(root: Path, texts: List[str]) -> List[Dict[str, Any]]:
     command = [sys.executable, str(root / "reference" / "accounts.py")]
     given = "".join(f"{text}\n" for text in texts)
     told = subprocess.run(command, input=given, stdout=subprocess.PIPE, text=True, check=True).stdout
@@ -58,65 +58,65 @@ def _accounts(root: Path, texts: List[str]) -> List[Dict[str, Any]]:
 
 
 def _is(shown: str, number: Optional[float]) -> bool:
-    """Whether a number is shown; the account's is less than 10^-6 from the exact one, and this one is rounded."""
+    """Whether a number is shown; the explanation's is less than 10^-6 from the exact one, and this one is rounded."""
     if number is None:
         return shown == "–"
     return abs(float(shown) - number) < 1.1e-6
 
 
-def _metrics(account: Dict[str, Any]) -> Dict[str, str]:
+def _metrics(explanation: Dict[str, Any]) -> Dict[str, str]:
     """The metrics that are defined."""
-    pieces = [piece.split(":") for piece in account["vector"].split("/")]
+    pieces = [piece.split(":") for piece in explanation["vector"].split("/")]
     return {name: value for name, value in pieces if name != "CVSS" and value not in ("X", "ND")}
 
 
-def _letters(group: str, account: Dict[str, Any]) -> str:
-    metrics = _metrics(account)
+def _letters(group: str, explanation: Dict[str, Any]) -> str:
+    metrics = _metrics(explanation)
     names = ["M" + name if "M" + name in metrics else name for name in _GROUPS[group][1].split()]
-    values = [account["effective"][name[-2:] if name[0] == "M" else name] for name in names]
+    values = [explanation["effective"][name[-2:] if name[0] == "M" else name] for name in names]
     return " ".join(f"{name}:{value}{'' if name in metrics else '*'}" for name, value in zip(names, values))
 
 
-def _check_groups(shown: Dict[str, Any], account: Dict[str, Any]) -> None:
+def _check_groups(shown: Dict[str, Any], explanation: Dict[str, Any]) -> None:
     """Each group with the values that count, its level and its share, and the sum."""
-    groups = account["groups"]
+    groups = explanation["groups"]
     assert [drawn for drawn in shown["drawn"]] == [
         [group["depth"], group["distance"], "last" if group["next"] is None else ""] for group in groups
     ]
     assert len(shown["parts"]) == len(groups) + 1 and shown["weights"] == []
     for (title, numbers), group in zip(shown["parts"], groups):
         name = group["group"]
-        assert title == [_GROUPS[name][0], f" {name} {_letters(name, account)}"], title
+        assert title == [_GROUPS[name][0], f" {name} {_letters(name, explanation)}"], title
         steps = f"{group['distance']} of {group['depth']}"
         assert numbers[:2] == [group["class"], steps] and f"{_GROUPS[name][0]} {steps}" in shown["told"], numbers
-        assert all(map(_is, numbers[2:], [group[member] for member in ("nextValue", "gap", "taken")])), numbers
+        assert all(map(_is, numbers[2:], [group[member] for member in ("nextValue", "gap", "share")])), numbers
     told = [(row[0], row[-1]) for row in shown["parts"][-1]]
     members = ("value", "mean", "number", "score")
-    assert all(_is(number, account[member]) for (_, number), member in zip(told, members)), told
-    assert told[0][0].endswith(account["macroVector"]) and told[3] == ("Score", f"{account['score']:.1f}"), told
-    taken = [group["taken"] for group in groups if group["taken"] is not None]
-    numbers = told[1][0].replace(" and ", ", ").rpartition("mean of ")[2].split(", ") if taken else []
-    assert len(numbers) == len(taken) and all(map(_is, numbers, taken)), told
-    assert ("* Not defined" in shown["foot"]) == any("*" in _letters(group["group"], account) for group in groups)
+    assert all(_is(number, explanation[member]) for (_, number), member in zip(told, members)), told
+    assert told[0][0].endswith(explanation["macroVector"]) and told[3] == ("Score", f"{explanation['score']:.1f}"), told
+    shares = [group["share"] for group in groups if group["share"] is not None]
+    numbers = told[1][0].replace(" and ", ", ").rpartition("mean of ")[2].split(", ") if shares else []
+    assert len(numbers) == len(shares) and all(map(_is, numbers, shares)), told
+    assert ("* Not defined" in shown["foot"]) == any("*" in _letters(group["group"], explanation) for group in groups)
     assert ("no lower level" in shown["foot"]) == any(group["next"] is None for group in groups)
 
 
-def _check_weights(shown: Dict[str, Any], account: Dict[str, Any]) -> None:
+def _check_weights(shown: Dict[str, Any], explanation: Dict[str, Any]) -> None:
     """Each number on the way to each score, and the weight of each metric."""
     assert shown["drawn"] == [] and len(shown["parts"]) == 3
     for part, (title, *rows) in zip(("base", "temporal", "environmental"), shown["parts"]):
         assert title[0] == part
         told = {row[0]: row[-1] for row in rows}
-        members = {_NAMES[name]: number for name, number in account[part].items() if name != "severity"}
+        members = {_NAMES[name]: number for name, number in explanation[part].items() if name != "severity"}
         assert told.keys() == members.keys() and len(rows) == len(told), (told, members)
         assert all(_is(told[name], number) for name, number in members.items()), (told, members)
-        assert told["Score"] == f"{account[part]['score']:.1f}", told
+        assert told["Score"] == f"{explanation[part]['score']:.1f}", told
     pairs = dict(shown["weights"])
     scopes = {"U": "unchanged", "C": "changed"}
-    metrics = _metrics(account)
-    expected = {name: str(weight) for name, weight in account["weights"].items()}
-    if "scope" in account:
-        expected.update(S=scopes[account["scope"]], MS=scopes[account["modifiedScope"]])
+    metrics = _metrics(explanation)
+    expected = {name: str(weight) for name, weight in explanation["weights"].items()}
+    if "scope" in explanation:
+        expected.update(S=scopes[explanation["scope"]], MS=scopes[explanation["modifiedScope"]])
     letters = {name: f"{name}:{metrics[name]}" if name in metrics else name for name in expected}
     assert pairs.keys() == set(letters.values()) and len(pairs) == len(shown["weights"]), pairs
     for name, weight in expected.items():
@@ -124,24 +124,24 @@ def _check_weights(shown: Dict[str, Any], account: Dict[str, Any]) -> None:
         assert number == weight or (weight[0].isdigit() and float(number) == float(weight)), (name, number, weight)
 
 
-def _numbers(account: Dict[str, Any]) -> Tuple[float, ...]:
+def _numbers(explanation: Dict[str, Any]) -> Tuple[float, ...]:
     """The numbers before the rounding."""
-    if "number" in account:
-        return (account["number"],)
-    return tuple(account[part]["number"] for part in ("base", "temporal", "environmental"))
+    if "number" in explanation:
+        return (explanation["number"],)
+    return tuple(explanation[part]["number"] for part in ("base", "temporal", "environmental"))
 
 
-def check_accounts(page: Page, root: Path, texts: List[str]) -> None:
+def check_explanations(page: Page, root: Path, texts: List[str]) -> None:
     states = page.act_on_each(f'paste(row, "insertFromPaste"); const why = (() => {{ {_SHOWN} }})()', texts, "why")
-    for text, account, (state, shown) in zip(texts, _accounts(root, texts), states):
-        assert state["vector"] == account["vector"], (state, account)
+    for text, explanation, (state, shown) in zip(texts, _explanations(root, texts), states):
+        assert state["vector"] == explanation["vector"], (state, explanation)
         try:
-            (_check_groups if "groups" in account else _check_weights)(shown, account)
+            (_check_groups if "groups" in explanation else _check_weights)(shown, explanation)
             words = shown["sum"].partition("Before rounding ")[2]
             told = re.findall(r"-?\d+(?:\.\d+)?", words)
-            assert len(told) >= len(_numbers(account)) and all(map(_is, told, _numbers(account))), words
+            assert len(told) >= len(_numbers(explanation)) and all(map(_is, told, _numbers(explanation))), words
         except AssertionError as error:
-            raise AssertionError((text, shown, account)) from error
+            raise AssertionError((text, shown, explanation)) from error
 
 
 def check_none(page: Page, text: str) -> None:

@@ -52,19 +52,19 @@ LINKS = {
 def check_without_vector(page: Page) -> None:
     """A text without a vector says so, and loses nothing; what was meant as one has the library's reason."""
     before = page.choose("3.1", metrics_of(V3))
-    kept = ("chosen", "number", "rating", "vector", "version", "scores")
+    kept = ("chosen", "number", "severity", "vector", "version", "scores")
     for text, state in zip(TEXTS_WITHOUT, page.paste_each(list(TEXTS_WITHOUT))):
-        assert (state["refusal"], state["hint"], state["isInvalid"]) == (NO_VECTOR, "", True), (text, state)
+        assert (state["rejection"], state["hint"], state["isInvalid"]) == (NO_VECTOR, "", True), (text, state)
         assert all(state[name] == before[name] for name in kept), (text, state)
     for text, reason in MEANT.items():
         state = page.paste(text)
-        assert state["refusal"].startswith(reason) and state["isInvalid"], (text, state)
+        assert state["rejection"].startswith(reason) and state["isInvalid"], (text, state)
 
 
 def check_links_of_nvd(page: Page) -> None:
     """A link to NVD's calculator is read: its vector has no prefix, and its version is next to it."""
     for text, state in zip(LINKS, page.paste_each(list(LINKS))):
-        assert (state["vector"], state["refusal"], state["text"]) == (LINKS[text], "", text), (text, state)
+        assert (state["vector"], state["rejection"], state["text"]) == (LINKS[text], "", text), (text, state)
     several = " ".join(list(LINKS)[:2])
     assert [row[3] for row in page.paste(several)["found"]] == [V3, f"CVSS:3.0/{BARE3}/E:U"]
     link = next(iter(LINKS))

@@ -37,7 +37,7 @@ def check_history(page: Page) -> None:
     # a link that is followed in the page; one that is rejected loses nothing
     assert page.move(f"location.hash = '{V2}'")["vector"] == V2
     state = page.move("location.hash = 'CVSS:3.1/AV:Q'")
-    assert state["vector"] == V2 and "`Q`" in state["refusal"]
+    assert state["vector"] == V2 and "`Q`" in state["rejection"]
     # a link with several vectors is their table
     assert [row[0] for row in page.open(f"#{V3},{V4}")["found"]] == ["10.0", "9.8"]
     # what is typed into the field is one entry, however many vectors it is on its way
@@ -145,12 +145,12 @@ def check_hostile(page: Page) -> None:
         for state in (page.paste(text), page.move(f"location.hash = {json.dumps(text)}")):
             assert page.browser.run("return window.pwned === undefined"), text
             assert page.browser.run(_COUNT) == before, text
-            assert len(state["refusal"]) < 3_600 and not _HIDDEN.search(state["refusal"]), state
+            assert len(state["rejection"]) < 3_600 and not _HIDDEN.search(state["rejection"]), state
             page.paste(V2)
-    assert "<U+202E>" in page.paste("CVSS:3.1/\u202eX")["refusal"]
+    assert "<U+202E>" in page.paste("CVSS:3.1/\u202eX")["rejection"]
     for word in ("x/", "CVSS:3.1/AV:", "\u20ac"):
         state = page.paste(word * (1_000_000 // len(word)))
-        assert state["vector"] == V2 and (state["isInvalid"] or len(state["found"]) == 1_000), state["refusal"][:200]
+        assert state["vector"] == V2 and (state["isInvalid"] or len(state["found"]) == 1_000), state["rejection"][:200]
     table = page.paste("\n".join([V2] * 1_000))["found"]
     assert len(table) == 1_000 and page.paste(V3)["vector"] == V3
     table = page.paste(f"{V2}\n" * 100_000 + V4)["found"]
@@ -193,7 +193,7 @@ def check_policy(page: Page, host: Host) -> None:
     assert title == "CVSS calculator" and len(host.requests) == before, (title, host.requests[before:])
     assert page.browser.console() != [], "the console does not say that the policy forbids this"
     if isinstance(page.browser, Chromium):
-        page.browser.requests()  # those that were refused
+        page.browser.requests()  # those that the policy forbids
 
 
 def check_silent(browser: Browser, url: str) -> None:

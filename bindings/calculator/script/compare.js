@@ -22,7 +22,7 @@ function differing(left, right) {
 
 function scoreCell(vector) {
   const { kind, score, severity } = headlineOf(vector);
-  return make("td", {}, make("span", { className: "number" }, tenth(score)), " ", ratingOf(severity),
+  return make("td", {}, make("span", { className: "number" }, tenth(score)), " ", severityMark(severity),
     make("small", {}, kind));
 }
 

@@ -27,10 +27,10 @@ function vectorOfLink(link) {
 
 // The vectors in a text, in its order. Where there is none, the whole text with the reason why it is none.
 function readText(text) {
-  const found = [...cvss.find(text)];
+  const found = [...cvss.find(text, INCOMPLETE)];
   if (found.length) return found;
   const whole = text.trim();
-  const { ok, vector, error } = cvss.Vector.parse(whole);
+  const { ok, vector, error } = cvss.Vector.parse(whole, INCOMPLETE);
   return [ok ? { text: whole, vector } : { text: whole, error, isWhole: true }];
 }
 
@@ -43,7 +43,7 @@ function foundRow({ text, vector, error }) {
   const { kind, score, severity } = headlineOf(vector);
   const link = make("a", { href: `#${vector.text}` }, make("code", {}, vector.text));
   const words = vector.isComplete ? kind : `${kind}, incomplete`;
-  return make("tr", {}, make("td", { className: "number" }, tenth(score)), make("td", {}, ratingOf(severity)),
+  return make("tr", {}, make("td", { className: "number" }, tenth(score)), make("td", {}, severityMark(severity)),
     make("td", {}, words), make("td", {}, link));
 }
 
@@ -83,13 +83,13 @@ function suggestion(text) {
   const version = /^[(["'\s]*cvss\s*:?\s*v?(\d\.\d)/i.exec(text)?.[1];
   const versions = version ? [version] : ["3.1", "4.0"];
   const candidates = versions.map((own) => cvss.Vector.parse(own === "2.0" ? rest : `CVSS:${own}/${rest}`));
-  return candidates.find(({ ok, vector }) => ok && vector.isComplete)?.vector ?? null;
+  return candidates.find(({ ok }) => ok)?.vector ?? null;
 }
 
 // Shows why the text is rejected, with what was meant if that is clear. Without words nothing is rejected.
 function reject(words, text = "") {
-  at("refusal").textContent = words;
-  at("refusal").hidden = !words;
+  at("rejection").textContent = words;
+  at("rejection").hidden = !words;
   at("text").setAttribute("aria-invalid", words ? "true" : "false");
   const vector = words ? suggestion(text) : null;
   at("take-hint").textContent = vector?.text ?? "";

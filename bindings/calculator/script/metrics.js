@@ -3,6 +3,9 @@
 // 3.0 and 3.1 have the same metrics, so they share what is chosen.
 const TABLE_OF = { "4.0": "4.0", "3.1": "3.1", "3.0": "3.1", "2.0": "2.0" };
 
+// A v3 vector that lacks base metrics is shown, with the range of the scores that it can have.
+const INCOMPLETE = { allowIncomplete: true };
+
 const state = {
   version: "4.0",
   chosen: { "4.0": {}, "3.1": {}, "2.0": {} },

@@ -1,4 +1,4 @@
-// What the user does, and the links and the history of the page. Every answer is computed before the page is drawn
+// What the user does, and the links and the history of the page. Every score is computed before the page is drawn
 // again, so no score is shown beside other choices than its own.
 
 // Whether the last entry of the history was typed into the field.
@@ -43,7 +43,7 @@ function showChosen() {
   const text = textOf(state.version, chosen());
   at("text").value = text;
   markForm();
-  show((text && cvss.Vector.parse(text).vector) || null);
+  show((text && cvss.Vector.parse(text, INCOMPLETE).vector) || null);
   markCurrent();
 }
 

@@ -19,9 +19,8 @@ function completions(text, absent, isOrdered) {
 
 function rangeOf(version, metrics) {
   const absent = missing(version, metrics);
-  const kind = version === "4.0" ? "" : overallKind(version, metrics);
-  const scores = completions(textOf(version, metrics), absent, keepsOrder(version, kind))
-    .map((text) => (kind ? new cvss.Vector(text).scores[kind] : cvss.score(text)));
+  const isOrdered = version === "4.0" || keepsOrder(version, kindOf(version, metrics));
+  const scores = completions(textOf(version, metrics), absent, isOrdered).map((text) => cvss.score(text));
   const count = absent.reduce((product, { values }) => product * values.length, 1);
   return { least: Math.min(...scores), greatest: Math.max(...scores), count };
 }

@@ -1,13 +1,13 @@
 // The result: the score of the headline, all scores, the vector and its links.
 
-function setRating(element, severity) {
-  element.className = severity ? `rating ${severity}` : "";
+function setSeverity(element, severity) {
+  element.className = severity ? `severity ${severity}` : "";
   element.textContent = severity ?? "";
 }
 
-function ratingOf(severity) {
+function severityMark(severity) {
   const element = make("strong");
-  setRating(element, severity);
+  setSeverity(element, severity);
   return element;
 }
 
@@ -45,7 +45,7 @@ function scoreRows(vector) {
   }
   return Object.keys(NOMENCLATURES).map((name) => {
     const score = vector.nomenclatureScores[name];
-    return [name, score, cvss.rating("4.0", score)];
+    return [name, score, cvss.severityOf("4.0", score)];
   });
 }
 
@@ -54,7 +54,7 @@ function showScores(vector) {
   const rows = vector ? scoreRows(vector) : [];
   at("scores").querySelector("tbody").replaceChildren(...rows.map(([name, score, severity]) =>
     make("tr", name === kind ? { className: "own" } : {}, make("th", { scope: "row" }, name),
-      make("td", { className: "number" }, tenth(score)), make("td", {}, ratingOf(severity)))));
+      make("td", { className: "number" }, tenth(score)), make("td", {}, severityMark(severity)))));
   at("scores").hidden = rows.length === 0;
 }
 
@@ -63,7 +63,7 @@ function show(vector) {
   const headline = vector && headlineOf(vector);
   const range = currentRange();
   at("number").textContent = headline ? tenth(headline.score) : "–";
-  setRating(at("rating"), headline?.severity);
+  setSeverity(at("severity"), headline?.severity);
   at("kind").textContent = headline ? wordsOfKind(headline.kind) : "";
   at("range").textContent = range ? wordsOfRange(range) : "";
   at("range").hidden = !range;

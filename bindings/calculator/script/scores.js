@@ -7,38 +7,34 @@ const NOMENCLATURES = {
   "CVSS-BTE": "base, threat and environmental metrics",
 };
 const KINDS = ["base", "temporal", "environmental"];
+const WORDS_OF_KINDS = {
+  base: "Base score",
+  temporal: "Temporal score: base and temporal metrics",
+  environmental: "Environmental score: all metrics",
+};
 
 const tenth = (number) => number.toFixed(1);
 
-// v2 and v3: the score that counts all defined metrics. It is the environmental score if an environmental metric is
-// defined, else the temporal score if a temporal metric is, else the base score.
-function overallKind(version, metrics) {
+// Which score of v2 and v3 counts all metrics: the environmental score if an environmental metric is defined, else the
+// temporal score if a temporal metric is, else the base score.
+function kindOf(version, metrics) {
   const isDefined = (kind) => tableOf(version).some(({ group, metrics: own }) =>
     group === kind && own.some(({ name }) => !isAbsent(metrics[name])));
   return ["environmental", "temporal"].find(isDefined) ?? "base";
 }
 
-// The score of the headline: its kind, its number and its rating.
-function headlineOf(vector) {
-  const { version, nomenclature, score, severity, scores } = vector;
-  if (version === "4.0") return { kind: nomenclature, score, severity };
-  const kind = overallKind(version, vector.metrics);
-  return { kind, score: scores[kind], severity: vector.severities[kind] };
+// The score of the headline, which counts all metrics: its kind, its number and its severity.
+function headlineOf({ version, nomenclature, metrics, score, severity }) {
+  return { kind: nomenclature ?? kindOf(version, metrics), score, severity };
 }
 
 // Which metrics the score of the headline counts, in words.
 function wordsOfKind(kind) {
-  if (kind in NOMENCLATURES) return `${kind}: ${NOMENCLATURES[kind]}`;
-  return kind === "base" ? "Base score" : `Overall score: ${kind} score`;
-}
-
-function scoreOf(version, metrics) {
-  const text = textOf(version, metrics);
-  return version === "4.0" ? cvss.score(text) : headlineOf(new cvss.Vector(text)).score;
+  return kind in NOMENCLATURES ? `${kind}: ${NOMENCLATURES[kind]}` : WORDS_OF_KINDS[kind];
 }
 
 // The score that a complete vector would have with this value, and null where the vector would be incomplete.
 function scoreWith(metric, letter) {
   const metrics = { ...chosen(), [metric.name]: letter };
-  return missing(state.version, metrics).length ? null : scoreOf(state.version, metrics);
+  return missing(state.version, metrics).length ? null : cvss.score(textOf(state.version, metrics));
 }

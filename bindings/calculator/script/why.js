@@ -80,15 +80,15 @@ function lettersOf(group, { effective }, metrics) {
 }
 
 function groupPart(explained, explanation, metrics) {
-  const { group, class: level, distance, depth, nextValue, gap, taken } = explained;
+  const { group, class: level, distance, depth, nextValue, gap, share } = explained;
   const letters = make("code", {}, lettersOf(group, explanation, metrics));
   const title = head("rowgroup", 5, make("b", {}, GROUPS[group][0]), ` ${group} `, letters);
-  const numbers = [orDash(nextValue, tenth), orDash(gap, tenth), orDash(taken, decimal)];
+  const numbers = [orDash(nextValue, tenth), orDash(gap, tenth), orDash(share, decimal)];
   return make("tbody", {}, row(title), row(...cells([level, `${distance} of ${depth}`, ...numbers])));
 }
 
 function sumPart({ groups, macroVector, value, mean, number, score }) {
-  const shares = groups.flatMap((group) => group.taken ?? []).map(decimal);
+  const shares = groups.flatMap((group) => group.share ?? []).map(decimal);
   const sums = [
     [`MacroVector ${macroVector}`, tenth(value)],
     [shares.length ? `Subtracted: the mean of ${listed(shares)}` : "Subtracted", decimal(mean)],

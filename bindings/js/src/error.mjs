@@ -1,7 +1,8 @@
-// Why a text denotes no vector.
+// Why a text is rejected, as the struct CvssError of cvss.h has it.
 
-import { first, wasm, written, writtenOf } from "./memory.mjs";
+import { call, decoded, errorAt, numbers, octets } from "./memory.mjs";
 
+// By their numbers.
 const KINDS = [
   "",
   "invalid component",
@@ -13,18 +14,11 @@ const KINDS = [
   "missing metric",
   "not UTF-8",
 ];
-// The last kind whose reason quotes a part of the text.
-const LAST_QUOTING = KINDS.indexOf("invalid value");
-
-// What the reasons for rejecting metrics say.
-const REASONS = {
-  "invalid component": /^invalid CVSS metric group component: `(?<value>.*)`$/s,
-  "unknown metric": /^unknown CVSS metric name: `(?<value>.*)`$/s,
-  "invalid value": /^invalid CVSSv\d (?<metric>\w+) \([^)]*\) metric: `(?<value>.*)`$/s,
-  "duplicate metric": /^duplicate CVSSv\d (?<metric>\w+) /,
-  "missing metric": /^missing mandatory CVSSv\d (?<metric>\w+) /,
-  "not UTF-8": /^not UTF-8$/,
-};
+// Where the members of the struct begin, in bytes.
+const ERROR_KIND = 4;
+const ERROR_METRIC = 16;
+const ERROR_QUOTED_START = 24;
+const ERROR_QUOTED_LENGTH = 32;
 
 export class CvssError extends Error {
   kind;
@@ -46,25 +40,25 @@ export class CvssError extends Error {
 const name = { __proto__: null, value: "CvssError", configurable: true, writable: true };
 Object.defineProperty(CvssError.prototype, "name", name);
 
-// The error of the text that is in memory, which is rejected.
-export function errorOf(length) {
-  const message = writtenOf("cvss_reason", length);
-  const kind = wasm.cvss_refusal_kind(first, length);
-  const metric = writtenOf("cvss_refusal_metric", length) || null;
-  const value = kind <= LAST_QUOTING ? writtenOf("cvss_refusal_value", length) : null;
-  return new CvssError(message, KINDS[kind], metric, value);
+const memberAt = (offset) => numbers[(errorAt + offset) >> 2];
+
+// Whether the last call has rejected what it was given.
+export const isRejected = () => memberAt(ERROR_KIND) !== 0;
+
+// The error of the last call, which has written the message into the buffer.
+export function errorOf(buffer, length) {
+  const message = decoded(buffer, length);
+  const name = errorAt + ERROR_METRIC;
+  const metric = decoded(name, octets.indexOf(0, name) - name) || null;
+  // no message begins with what it quotes
+  const start = memberAt(ERROR_QUOTED_START) >>> 0;
+  const value = start === 0 ? null : decoded(buffer + start, memberAt(ERROR_QUOTED_LENGTH) >>> 0);
+  return new CvssError(message, KINDS[memberAt(ERROR_KIND)], metric, value);
 }
 
-// The error of metrics that are rejected. The library says why in words alone, after the number of the metric.
-export function errorOfMetrics(numbered) {
-  const message = numbered.replace(/^metric \d+: /, "");
-  const kind = Object.keys(REASONS).find((own) => REASONS[own].test(message));
-  const { groups } = REASONS[kind].exec(message);
-  return new CvssError(message, kind, groups?.metric, groups?.value);
-}
-
-// The error of a v3 vector that lacks a base metric, named as the library names it.
-export function missingOf(metric) {
-  const named = written("cvss_reason", `CVSS:3.1/${metric}:`).replace(/^invalid (.*) metric: .*$/, "$1");
-  return new CvssError(`missing mandatory ${named} metric`, "missing metric", metric);
+// What a function writes into its buffer, after the texts, which end at an address; its error is thrown.
+export function written(name, end, ...words) {
+  const length = call(name, end, ...words, errorAt);
+  if (isRejected()) throw errorOf(end, length);
+  return decoded(end, length);
 }

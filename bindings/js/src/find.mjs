@@ -1,7 +1,12 @@
 // Vectors in any text.
 
 import { Vector } from "./vector.mjs";
-import { decoded, field, first, numbers, octets, put, putEncoded, ready, wasm } from "./memory.mjs";
+import { decoded, first, matchAt, numbers, octets, put, putEncoded, ready, wasm } from "./memory.mjs";
+
+// Where the members of the struct CvssMatch of cvss.h begin, in bytes.
+const MATCH_NEXT = 8;
+const MATCH_OFFSET = 16;
+const MATCH_LENGTH = 24;
 
 // How many units of UTF-16 a part of the text in memory has.
 function unitsIn(begin, end) {
@@ -23,9 +28,11 @@ function matchesIn(text) {
   const matches = new Map();
   let end = 0;
   let index = 0;
-  while (wasm.cvss_find(first, length, end, field, field + 8) !== 0) {
-    const begin = numbers[field >> 2] >>> 0;
-    const size = numbers[(field >> 2) + 2] >>> 0;
+  // the state before the first call; the high half of a size_t is always 0
+  numbers[(matchAt + MATCH_NEXT) >> 2] = 0;
+  while (wasm.cvss_find(first, length, matchAt) !== 0) {
+    const begin = numbers[(matchAt + MATCH_OFFSET) >> 2] >>> 0;
+    const size = numbers[(matchAt + MATCH_LENGTH) >> 2] >>> 0;
     index += hasByteUnits ? begin - end : unitsIn(end, begin);
     matches.set(index, decoded(first + begin, size));
     index += size;
@@ -37,8 +44,8 @@ function matchesIn(text) {
 function* vectorsOf(matches, options) {
   for (const index of matches.keys()) {
     const text = matches.get(index);
-    const { ok, ...read } = Vector.parse(text, options);
-    yield { index, text, ...read };
+    const { ok, ...parsed } = Vector.parse(text, options);
+    yield { index, text, ...parsed };
   }
 }
 

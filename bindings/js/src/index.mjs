@@ -5,4 +5,5 @@ export { find } from "./find.mjs";
 export { version } from "./generated.mjs";
 export { metrics } from "./metrics.mjs";
 export { init, wasmModule } from "./module.mjs";
-export { Vector, answer, rating, score } from "./vector.mjs";
+export { score, scoreLine, severityOf } from "./score.mjs";
+export { Vector } from "./vector.mjs";

@@ -1,6 +1,6 @@
 // The memory of the module: texts go in, results come out.
 //
-// Free memory begins with a field of numbers, which functions write. After it are the texts of a call, and then its
+// Free memory begins with the structs of cvss.h, which functions write. After them are the texts of a call, and then its
 // buffer. A call has ended before the next begins, so all calls share this memory. It grows for a large text.
 //
 // Other code may have added properties to Object.prototype and Array.prototype, such as setters. So the package reads no
@@ -10,13 +10,24 @@
 import { wasmModule } from "./module.mjs";
 
 const PAGE = 65536;
-const FIELD = 1024; // bytes of the field of numbers
 const ROOM = PAGE / 2; // bytes in which most strings are encoded
+// The structs: where each begins after the beginning of free memory, and its size. A size_t in them has 64 bits.
+const VECTOR = 0;
+const VECTOR_SIZE = 64;
+const ERROR = 64;
+const ERROR_SIZE = 40;
+const MATCH = 104;
+const MATCH_SIZE = 32;
+const UNWANTED = 136; // its size is 0, so no function writes it
+const STRUCTS = 256; // bytes for all of them
 
 export let wasm = null; // the exports of the one instance
 export let octets = null; // its memory, as bytes
 export let numbers = null; // the same memory, as 32-bit numbers
-export let field = 0; // the address of the field of numbers
+export let vectorAt = 0; // the address of the struct CvssVector
+export let errorAt = 0; // of CvssError
+export let matchAt = 0; // of CvssMatch
+export let unwantedAt = 0; // of a struct in place of one that is not wanted
 export let first = 0; // the address of the first text
 let room = null; // the memory from there on, where most strings are encoded
 
@@ -34,12 +45,20 @@ function look() {
 
 export function start(module) {
   const { exports } = new WebAssembly.Instance(module);
-  if (typeof exports.cvss_scores !== "function") throw new TypeError("this module is not cvss.wasm");
+  if (typeof exports.cvss_parse !== "function") throw new TypeError("this module is not cvss.wasm");
   wasm = exports;
-  field = (wasm.__heap_base.value + 7) & ~7;
-  first = field + FIELD;
+  const free = (wasm.__heap_base.value + 7) & ~7;
+  vectorAt = free + VECTOR;
+  errorAt = free + ERROR;
+  matchAt = free + MATCH;
+  unwantedAt = free + UNWANTED;
+  first = free + STRUCTS;
   wasm.memory.grow(1);
   look();
+  // no function changes a size
+  numbers[vectorAt >> 2] = VECTOR_SIZE;
+  numbers[errorAt >> 2] = ERROR_SIZE;
+  numbers[matchAt >> 2] = MATCH_SIZE;
 }
 
 export function ready() {
@@ -101,32 +120,11 @@ export function decoded(address, length) {
   return text;
 }
 
-// What a function writes into its buffer, after the texts in memory. It is given these words and the buffer.
-function writtenAt(end, name, ...words) {
-  let length = wasm[name](...words, end, octets.length - end) >>> 0;
-  if (length > octets.length - end) {
-    reserve(end + length);
-    length = wasm[name](...words, end, octets.length - end) >>> 0;
-  }
-  return decoded(end, length);
-}
-
-// The same for the one text that is in memory.
-export function writtenOf(name, length) {
-  return writtenAt(first + length, name, first, length);
-}
-
-// The same for a text, or for a number and a text.
-export function written(name, text, ...numbers) {
-  ready();
-  const length = put(text, first);
-  return writtenAt(first + length, name, ...numbers, first, length);
-}
-
-// The same for two texts.
-export function writtenOfTwo(name, text, other) {
-  ready();
-  const second = first + put(text, first);
-  const length = put(other, second);
-  return writtenAt(second + length, name, first, second - first, second, length);
+// Calls a function whose last arguments are a buffer and its size: the memory after the texts, which end at an address.
+// Returns the length of what it has written there.
+export function call(name, end, ...words) {
+  const length = wasm[name](...words, end, octets.length - end) >>> 0;
+  if (length <= octets.length - end) return length;
+  reserve(end + length);
+  return wasm[name](...words, end, octets.length - end) >>> 0;
 }

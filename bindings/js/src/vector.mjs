@@ -1,92 +1,83 @@
 // Vectors, and what is known of them.
 
-import { CvssError, errorOf, errorOfMetrics, missingOf } from "./error.mjs";
+import { CvssError, errorOf, isRejected, written } from "./error.mjs";
+import { componentsOf } from "./given.mjs";
+import { call, decoded, errorAt, first, numbers, octets, put, ready, unwantedAt, vectorAt, wasm } from "./memory.mjs";
 import { metrics } from "./metrics.mjs";
-import { field, first, numbers, put, ready, wasm, written, writtenOf, writtenOfTwo } from "./memory.mjs";
+import { ALLOW_INCOMPLETE, NOMENCLATURES, SEVERITIES, VERSIONS, flagsOf, numberOf } from "./words.mjs";
 
-const VERSIONS = new Map([[20, "2.0"], [30, "3.0"], [31, "3.1"], [40, "4.0"]]);
-const NUMBERS = new Map([...VERSIONS].map((pair) => [pair[1], pair[0]]));
-const SEVERITIES = ["none", "low", "medium", "high", "critical"];
-const NOMENCLATURES = ["CVSS-B", "CVSS-BE", "CVSS-BT", "CVSS-BTE"];
-// The numbers of the struct CvssScores of cvss.h.
+// The numbers of the struct CvssVector of cvss.h after its size.
 const VERSION = 0;
-const BASE = 1;
-const TEMPORAL = 2;
-const ENVIRONMENTAL = 3;
-const SEVERITY = 4;
-const TEMPORAL_SEVERITY = 5;
-const ENVIRONMENTAL_SEVERITY = 6;
-const NOMENCLATURE = 7;
-const IS_COMPLETE = 8;
+const SCORE = 1;
+const SEVERITY = 2;
+const BASE = 3;
+const BASE_SEVERITY = 4;
+const TEMPORAL = 5;
+const TEMPORAL_SEVERITY = 6;
+const ENVIRONMENTAL = 7;
+const ENVIRONMENTAL_SEVERITY = 8;
+const NOMENCLATURE = 9;
+const BY_NOMENCLATURE = 10;
+const IS_COMPLETE = 14;
 
 const scoreOf = (tenths) => (tenths < 0 ? null : tenths / 10);
-const severityOf = (number) => (number < 0 ? null : SEVERITIES[number]);
+const nameOf = (number) => (number < 0 ? null : SEVERITIES[number]);
 
-// Whether the text in memory denotes a vector; then its scores are in the field of numbers.
-const isRead = (length) => wasm.cvss_scores(first, length, field) !== 0;
-
-// An option that is given, and not one that is in a prototype.
-const isSet = (options, name) => options != null && Object.hasOwn(options, name) && Boolean(options[name]);
-
-function numberOf(version) {
-  const number = NUMBERS.get(version);
-  if (number === undefined) throw new TypeError(`a version is "2.0", "3.0", "3.1" or "4.0", not ${String(version)}`);
-  return number;
+// The numbers of the vector that was parsed last. A list is faster than a part of the memory.
+function numbersOfVector() {
+  const own = (vectorAt >> 2) + 1;
+  return [
+    numbers[own + VERSION],
+    numbers[own + SCORE],
+    numbers[own + SEVERITY],
+    numbers[own + BASE],
+    numbers[own + BASE_SEVERITY],
+    numbers[own + TEMPORAL],
+    numbers[own + TEMPORAL_SEVERITY],
+    numbers[own + ENVIRONMENTAL],
+    numbers[own + ENVIRONMENTAL_SEVERITY],
+    numbers[own + NOMENCLATURE],
+    numbers[own + BY_NOMENCLATURE],
+    numbers[own + BY_NOMENCLATURE + 1],
+    numbers[own + BY_NOMENCLATURE + 2],
+    numbers[own + BY_NOMENCLATURE + 3],
+    numbers[own + IS_COMPLETE],
+  ];
 }
 
-// Whether an object is a list, a map or the like. What other code has given to all objects does not count.
-function isIterable(object) {
-  const iterator = object[Symbol.iterator];
-  return iterator !== undefined && iterator !== Object.prototype[Symbol.iterator];
+// Parses the text in memory, and returns the length of what is written after it: the canonical text or the message. It fits
+// most often, and a call with its arguments in place is faster.
+function parsed(end, length, flags) {
+  const size = wasm.cvss_parse(first, length, flags, vectorAt, errorAt, end, octets.length - end) >>> 0;
+  return size <= octets.length - end ? size : call("cvss_parse", end, first, length, flags, vectorAt, errorAt);
 }
 
-// Metrics as components joined by slashes.
-function componentsOf(metrics) {
-  if (metrics === null || typeof metrics !== "object" || isIterable(metrics)) {
-    throw new TypeError('metrics are an object of names and values, such as { E: "A" }');
-  }
-  const components = Object.keys(metrics).map((name) => {
-    const value = metrics[name];
-    if (typeof value !== "string") throw new TypeError(`the value of ${name} is a string, not ${typeof value}`);
-    const component = `${name}:${value}`;
-    if (component.includes("/")) throw errorOfMetrics(`invalid CVSS metric group component: \`${component}\``);
-    return component;
-  });
-  return components.join("/");
+// What a function writes of the text of a vector, which was accepted.
+function writtenOf(name, text, ...words) {
+  ready();
+  const length = put(text, first);
+  return written(name, first + length, first, length, ALLOW_INCOMPLETE, ...words);
 }
 
 export class Vector {
   // a property, so that what compares objects by their properties tells vectors apart
-  source;
+  given;
   #numbers;
   #text = null;
 
   constructor(text, options) {
     ready();
+    const flags = flagsOf(options);
     // bytes may change at any time if another thread has them too, so they are copied once
     const length = put(text, first);
-    if (!isRead(length)) throw errorOf(length);
-    const own = field >> 2;
-    this.#numbers = [
-      numbers[own + VERSION],
-      numbers[own + BASE],
-      numbers[own + TEMPORAL],
-      numbers[own + ENVIRONMENTAL],
-      numbers[own + SEVERITY],
-      numbers[own + TEMPORAL_SEVERITY],
-      numbers[own + ENVIRONMENTAL_SEVERITY],
-      numbers[own + NOMENCLATURE],
-      numbers[own + IS_COMPLETE],
-    ];
-    this.source = typeof text === "string" ? text : writtenOf("cvss_canonical", length);
+    const end = first + length;
+    const size = parsed(end, length, flags);
+    if (isRejected()) throw errorOf(end, size);
+    this.#numbers = numbersOfVector();
+    this.given = typeof text === "string" ? text : decoded(end, size);
     // a subclass may add fields
     if (new.target === Vector) Object.freeze(this);
-    else Object.defineProperty(this, "source", { __proto__: null, writable: false, configurable: false });
-    if (isSet(options, "strict") && !this.isComplete) {
-      const known = this.metrics;
-      const isMissing = ({ name, isMandatory }) => isMandatory && !Object.hasOwn(known, name);
-      throw missingOf(metrics[this.version].find(isMissing).name);
-    }
+    else Object.defineProperty(this, "given", { __proto__: null, writable: false, configurable: false });
   }
 
   static parse(text, options) {
@@ -98,16 +89,17 @@ export class Vector {
     }
   }
 
-  static from(version, metrics) {
+  static fromMetrics(version, metrics, options) {
+    ready();
     const number = numberOf(version);
     const components = componentsOf(metrics);
-    const text = written("cvss_build", components, number);
-    if (text !== "") return new this(text);
-    throw errorOfMetrics(written("cvss_build_reason", components, number));
+    const flags = flagsOf(options);
+    const length = put(components, first);
+    return new this(written("cvss_from_metrics", first + length, number, first, length, flags), options);
   }
 
   get text() {
-    return (this.#text ??= written("cvss_canonical", this.source));
+    return (this.#text ??= writtenOf("cvss_parse", this.given, unwantedAt));
   }
 
   get version() {
@@ -115,29 +107,47 @@ export class Vector {
   }
 
   get tenths() {
-    return this.#numbers[BASE];
+    return this.#numbers[SCORE];
   }
 
   get score() {
-    return this.#numbers[BASE] / 10;
+    return this.#numbers[SCORE] / 10;
   }
 
   get severity() {
     return SEVERITIES[this.#numbers[SEVERITY]];
   }
 
+  get baseScore() {
+    return this.#numbers[BASE] / 10;
+  }
+
+  get baseSeverity() {
+    return SEVERITIES[this.#numbers[BASE_SEVERITY]];
+  }
+
+  get temporalScore() {
+    return scoreOf(this.#numbers[TEMPORAL]);
+  }
+
+  get temporalSeverity() {
+    return nameOf(this.#numbers[TEMPORAL_SEVERITY]);
+  }
+
+  get environmentalScore() {
+    return scoreOf(this.#numbers[ENVIRONMENTAL]);
+  }
+
+  get environmentalSeverity() {
+    return nameOf(this.#numbers[ENVIRONMENTAL_SEVERITY]);
+  }
+
   get scores() {
-    const own = this.#numbers;
-    return { base: this.score, temporal: scoreOf(own[TEMPORAL]), environmental: scoreOf(own[ENVIRONMENTAL]) };
+    return { base: this.baseScore, temporal: this.temporalScore, environmental: this.environmentalScore };
   }
 
   get severities() {
-    const own = this.#numbers;
-    return {
-      base: this.severity,
-      temporal: severityOf(own[TEMPORAL_SEVERITY]),
-      environmental: severityOf(own[ENVIRONMENTAL_SEVERITY]),
-    };
+    return { base: this.baseSeverity, temporal: this.temporalSeverity, environmental: this.environmentalSeverity };
   }
 
   get nomenclature() {
@@ -146,8 +156,9 @@ export class Vector {
   }
 
   get nomenclatureScores() {
-    if (wasm.cvss_nomenclature_scores(first, put(this.text, first), field) === 0) return null;
-    return Object.fromEntries(NOMENCLATURES.map((name, index) => [name, numbers[(field >> 2) + index] / 10]));
+    const own = this.#numbers;
+    if (own[NOMENCLATURE] < 0) return null;
+    return Object.fromEntries(NOMENCLATURES.map((name, index) => [name, own[BY_NOMENCLATURE + index] / 10]));
   }
 
   get isComplete() {
@@ -169,23 +180,29 @@ export class Vector {
     });
   }
 
-  replace(metrics) {
+  withMetrics(metrics) {
     const components = componentsOf(metrics);
-    const text = writtenOfTwo("cvss_with", this.text, components);
-    if (text !== "") return new this.constructor(text);
-    throw errorOfMetrics(writtenOfTwo("cvss_with_reason", this.text, components));
+    const second = first + put(this.text, first);
+    const length = put(components, second);
+    const words = [first, second - first, second, length, ALLOW_INCOMPLETE];
+    return this.#another(written("cvss_with_metrics", second + length, ...words));
   }
 
-  withoutUndefined() {
-    return new this.constructor(written("cvss_without_undefined", this.text));
+  withoutNotDefined() {
+    return this.#another(writtenOf("cvss_without_not_defined", this.text));
+  }
+
+  // One that is incomplete was made so, and may stay so.
+  #another(text) {
+    return new this.constructor(text, { allowIncomplete: true });
   }
 
   record() {
-    return JSON.parse(written("cvss_record", this.text));
+    return JSON.parse(writtenOf("cvss_record", this.text));
   }
 
   explain() {
-    return JSON.parse(written("cvss_account", this.text));
+    return JSON.parse(writtenOf("cvss_explain", this.text));
   }
 
   toString() {
@@ -195,25 +212,4 @@ export class Vector {
   toJSON() {
     return this.text;
   }
-}
-
-export function score(text) {
-  ready();
-  return isRead(put(text, first)) ? numbers[(field >> 2) + BASE] / 10 : null;
-}
-
-// The rating of a score, which has one decimal.
-export function rating(version, score) {
-  ready();
-  const number = numberOf(version);
-  const tenths = Math.round(10 * score);
-  if (tenths / 10 !== score || tenths < 0 || tenths > 100) {
-    const told = typeof score === "string" ? JSON.stringify(score) : String(score);
-    throw new RangeError(`a score is a number from 0 to 10 with one decimal, not ${told}`);
-  }
-  return SEVERITIES[wasm.cvss_rating(number, tenths)];
-}
-
-export function answer(text) {
-  return written("cvss_answer", text);
 }

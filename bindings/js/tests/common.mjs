@@ -6,6 +6,8 @@ import { resolve } from "node:path";
 
 import { CvssError, Vector } from "cvss-proved";
 
+// The option under which a v3 vector may lack base metrics.
+export const INCOMPLETE = { allowIncomplete: true };
 // The folder of the checkout.
 export const root = process.argv[2];
 export const TEXT = "AV:N/AC:L/Au:N/C:N/I:N/A:C";
@@ -27,7 +29,7 @@ export const textsOf = (path) => linesOf(path).map(String);
 export const facts = textsOf("bindings/stored/facts");
 // the stored lines without a mark, which are the first
 export const stored = linesOf("crates/test_vectors/stdin").slice(0, facts.length);
-export const vectors = stored.map((line) => Vector.parse(line)).flatMap(({ ok, vector }) => (ok ? [vector] : []));
+export const vectors = stored.map((line) => Vector.parse(line, INCOMPLETE)).flatMap(({ ok, vector }) => (ok ? [vector] : []));
 
 const scored = (number, severity) => (number === null ? "- -" : `${number.toFixed(1)} ${severity}`);
 
@@ -35,11 +37,29 @@ const scored = (number, severity) => (number === null ? "- -" : `${number.toFixe
 export function factsOf(text, options) {
   const { ok, vector, error } = Vector.parse(text, options);
   if (!ok) return `${KINDS.indexOf(error.kind)} ${error.metric ?? "-"} ${error.message}`;
-  const { scores, severities } = vector;
-  const three = ["base", "temporal", "environmental"].map((name) => scored(scores[name], severities[name]));
-  const own = Object.entries(vector.metrics).map(([name, value]) => `${name}=${value}`);
   const complete = vector.isComplete ? "complete" : "incomplete";
-  return [vector, vector.version, vector.nomenclature ?? "-", complete, ...three, ...own].join(" ");
+  const scores = [
+    scored(vector.score, vector.severity),
+    scored(vector.baseScore, vector.baseSeverity),
+    scored(vector.temporalScore, vector.temporalSeverity),
+    scored(vector.environmentalScore, vector.environmentalSeverity),
+  ];
+  const four = Object.values(vector.nomenclatureScores ?? {}).map((number) => number.toFixed(1));
+  const own = Object.entries(vector.metrics).map(([name, value]) => `${name}=${value}`);
+  const more = four.length > 0 ? four : ["-", "-", "-", "-"];
+  return [vector, vector.version, vector.nomenclature ?? "-", complete, ...scores, ...more, ...own].join(" ");
+}
+
+const isRejected = (known) => /^[1-8] /.test(known);
+
+// Whether a text is rejected only because base metrics are missing, by what is known of it.
+export const isIncomplete = (known) => !isRejected(known) && known.split(" ")[3] === "incomplete";
+
+// The line with the score of a text that may lack base metrics, by what is known of it.
+export function scoreLineOf(known) {
+  if (isRejected(known)) return known.replace(/^\d \S+ /, "error: ");
+  const [text, , , , score, severity] = known.split(" ");
+  return `${text} ${score} ${severity}`;
 }
 
 export function rejects(call, kind, metric, value, message) {

@@ -1,20 +1,23 @@
-import { CvssError, Vector, answer, find, init, metrics, rating, score, version, wasmModule } from "cvss-proved";
-import type { Found, MetricType, Nomenclature, Severity, Version } from "cvss-proved";
+import { CvssError, Vector, find, init, metrics, score, scoreLine, severityOf, version, wasmModule } from "cvss-proved";
+import type { Match, MetricType, Nomenclature, Severity, Version } from "cvss-proved";
 
-const vector = new Vector("CVSS:3.1/A:H/I:H/C:H/S:U/UI:N/PR:N/AC:L/AV:N", { strict: true });
+const vector = new Vector("CVSS:3.1/A:H/I:H/C:H/S:U/UI:N/PR:N/AC:L/AV:N", { allowIncomplete: true });
 const severity: Severity = vector.severity;
 const tenths: number = vector.tenths;
 const nomenclature: Nomenclature | null = vector.nomenclature;
-const temporal: number | null = vector.scores.temporal;
-const changed: Vector = vector.replace({ E: "P" }).withoutUndefined();
-const made: Vector = Vector.from("4.0", vector.metrics);
+const base: number = vector.baseScore;
+const baseSeverity: Severity = vector.baseSeverity;
+const temporal: number | null = vector.temporalScore ?? vector.scores.temporal;
+const environmental: Severity | null = vector.environmentalSeverity;
+const changed: Vector = vector.withMetrics({ E: "P" }).withoutNotDefined();
+const made: Vector = Vector.fromMetrics("4.0", vector.metrics, { allowIncomplete: false });
 
 const parsed = Vector.parse("CVSS:3.1/AV:Q");
 const said: string = parsed.ok ? parsed.vector.text : `${parsed.error.kind} ${parsed.error.metric} ${parsed.error.value}`;
-const told: string = parsed.ok ? parsed.vector.toJSON() : parsed.error.toJSON().message;
+const printed: string = parsed.ok ? parsed.vector.toJSON() : parsed.error.toJSON().message;
 
-function textOf(found: Found): string {
-  return found.vector ? found.vector.text : found.error.message;
+function textOf(match: Match): string {
+  return match.vector ? match.vector.text : match.error.message;
 }
 
 function isUrgent(text: string): boolean {
@@ -34,19 +37,21 @@ class Own extends Vector {
 
 function urgencies(text: string): boolean[] {
   const own = Own.parse(text);
-  const all: Own[] = [new Own(text).replace({ E: "P" }), new Own(text).withoutUndefined(), Own.from("3.1", { AV: "N" })];
+  const set: Own = new Own(text).withMetrics({ E: "P" });
+  const all: Own[] = [set, set.withoutNotDefined(), Own.fromMetrics("3.1", set.metrics)];
   return [own.ok && own.vector.isUrgent(), ...all.map((vector) => vector.isUrgent())];
 }
 
 const titles = (of: Version): string[] => metrics[of].map((metric: MetricType) => metric.title);
 const texts: string[] = [...find("(AV:N/AC:L/Au:N/C:N/I:N/A:C)")].map(textOf);
-const bytes: number | null = score(new Uint8Array([65]));
+const bytes: number | null = score(new Uint8Array([65]), { allowIncomplete: true });
 
 export async function start(): Promise<string> {
   await init();
   await init(wasmModule());
   await init(new Uint8Array(8).buffer);
-  return [severity, tenths, nomenclature, temporal, changed, made, said, told, texts, bytes, answer("x"), rating("3.1", 7.5), version].join();
+  const own = [severity, tenths, nomenclature, base, baseSeverity, temporal, environmental, changed, made, vector.given];
+  return [...own, said, printed, texts, bytes, scoreLine("x"), severityOf("3.1", 7.5), version].join();
 }
 
 export { isUrgent, titles, urgencies };

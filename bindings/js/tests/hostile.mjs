@@ -9,11 +9,12 @@ import { createRequire } from "node:module";
 import vm from "node:vm";
 
 import * as cvss from "cvss-proved";
-import { Vector, answer, find, score } from "cvss-proved";
-import { TEXT, V3, V4, stored } from "./common.mjs";
+import { Vector, find, score, scoreLine } from "cvss-proved";
+import { INCOMPLETE, TEXT, V3, V4, stored } from "./common.mjs";
 
 const OTHER = V3.replace("AV:N", "AV:P");
-const TEXTS = [...new Set(stored.map(String))].filter((_, row) => row % 25 === 0).concat("", `${V3}/RL:`, `${V4}/E:P/CR:L`);
+const MORE = ["", `${V3}/RL:`, `${V4}/E:P/CR:L`, V3.slice(0, -4), `${V3}/E:P/CR:L`];
+const TEXTS = [...new Set(stored.map(String))].filter((_, row) => row % 25 === 0).concat(MORE);
 
 // Another thread can write to a text over shared memory at any time: here as soon as it has been copied once.
 function whileChanging(given, changed, call) {
@@ -35,17 +36,17 @@ function whileChanging(given, changed, call) {
 function checkSharedMemory() {
   assert.notEqual(score(OTHER), score(V3));
   const vector = whileChanging(V3, OTHER, (bytes) => new Vector(bytes));
-  assert.deepEqual([vector.source, vector.text, vector.score, vector.severity], [V3, V3, 9.8, "critical"]);
+  assert.deepEqual([vector.given, vector.text, vector.score, vector.severity], [V3, V3, 9.8, "critical"]);
   class Own extends Vector {}
-  assert.equal(whileChanging(V3, OTHER, (bytes) => new Own(bytes)).source, V3);
-  // a text that is rejected is the one whose error is told, and one that was accepted stays so
+  assert.equal(whileChanging(V3, OTHER, (bytes) => new Own(bytes)).given, V3);
+  // the error is that of the text that was copied, and a text that was accepted stays so
   const rejected = V3.replace("AV:N", "AV:q");
   const { error } = whileChanging(rejected, `${V3.slice(0, -1)}Q`, (bytes) => Vector.parse(bytes));
   assert.deepEqual([error.kind, error.metric, error.value], ["invalid value", "AV", "Q"]);
   assert.equal(error.message, "invalid CVSSv3 AV (Attack Vector) metric: `Q`");
   assert.equal(whileChanging(V3, rejected, (bytes) => Vector.parse(bytes)).ok, true);
   assert.equal(whileChanging(rejected, V3, (bytes) => Vector.parse(bytes)).error?.kind, "invalid value");
-  assert.equal(whileChanging(V3, rejected, (bytes) => answer(bytes)), `${V3} 9.8 critical`);
+  assert.equal(whileChanging(V3, rejected, (bytes) => scoreLine(bytes)), `${V3} 9.8 critical`);
   assert.deepEqual(whileChanging(V3, OTHER, (bytes) => [...find(bytes)].map(({ text }) => text)), [V3]);
 }
 
@@ -57,7 +58,7 @@ function checkEncoding() {
       return encodeInto.call(this, text.slice(0, units), bytes);
     };
     try {
-      for (const call of [score, answer, Vector.parse.bind(Vector), (text) => [...find(text)]]) {
+      for (const call of [score, scoreLine, Vector.parse.bind(Vector), (text) => [...find(text)]]) {
         const message = `this text is too long: ${units} of its ${V3.length} units were encoded`;
         assert.throws(() => call(V3), { name: "RangeError", message });
       }
@@ -85,28 +86,30 @@ function said(make) {
 }
 
 // What a package answers to a text. An object of the program is made by `object`.
-function answersTo(text, { Vector, answer, find, score }, object) {
+function answersTo(text, { Vector, find, score, scoreLine }, object) {
   class Own extends Vector {}
   const jsonOf = ({ ok, error }) => (ok ? "" : JSON.stringify(error));
   const parts = [
-    () => Vector.parse(text), () => jsonOf(Vector.parse(text)), () => score(text), () => answer(text),
-    () => new Vector(text), () => new Own(text), () => new Vector(text, object({})),
-    () => new Vector(text, object({ strict: true })), () => [...find(`${text} (${text})`)],
+    () => Vector.parse(text), () => jsonOf(Vector.parse(text)), () => score(text), () => scoreLine(text),
+    () => new Vector(text), () => new Own(text), () => new Vector(text, object({})), () => score(text, object({})),
+    () => new Vector(text, object(INCOMPLETE)), () => score(text, object(INCOMPLETE)), () => scoreLine(text, object(INCOMPLETE)),
+    () => [...find(`${text} (${text})`)], () => [...find(text, object(INCOMPLETE))],
   ];
-  const ofVector = ({ text: own, version, tenths, severity, scores, severities, nomenclature, nomenclatureScores, isComplete,
-    metrics, described }) => ({ own, version, tenths, severity, scores, severities, nomenclature, nomenclatureScores,
-    isComplete, metrics, described });
+  const ofVector = ({ text: own, version, score: number, tenths, severity, scores, severities, nomenclature, nomenclatureScores,
+    isComplete, metrics, described }) => ({ own, version, number, tenths, severity, scores, severities, nomenclature,
+    nomenclatureScores, isComplete, metrics, described });
   const more = [
-    ofVector, (vector) => vector.withoutUndefined(), (vector) => vector.replace(object({ E: "U" })), (vector) => vector.record(),
-    (vector) => vector.explain(), (vector) => Vector.from(vector.version, vector.metrics), (vector) => vector.replace(object({ E: 1 })),
-    (vector) => vector.replace(object({ CR: "x" })),
+    ofVector, (vector) => vector.withoutNotDefined(), (vector) => vector.withMetrics(object({ E: "U" })),
+    (vector) => vector.record(), (vector) => vector.explain(), (vector) => Vector.fromMetrics(vector.version, vector.metrics),
+    (vector) => Vector.fromMetrics(vector.version, vector.metrics, object(INCOMPLETE)),
+    (vector) => vector.withMetrics(object({ E: 1 })), (vector) => vector.withMetrics(object({ CR: "x" })),
   ];
-  return [...parts.map(said), ...more.map((part) => said(() => part(new Vector(text))))];
+  return [...parts.map(said), ...more.map((part) => said(() => part(new Vector(text, object(INCOMPLETE)))))];
 }
 
 function answersOf(own, object) {
-  const ratings = [0, 3.9, 7, 10.1].map((number) => said(() => own.rating("3.1", number)));
-  return [owned(own.metrics), own.version, ratings, ...TEXTS.map((text) => answersTo(text, own, object))];
+  const severities = [0, 3.9, 7, 10.1].map((number) => said(() => own.severityOf("3.1", number)));
+  return [owned(own.metrics), own.version, severities, ...TEXTS.map((text) => answersTo(text, own, object))];
 }
 
 // The names of the package's code and words, and the indices of its lists, except those that each object has.
@@ -142,7 +145,8 @@ function realm(source, names, value, isEarly) {
 function checkPrototypes() {
   const source = readFileSync(createRequire(import.meta.url).resolve("cvss-proved"), "utf8");
   const names = namesOf(source);
-  assert(names.length > 500 && ["strict", "kind", "others", "value", "-1", "0", "AV"].every((name) => names.includes(name)));
+  const known = ["allowIncomplete", "kind", "others", "value", "-1", "0", "AV"];
+  assert(names.length > 500 && known.every((name) => names.includes(name)));
   const expected = answersOf(cvss, (given) => given);
   for (const value of [undefined, true, 1, "X", [], {}, () => "X"]) {
     for (const isEarly of [true, false]) assert.deepEqual(realm(source, names, value, isEarly), expected);

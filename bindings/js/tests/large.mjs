@@ -6,18 +6,18 @@
 import assert from "node:assert/strict";
 import { constants } from "node:buffer";
 
-import { CvssError, Vector, answer, find, score } from "cvss-proved";
+import { CvssError, Vector, find, score, scoreLine } from "cvss-proved";
 import { TEXT, V3, V4, rejects } from "./common.mjs";
 
 const GIGABYTE = 2 ** 30;
 
 // What strings are encoded for, which a large text before them must not change.
 function checkOthers() {
-  for (const text of [TEXT, V3, V4]) assert.deepEqual([new Vector(text).text, Vector.parse(text).vector.source], [text, text]);
-  assert.deepEqual([score(TEXT), answer(V3)], [7.8, `${V3} 9.8 critical`]);
-  assert.equal(answer("AV:é"), "error: invalid CVSS metric group component: `AV:é`");
+  for (const text of [TEXT, V3, V4]) assert.deepEqual([new Vector(text).text, Vector.parse(text).vector.given], [text, text]);
+  assert.deepEqual([score(TEXT), scoreLine(V3)], [7.8, `${V3} 9.8 critical`]);
+  assert.equal(scoreLine("AV:é"), "error: invalid CVSS metric group component: `AV:é`");
   rejects(() => new Vector("CVSS:3.1/AV:q"), "invalid value", "AV", "Q", "invalid CVSSv3 AV (Attack Vector) metric: `Q`");
-  assert.equal(new Vector(V3).replace({ E: "U" }).text, `${V3}/E:U`);
+  assert.equal(new Vector(V3).withMetrics({ E: "U" }).text, `${V3}/E:U`);
   assert.deepEqual([...find(`é ${TEXT}`)].map(({ index }) => index), [2]);
 }
 
@@ -34,7 +34,7 @@ function isTooLong(call, message) {
 const quoted = new Uint8Array(constants.MAX_STRING_LENGTH).fill(0x61);
 const noString = /^this text is too long: no string holds the \d{9} bytes of the result$/;
 isTooLong(() => Vector.parse(quoted), noString);
-isTooLong(() => answer(quoted), noString);
+isTooLong(() => scoreLine(quoted), noString);
 assert.equal(score(quoted), null);
 
 // The memory of the module has more than 2 GiB after this text, at whose end is a vector.
@@ -46,5 +46,5 @@ checkOthers();
 // No memory holds this text, nor the reason for that one, which quotes it.
 const noMemory = /^this text is too long: there is no memory for \d{10} bytes$/;
 isTooLong(() => score(new Uint8Array(4 * GIGABYTE)), noMemory);
-isTooLong(() => answer(long), noMemory);
+isTooLong(() => scoreLine(long), noMemory);
 console.log("JavaScript: texts of gigabytes, 0 wrong answers");

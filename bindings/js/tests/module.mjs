@@ -9,7 +9,7 @@ import { join } from "node:path";
 import { Worker } from "node:worker_threads";
 
 import * as imported from "cvss-proved";
-import { Vector, answer, find, init, score, version, wasmModule } from "cvss-proved";
+import { Vector, find, init, score, scoreLine, version, wasmModule } from "cvss-proved";
 import { TEXT, V3, V4, root, stored } from "./common.mjs";
 
 function checkSizes() {
@@ -22,7 +22,9 @@ function checkSizes() {
   }
   // about where a string no longer fits into the memory in which most are encoded
   for (const size of [10_921, 10_922, 10_923, 16_384, 16_385, 21_845, 21_846, 32_768, 32_769, 65_536]) {
-    for (const letter of ["x", "é", "€"]) assert(Vector.parse(letter.repeat(size)).error.value === letter.repeat(size), `${size}`);
+    for (const text of ["x", "é", "€"].map((letter) => letter.repeat(size))) {
+      assert(Vector.parse(text).error.value === text, `${size}`);
+    }
   }
   assert.deepEqual([...find(wide + V3)].map(({ index }) => index), [1 << 20]);
   const many = [...find(`${V3}, `.repeat(100_000))];
@@ -42,7 +44,7 @@ function checkMemory() {
   };
   const call = (count) => {
     for (let turn = 0; turn < count; turn++) score(texts[turn & 3]);
-    for (let turn = 0; turn < count / 100; turn++) answer(texts[turn & 3]) && Vector.parse(texts[turn & 3]);
+    for (let turn = 0; turn < count / 100; turn++) scoreLine(texts[turn & 3]) && Vector.parse(texts[turn & 3]);
   };
   call(1_000);
   const before = used();
@@ -52,7 +54,9 @@ function checkMemory() {
 }
 
 // The functions of cvss.h that the package does not call, and that its module does not have.
-const LEFT_OUT = ["cvss_numbers", "cvss_rounded", "cvss_score", "cvss_temporal_with_impact", "cvss_values"];
+const LEFT_OUT = [
+  "cvss_metrics", "cvss_numbers", "cvss_rounded", "cvss_score_lines", "cvss_temporal_with_impact", "cvss_values",
+];
 
 // The module has the other functions of cvss.h, its memory and where free memory begins, and imports nothing.
 function checkModule() {
@@ -67,22 +71,33 @@ function checkModule() {
 
 // The stack, which ends at address 0, stays far above the first 1,024 bytes: the module was made for that.
 function checkStack() {
-  const { memory, __heap_base: base, cvss_rating, ...functions } = new WebAssembly.Instance(wasmModule()).exports;
+  const { memory, __heap_base: base, ...functions } = new WebAssembly.Instance(wasmModule()).exports;
   memory.grow(4);
   const octets = new Uint8Array(memory.buffer);
-  const field = (base.value + 7) & ~7;
-  const [metrics, text, buffer] = [field + 1024, field + 2048, field + (1 << 16)];
+  const numbers = new Int32Array(memory.buffer);
+  const free = (base.value + 7) & ~7;
+  const [vector, error, match, metrics] = [0, 64, 104, 1024].map((offset) => free + offset);
+  const [text, buffer] = [free + 2048, free + (1 << 16)];
+  numbers.set([64], vector >> 2);
+  numbers.set([40], error >> 2);
   const room = [buffer, 1 << 16];
   const own = [metrics, new TextEncoder().encodeInto("E:U/RC:C", octets.subarray(metrics)).written];
   for (const line of stored) {
     octets.set(line, text);
+    numbers.set([32, 0, 0, 0], match >> 2);
     const given = [text, line.length];
-    const byCount = { 2: given, 3: [...given, field], 4: [...given, ...room], 6: [...given, ...own, ...room] };
-    const byName = {
-      cvss_answers: [...given, ...room, field], cvss_build: [31, ...given, ...room], cvss_build_reason: [31, ...given, ...room],
-      cvss_find: [...given, 0, field, field + 8], cvss_read: [...given, field, ...room],
+    const common = [...given, 1, error, ...room];
+    const calls = {
+      cvss_parse: [...given, 1, vector, error, ...room], cvss_score: [...given, 1],
+      cvss_with_metrics: [...given, ...own, 1, error, ...room], cvss_from_metrics: [31, ...given, 1, error, ...room],
+      cvss_without_not_defined: common, cvss_record: common, cvss_explain: common, cvss_score_line: [...given, 1, ...room],
+      cvss_find: [...given, match], cvss_severity: [31, 98],
     };
-    for (const [name, call] of Object.entries(functions)) call(...(byName[name] ?? byCount[call.length]));
+    assert.deepEqual(Object.keys(functions).sort(), Object.keys(calls).sort());
+    for (const [name, call] of Object.entries(functions)) {
+      assert.equal(call.length, calls[name].length, name);
+      call(...calls[name]);
+    }
   }
   const lowest = octets.findIndex((octet) => octet !== 0);
   assert(lowest > 1 << 19 && lowest < 1 << 20, `the stack was used down to ${lowest}`);

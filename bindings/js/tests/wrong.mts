@@ -9,16 +9,22 @@ vector.version === "4";
 // @ts-expect-error
 vector.text = "";
 // @ts-expect-error
-vector.replace({ E: 1 });
+vector.withMetrics({ E: 1 });
 // @ts-expect-error
 new Vector(5);
 // @ts-expect-error
 Vector.parse("AV:N").vector.text;
 // @ts-expect-error
-Vector.from("1.0", {});
+Vector.fromMetrics("1.0", {});
 // @ts-expect-error
 ["AV:N"].map(Vector.parse);
 // @ts-expect-error
 metrics["2.0"].push();
 // @ts-expect-error
 score("AV:N").toFixed(1);
+// @ts-expect-error
+vector.temporalScore.toFixed(1);
+// @ts-expect-error
+new Vector("AV:N", { strict: true });
+// @ts-expect-error
+score("AV:N", true);

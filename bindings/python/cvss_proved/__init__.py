@@ -6,11 +6,11 @@ computes no score itself. Python 3.8 and later, on Linux on x86-64 and ARM64.
 >>> vector = Vector("CVSS:3.1/AV:N/AC:L/PR:N/UI:N/S:U/C:H/I:H/A:H")
 >>> vector.score, vector.severity
 (9.8, 'critical')
->>> vector = Vector("A:C/I:N/C:N/Au:N/AC:L/AV:N")
+>>> vector = Vector("E:U/A:C/I:N/C:N/Au:N/AC:L/AV:N")
 >>> vector.text
-'AV:N/AC:L/Au:N/C:N/I:N/A:C'
->>> vector.scores
-Scores(base=7.8, temporal=7.8, environmental=7.8)
+'AV:N/AC:L/Au:N/C:N/I:N/A:C/E:U'
+>>> vector.score, vector.scores
+(6.6, Scores(base=7.8, temporal=6.6, environmental=6.6))
 >>> vector.metrics["AC"]
 'L'
 >>> Vector("AV:N/AC:q")
@@ -21,21 +21,23 @@ cvss_proved.CvssError: invalid CVSSv2 AC (Access Complexity) metric: `q`
 
 from ._error import CvssError, Kind
 from ._exact import Numbers, numbers, rounded, temporal_with_impact
-from ._find import Found, find
-from ._library import Text
+from ._find import Match, find
+from ._lines import score_line, score_lines, scores
 from ._numbers import Nomenclature, Severity, severity_of
+from ._scores import Scores, Severities
+from ._texts import Text
 from ._values import Values, score, values
-from ._vector import Scores, Severities, Vector, answer, answers, scores
+from ._vector import Vector
 from ._words import Described, Group, MetricType, MetricValue, Version, metrics
 
-__version__ = "1.0.0"
+__version__ = "2.0.0"
 
 __all__ = [
     "CvssError",
     "Described",
-    "Found",
     "Group",
     "Kind",
+    "Match",
     "MetricType",
     "MetricValue",
     "Nomenclature",
@@ -47,13 +49,13 @@ __all__ = [
     "Values",
     "Vector",
     "Version",
-    "answer",
-    "answers",
     "find",
     "metrics",
     "numbers",
     "rounded",
     "score",
+    "score_line",
+    "score_lines",
     "scores",
     "severity_of",
     "temporal_with_impact",

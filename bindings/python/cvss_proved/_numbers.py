@@ -1,4 +1,4 @@
-"""What the library's numbers mean: versions, ratings, nomenclatures and scores."""
+"""What the library's numbers mean: versions, severities, nomenclatures and scores."""
 
 from __future__ import annotations
 
@@ -10,10 +10,10 @@ from . import _library
 from ._words import Version, check_version
 
 Severity = Literal["none", "low", "medium", "high", "critical"]
-"""A qualitative severity rating."""
+"""The qualitative severity of a score."""
 
 Nomenclature = Literal["CVSS-B", "CVSS-BE", "CVSS-BT", "CVSS-BTE"]
-"""Which groups of metrics a score of v4.0 rests on: base, environmental, threat."""
+"""Which groups of metrics a v4.0 score counts: base, environmental, threat."""
 
 VERSIONS: Dict[int, Version] = {20: "2.0", 30: "3.0", 31: "3.1", 40: "4.0"}
 SEVERITIES: Tuple[Severity, ...] = ("none", "low", "medium", "high", "critical")
@@ -32,7 +32,7 @@ def _tenths_of(score: Union[float, Decimal]) -> Optional[int]:
     except ArithmeticError:  # a Decimal that is no number cannot be compared
         return None
     except TypeError:
-        raise TypeError(f"a score is a float or a Decimal, and not {type(score).__name__}") from None
+        raise TypeError(f"expected float or Decimal, got {type(score).__name__}") from None
     if not is_within:
         return None
     tenths = round(10 * score)
@@ -42,14 +42,14 @@ def _tenths_of(score: Union[float, Decimal]) -> Optional[int]:
 
 
 def severity_of(score: Union[float, Decimal], version: Version = "4.0") -> Severity:
-    """The rating of a score by the bounds of a version, which v3.0, v3.1 and v4.0 share.
+    """The severity of a score by the bounds of a version, which v3.0, v3.1 and v4.0 share.
 
-    What is no number from 0 to 10 with at most one decimal is a `ValueError`.
+    Raises `ValueError` for anything but a number from 0 to 10 with at most one decimal place.
 
     >>> severity_of(7.5), severity_of(9.8), severity_of(9.8, "2.0")
     ('high', 'critical', 'high')
     """
     tenths = _tenths_of(score)
     if tenths is None:
-        raise ValueError(f"a score is a number from 0 to 10 with at most one decimal, and not {score}")
-    return SEVERITIES[_library.rating(number_of(version), tenths)]
+        raise ValueError(f"expected a score from 0 to 10 with at most one decimal place, got {score}")
+    return SEVERITIES[_library.severity(number_of(version), tenths)]

@@ -8,7 +8,7 @@ from __future__ import annotations
 import json
 from functools import lru_cache
 from pathlib import Path
-from typing import Any, Dict, FrozenSet, Iterator, List, Literal, NamedTuple, Tuple
+from typing import Any, Dict, Iterator, List, Literal, NamedTuple, Tuple
 
 Version = Literal["2.0", "3.0", "3.1", "4.0"]
 """A version of the standard."""
@@ -18,9 +18,9 @@ Group = Literal["base", "temporal", "threat", "environmental", "supplemental"]
 
 
 def check_version(version: Version) -> Version:
-    """The version; what is none is a `ValueError`."""
+    """The version. Raises `ValueError` for anything else."""
     if version not in ("2.0", "3.0", "3.1", "4.0"):
-        raise ValueError(f"a version is '2.0', '3.0', '3.1' or '4.0', and not {version!r}")
+        raise ValueError(f"expected version '2.0', '3.0', '3.1' or '4.0', got {version!r}")
     return version
 
 
@@ -99,13 +99,6 @@ def _tables() -> Dict[str, Tuple[MetricType, ...]]:
     tables = {version: tuple(_types(groups)) for version, groups in json.loads(file_bytes()).items()}
     # v3.0 has the metrics of v3.1
     return {**tables, "3.0": tables["3.1"]}
-
-
-@lru_cache(maxsize=None)
-def environmental() -> FrozenSet[str]:
-    """The abbreviations of the environmental metrics of all versions."""
-    types = (metric for table in _tables().values() for metric in table)
-    return frozenset(metric.name for metric in types if metric.group == "environmental")
 
 
 @lru_cache(maxsize=None)

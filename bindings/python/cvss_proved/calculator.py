@@ -17,12 +17,12 @@ _FILE = "cvss-calculator.html"
 def path() -> Path:
     """The calculator's file: the one in this package, or in a checkout the one in bindings/calculator."""
     here = Path(__file__).resolve().parent
-    places = [here / _FILE, here.parent.parent / "calculator" / _FILE]
-    for place in places:
-        if place.is_file():
-            return place
-    looked = " or ".join(str(place) for place in places)
-    raise FileNotFoundError(f"the calculator is missing: it should be {looked}; install the package again")
+    candidates = [here / _FILE, here.parent.parent / "calculator" / _FILE]
+    for candidate in candidates:
+        if candidate.is_file():
+            return candidate
+    searched = " or ".join(str(candidate) for candidate in candidates)
+    raise FileNotFoundError(f"cannot find the calculator at {searched}: install the package again")
 
 
 def _parser() -> argparse.ArgumentParser:

@@ -1,6 +1,6 @@
 //! Prints the nanoseconds that a call takes, over the lines of standard input that are accepted.
 
-use cvss_proved::{answer, answer_lines, Cvss};
+use cvss_proved::{score_line, score_lines, Cvss};
 use std::hint::black_box;
 use std::io::{self, Read};
 use std::time::Instant;
@@ -40,21 +40,31 @@ fn main() -> io::Result<()> {
     print_time("metrics", &vectors, |vector| {
         black_box(vector.metrics());
     });
-    print_time("without_undefined", &vectors, |vector| {
-        black_box(vector.without_undefined());
+    print_time("without_not_defined", &vectors, |vector| {
+        black_box(vector.without_not_defined());
     });
-    print_time("with_overrides", &vectors, |vector| {
-        let _ = black_box(vector.with_overrides(&[("CR", "H"), ("AR", "L")]));
+    print_time("with_metrics", &vectors, |vector| {
+        let _ = black_box(vector.with_metrics(&[("CR", "H"), ("AR", "L")]));
     });
     print_time("record", &vectors, |vector| {
         black_box(vector.record());
     });
-    print_time("answer", &lines, |line| {
-        black_box(answer(line.as_bytes()));
+    print_time("explain", &vectors, |vector| {
+        black_box(vector.explain());
+    });
+    print_time("score_line", &lines, |line| {
+        black_box(score_line(line.as_bytes()));
     });
     let all = lines.join("\n") + "\n";
-    print_round_time("answer_lines", lines.len(), || {
-        black_box(answer_lines(all.as_bytes()));
+    print_round_time("score_lines", lines.len(), || {
+        black_box(score_lines(all.as_bytes()));
     });
+    print_time(
+        "Cvss::parse of a rejected text",
+        &["CVSS:3.1/AV:N"; 100],
+        |text| {
+            let _ = black_box(Cvss::parse(text));
+        },
+    );
     Ok(())
 }

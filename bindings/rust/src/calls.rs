@@ -1,206 +1,93 @@
-//! The calls of the library: the one place with unsafe code.
+//! The calls of the library: the one module with unsafe code.
 //!
-//! The declarations are those of `bindings/c/cvss.h`. No call keeps a pointer, and each needs only
-//! pointers to as many bytes as its lengths say, which slices have.
+//! No call keeps a pointer, and each needs only pointers to as many bytes as its lengths say, which
+//! slices have. Each struct has its size in its first member, so the library writes no more than the
+//! struct.
 
+use crate::library::{
+    cvss_explain, cvss_find, cvss_from_metrics, cvss_metrics, cvss_numbers, cvss_parse,
+    cvss_record, cvss_rounded, cvss_score, cvss_score_line, cvss_score_lines, cvss_severity,
+    cvss_temporal_with_impact, cvss_values, cvss_with_metrics, cvss_without_not_defined,
+};
+use crate::library::{
+    size, CvssError, CvssMatch, CvssMetric, CvssNumber, CvssNumbers, CvssVector, ALLOW_INCOMPLETE,
+    MOST_METRICS,
+};
 use crate::Values;
 use std::mem::MaybeUninit;
+use std::ptr;
 
-/// The struct of the same name in `cvss.h`. What is reserved is not read.
-#[derive(Clone, Copy, Default)]
-#[repr(C)]
-pub(crate) struct CvssScores {
-    pub(crate) version: i32,
-    pub(crate) base: i32,
-    pub(crate) temporal: i32,
-    pub(crate) environmental: i32,
-    pub(crate) severity: i32,
-    pub(crate) temporal_severity: i32,
-    pub(crate) environmental_severity: i32,
-    pub(crate) nomenclature: i32,
-    pub(crate) is_complete: i32,
-    reserved: [i32; 7],
-}
+/// An error with its message.
+pub(crate) type Rejected = (CvssError, String);
 
-/// The struct of the same name in `cvss.h`.
-#[derive(Clone, Copy, Default)]
-#[repr(C)]
-pub(crate) struct CvssMetric {
-    pub(crate) name: [u8; 8],
-    pub(crate) value: [u8; 8],
-}
-
-/// The struct of the same name in `cvss.h`: so many 10^-12, and so many 10^-24.
-#[derive(Clone, Copy, Default)]
-#[repr(C)]
-pub(crate) struct CvssNumber {
-    pub(crate) trillionths: i64,
-    pub(crate) rest: i64,
-}
-
-/// The struct of the same name in `cvss.h`. What is reserved is not read.
-#[derive(Clone, Copy, Default)]
-#[repr(C)]
-pub(crate) struct CvssNumbers {
-    pub(crate) base: i32,
-    pub(crate) temporal: i32,
-    pub(crate) environmental: i32,
-    reserved: i32,
-    pub(crate) impact: CvssNumber,
-    pub(crate) exploitability: CvssNumber,
-    pub(crate) adjusted_impact: CvssNumber,
-}
-
-/// No vector has more metrics.
-pub(crate) const MOST_METRICS: usize = 32;
-
-extern "C" {
-    fn cvss_read(
-        text: *const u8,
-        length: usize,
-        scores: *mut CvssScores,
-        buffer: *mut u8,
-        size: usize,
-    ) -> usize;
-    fn cvss_scores(text: *const u8, length: usize, scores: *mut CvssScores) -> bool;
-    fn cvss_score(text: *const u8, length: usize) -> i32;
-    fn cvss_values(text: *const u8, length: usize, values: *mut Values) -> bool;
-    fn cvss_metrics(
-        text: *const u8,
-        length: usize,
-        metrics: *mut CvssMetric,
-        count: usize,
-    ) -> usize;
-    fn cvss_without_undefined(
-        text: *const u8,
-        length: usize,
-        buffer: *mut u8,
-        size: usize,
-    ) -> usize;
-    fn cvss_overridden(
-        text: *const u8,
-        length: usize,
-        overrides: *const u8,
-        overrides_length: usize,
-        buffer: *mut u8,
-        size: usize,
-    ) -> usize;
-    fn cvss_with(
-        text: *const u8,
-        length: usize,
-        metrics: *const u8,
-        metrics_length: usize,
-        buffer: *mut u8,
-        size: usize,
-    ) -> usize;
-    fn cvss_with_reason(
-        text: *const u8,
-        length: usize,
-        metrics: *const u8,
-        metrics_length: usize,
-        buffer: *mut u8,
-        size: usize,
-    ) -> usize;
-    fn cvss_build(
-        version: i32,
-        metrics: *const u8,
-        metrics_length: usize,
-        buffer: *mut u8,
-        size: usize,
-    ) -> usize;
-    fn cvss_build_reason(
-        version: i32,
-        metrics: *const u8,
-        metrics_length: usize,
-        buffer: *mut u8,
-        size: usize,
-    ) -> usize;
-    fn cvss_nomenclature_scores(text: *const u8, length: usize, scores: *mut i32) -> bool;
-    fn cvss_rating(version: i32, tenths: i32) -> i32;
-    fn cvss_numbers(
-        version: i32,
-        metrics: *const u8,
-        metrics_length: usize,
-        numbers: *mut CvssNumbers,
-    ) -> bool;
-    fn cvss_rounded(version: i32, number: *const CvssNumber, tenths: *mut i32) -> bool;
-    fn cvss_temporal_with_impact(
-        metrics: *const u8,
-        metrics_length: usize,
-        impact: *const CvssNumber,
-        tenths: *mut i32,
-    ) -> bool;
-    fn cvss_record(text: *const u8, length: usize, buffer: *mut u8, size: usize) -> usize;
-    fn cvss_account(text: *const u8, length: usize, buffer: *mut u8, size: usize) -> usize;
-    fn cvss_reason(text: *const u8, length: usize, buffer: *mut u8, size: usize) -> usize;
-    fn cvss_refusal_kind(text: *const u8, length: usize) -> i32;
-    fn cvss_refusal_metric(text: *const u8, length: usize, buffer: *mut u8, size: usize) -> usize;
-    fn cvss_refusal_value(text: *const u8, length: usize, buffer: *mut u8, size: usize) -> usize;
-    fn cvss_answer(text: *const u8, length: usize, buffer: *mut u8, size: usize) -> usize;
-    fn cvss_answers(
-        texts: *const u8,
-        length: usize,
-        buffer: *mut u8,
-        size: usize,
-        read: *mut usize,
-    ) -> usize;
-    fn cvss_find(
-        text: *const u8,
-        length: usize,
-        from: usize,
-        start: *mut usize,
-        found_length: *mut usize,
-    ) -> bool;
-}
-
-/// The scores and the canonical text of the vector that a text denotes.
-pub(crate) fn read(text: &[u8]) -> Option<(CvssScores, Vec<u8>)> {
-    let mut scores = CvssScores::default();
-    // the canonical text is as long as the text, and a copy is made more quickly than zeros
-    let canonical = written_over(text.to_vec(), |buffer| {
-        // SAFETY: the pointers are those of slices and of a struct that live through the call and
-        // do not overlap.
+/// The vector that a text denotes, with its canonical text.
+pub(crate) fn parse(text: &[u8], flags: u32) -> Result<(CvssVector, String), Rejected> {
+    let mut vector = CvssVector::new();
+    let canonical = text_or_error(text.len(), |error, buffer| {
+        // SAFETY: the pointers are those of slices and of structs that live through the call and do
+        // not overlap.
         unsafe {
-            cvss_read(
+            cvss_parse(
                 text.as_ptr(),
                 text.len(),
-                &mut scores,
+                flags,
+                &mut vector,
+                error,
                 buffer.as_mut_ptr(),
                 buffer.len(),
             )
         }
-    });
-    (!canonical.is_empty()).then_some((scores, canonical))
+    })?;
+    Ok((vector, canonical))
 }
 
-/// The scores of the vector that a text denotes.
-pub(crate) fn scores(text: &[u8]) -> Option<CvssScores> {
-    let mut scores = CvssScores::default();
-    // SAFETY: the pointers are those of a slice and of a struct that live through the call and do not
-    // overlap.
-    let is_vector = unsafe { cvss_scores(text.as_ptr(), text.len(), &mut scores) };
-    is_vector.then_some(scores)
+/// The vector that a text denotes, without its text.
+pub(crate) fn scores(text: &[u8], flags: u32) -> Option<CvssVector> {
+    let mut error = CvssError::new();
+    let mut vector = CvssVector::new();
+    // SAFETY: the pointers are those of a slice and of structs that live through the call and do not
+    // overlap; the buffer is empty.
+    unsafe {
+        cvss_parse(
+            text.as_ptr(),
+            text.len(),
+            flags,
+            &mut vector,
+            &mut error,
+            ptr::null_mut(),
+            0,
+        )
+    };
+    (error.kind == 0).then_some(vector)
 }
 
 /// The tenths of the score of the vector that a text denotes, or -1.
 #[inline]
-pub(crate) fn score(text: &[u8]) -> i32 {
+pub(crate) fn score(text: &[u8], flags: u32) -> i32 {
     // SAFETY: the pointer is that of a slice that lives through the call.
-    unsafe { cvss_score(text.as_ptr(), text.len()) }
+    unsafe { cvss_score(text.as_ptr(), text.len(), flags) }
 }
 
 /// What a function makes of the values of the vector that a text denotes.
 #[inline]
-pub(crate) fn with_values<T>(text: &[u8], of: impl FnOnce(&Values) -> T) -> Option<T> {
-    let mut values = MaybeUninit::uninit();
+pub(crate) fn with_values<T>(
+    text: &[u8],
+    flags: u32,
+    call: impl FnOnce(&Values) -> T,
+) -> Option<T> {
+    let mut values = MaybeUninit::<Values>::uninit();
+    let pointer = values.as_mut_ptr();
     // SAFETY: the pointers are those of a slice and of a struct that live through the call and do not
-    // overlap.
-    let is_vector = unsafe { cvss_values(text.as_ptr(), text.len(), values.as_mut_ptr()) };
-    // SAFETY: if it is a vector, the call has written the whole struct.
-    is_vector.then(|| of(unsafe { values.assume_init_ref() }))
+    // overlap. The size is the first member of the struct.
+    let is_vector = unsafe {
+        pointer.cast::<u32>().write(size::<Values>());
+        cvss_values(text.as_ptr(), text.len(), flags, pointer)
+    };
+    // SAFETY: if it is a vector, the call has written all members but the size.
+    is_vector.then(|| call(unsafe { values.assume_init_ref() }))
 }
 
-/// The metrics of the vector that a text denotes, or none.
+/// The metrics of the vector that a text denotes, complete or not.
 pub(crate) fn metrics(text: &[u8]) -> Vec<CvssMetric> {
     let mut metrics = vec![CvssMetric::default(); MOST_METRICS];
     // SAFETY: the pointers are those of slices that live through the call and do not overlap.
@@ -208,6 +95,7 @@ pub(crate) fn metrics(text: &[u8]) -> Vec<CvssMetric> {
         cvss_metrics(
             text.as_ptr(),
             text.len(),
+            ALLOW_INCOMPLETE,
             metrics.as_mut_ptr(),
             metrics.len(),
         )
@@ -216,45 +104,18 @@ pub(crate) fn metrics(text: &[u8]) -> Vec<CvssMetric> {
     metrics
 }
 
-/// The canonical text of the vector that a text denotes, without its undefined metrics, or nothing.
-pub(crate) fn without_undefined(text: &[u8]) -> Vec<u8> {
-    written(text.len(), |buffer| {
-        // SAFETY: as above.
+/// The canonical text of the vector that a text denotes, complete or not, with these metrics.
+pub(crate) fn with_metrics(text: &[u8], metrics: &[u8]) -> Result<String, Rejected> {
+    text_or_error(text.len() + metrics.len(), |error, buffer| {
+        // SAFETY: as in `parse`.
         unsafe {
-            cvss_without_undefined(text.as_ptr(), text.len(), buffer.as_mut_ptr(), buffer.len())
-        }
-    })
-}
-
-/// The canonical text of the vector of v4.0 that a text denotes, with overrides in place, or nothing.
-pub(crate) fn overridden(text: &[u8], overrides: &[u8]) -> Vec<u8> {
-    written(text.len() + overrides.len() + 1, |buffer| {
-        // SAFETY: as above.
-        unsafe {
-            cvss_overridden(
-                text.as_ptr(),
-                text.len(),
-                overrides.as_ptr(),
-                overrides.len(),
-                buffer.as_mut_ptr(),
-                buffer.len(),
-            )
-        }
-    })
-}
-
-/// What a call writes of a text and of metrics.
-type OfMetrics = unsafe extern "C" fn(*const u8, usize, *const u8, usize, *mut u8, usize) -> usize;
-
-fn of_metrics(call: OfMetrics, text: &[u8], metrics: &[u8]) -> Vec<u8> {
-    written(text.len() + metrics.len() + 120, |buffer| {
-        // SAFETY: as above; each call of this type reads two slices and writes into one.
-        unsafe {
-            call(
+            cvss_with_metrics(
                 text.as_ptr(),
                 text.len(),
                 metrics.as_ptr(),
                 metrics.len(),
+                ALLOW_INCOMPLETE,
+                error,
                 buffer.as_mut_ptr(),
                 buffer.len(),
             )
@@ -262,27 +123,17 @@ fn of_metrics(call: OfMetrics, text: &[u8], metrics: &[u8]) -> Vec<u8> {
     })
 }
 
-/// The canonical text of the vector that a text denotes, with these metrics set, or nothing.
-pub(crate) fn with(text: &[u8], metrics: &[u8]) -> Vec<u8> {
-    of_metrics(cvss_with, text, metrics)
-}
-
-/// Why metrics cannot be set, or nothing.
-pub(crate) fn with_reason(text: &[u8], metrics: &[u8]) -> Vec<u8> {
-    of_metrics(cvss_with_reason, text, metrics)
-}
-
-/// What a call writes of a version and of metrics.
-type OfVersion = unsafe extern "C" fn(i32, *const u8, usize, *mut u8, usize) -> usize;
-
-fn of_version(call: OfVersion, version: i32, metrics: &[u8]) -> Vec<u8> {
-    written(metrics.len() + 120, |buffer| {
-        // SAFETY: as above; each call of this type reads a slice and writes into one.
+/// The canonical text of the vector of a version with these metrics.
+pub(crate) fn from_metrics(version: i32, metrics: &[u8], flags: u32) -> Result<String, Rejected> {
+    text_or_error(metrics.len(), |error, buffer| {
+        // SAFETY: as in `parse`.
         unsafe {
-            call(
+            cvss_from_metrics(
                 version,
                 metrics.as_ptr(),
                 metrics.len(),
+                flags,
+                error,
                 buffer.as_mut_ptr(),
                 buffer.len(),
             )
@@ -290,34 +141,102 @@ fn of_version(call: OfVersion, version: i32, metrics: &[u8]) -> Vec<u8> {
     })
 }
 
-/// The canonical text of the vector of a version with these metrics, or nothing.
-pub(crate) fn build(version: i32, metrics: &[u8]) -> Vec<u8> {
-    of_version(cvss_build, version, metrics)
+/// What a call writes of a text.
+type OfText = unsafe extern "C" fn(*const u8, usize, u32, *mut CvssError, *mut u8, usize) -> usize;
+
+/// What a call writes of the vector that a text denotes, complete or not.
+fn of_vector(size: usize, text: &[u8], call: OfText) -> String {
+    let written = text_or_error(size, |error, buffer| {
+        // SAFETY: as in `parse`: each call of this type reads a slice and writes into a struct and a slice.
+        unsafe {
+            call(
+                text.as_ptr(),
+                text.len(),
+                ALLOW_INCOMPLETE,
+                error,
+                buffer.as_mut_ptr(),
+                buffer.len(),
+            )
+        }
+    });
+    written.unwrap_or_default()
 }
 
-/// Why metrics make no vector of a version, or nothing.
-pub(crate) fn build_reason(version: i32, metrics: &[u8]) -> Vec<u8> {
-    of_version(cvss_build_reason, version, metrics)
+/// The canonical text of the vector that a text denotes, without its metrics that are not defined.
+pub(crate) fn without_not_defined(text: &[u8]) -> String {
+    of_vector(text.len(), text, cvss_without_not_defined)
 }
 
-/// The scores of the groups of the vector of v4.0 that a text denotes, in tenths.
-pub(crate) fn nomenclature_scores(text: &[u8]) -> Option<[i32; 4]> {
-    let mut scores = [0; 4];
-    // SAFETY: the pointers are those of a slice and of an array of four numbers that live through
-    // the call and do not overlap.
-    let is_v4 = unsafe { cvss_nomenclature_scores(text.as_ptr(), text.len(), scores.as_mut_ptr()) };
-    is_v4.then_some(scores)
+/// The record of the vector that a text denotes.
+pub(crate) fn record(text: &[u8]) -> String {
+    of_vector(1 << 11, text, cvss_record)
 }
 
-/// The number of the rating of a score in tenths, by the bounds of a version.
-pub(crate) fn rating(version: i32, tenths: i32) -> i32 {
+/// The explanation of the score of the vector that a text denotes.
+pub(crate) fn explain(text: &[u8]) -> String {
+    of_vector(1 << 11, text, cvss_explain)
+}
+
+/// The line that the command prints for a text.
+pub(crate) fn score_line(text: &[u8], flags: u32) -> String {
+    text_of(written(text.len() + LONGEST_WORDS, |buffer| {
+        // SAFETY: the pointers are those of slices that live through the call and do not overlap.
+        unsafe {
+            cvss_score_line(
+                text.as_ptr(),
+                text.len(),
+                flags,
+                buffer.as_mut_ptr(),
+                buffer.len(),
+            )
+        }
+    }))
+}
+
+/// The lines that the command prints for texts that newlines end, each with its newline.
+pub(crate) fn score_lines(texts: &[u8], flags: u32) -> String {
+    let mut all = Vec::with_capacity(2 * texts.len());
+    let mut buffer = vec![0; 1 << 16];
+    let mut rest = texts;
+    while rest.contains(&b'\n') {
+        let mut read = 0;
+        // SAFETY: the pointers are those of slices and of a number that live through the call and
+        // do not overlap.
+        let written = unsafe {
+            cvss_score_lines(
+                rest.as_ptr(),
+                rest.len(),
+                flags,
+                buffer.as_mut_ptr(),
+                buffer.len(),
+                &mut read,
+            )
+        };
+        all.extend_from_slice(&buffer[..written]);
+        rest = &rest[read..];
+        if read == 0 {
+            buffer.resize(2 * buffer.len(), 0);
+        }
+    }
+    text_of(all)
+}
+
+/// Whether there is another match in a text, which replaces the one before it.
+pub(crate) fn find(text: &[u8], found: &mut CvssMatch) -> bool {
+    // SAFETY: the pointers are those of a slice and of a struct that live through the call and do not
+    // overlap.
+    unsafe { cvss_find(text.as_ptr(), text.len(), found) }
+}
+
+/// The number of the severity of a score in tenths, by the bounds of a version.
+pub(crate) fn severity(version: i32, tenths: i32) -> i32 {
     // SAFETY: the call takes no pointer.
-    unsafe { cvss_rating(version, tenths) }
+    unsafe { cvss_severity(version, tenths) }
 }
 
 /// The scores and sub-scores of the vector of v2 or v3 with these metrics.
 pub(crate) fn numbers(version: i32, metrics: &[u8]) -> Option<CvssNumbers> {
-    let mut numbers = CvssNumbers::default();
+    let mut numbers = CvssNumbers::new();
     // SAFETY: the pointers are those of a slice and of a struct that live through the call and do not
     // overlap.
     let are_written =
@@ -344,104 +263,36 @@ pub(crate) fn temporal_with_impact(metrics: &[u8], impact: &CvssNumber) -> Optio
     is_scored.then_some(tenths)
 }
 
-/// The record of the vector that a text denotes, or nothing.
-pub(crate) fn record(text: &[u8]) -> Vec<u8> {
-    written(1 << 11, |buffer| {
-        // SAFETY: as above.
-        unsafe { cvss_record(text.as_ptr(), text.len(), buffer.as_mut_ptr(), buffer.len()) }
-    })
+/// The length of the longest message or line, without the part of the text that it quotes.
+const LONGEST_WORDS: usize = 120;
+
+/// What a call makes of texts of this length: a text, or an error with its message. One call does,
+/// unless what it writes is longer than its texts by more than the words of a message.
+fn text_or_error(
+    length: usize,
+    mut call: impl FnMut(&mut CvssError, &mut [u8]) -> usize,
+) -> Result<String, Rejected> {
+    let mut error = CvssError::new();
+    let text = text_of(written(length + LONGEST_WORDS, |buffer| {
+        call(&mut error, buffer)
+    }));
+    match error.kind {
+        0 => Ok(text),
+        _ => Err((error, text)),
+    }
 }
 
-/// The explanation of the score of the vector that a text denotes, or nothing.
-pub(crate) fn account(text: &[u8]) -> Vec<u8> {
-    written(1 << 11, |buffer| {
-        // SAFETY: as above.
-        unsafe { cvss_account(text.as_ptr(), text.len(), buffer.as_mut_ptr(), buffer.len()) }
-    })
-}
-
-/// Why a text is rejected, or nothing.
-pub(crate) fn reason(text: &[u8]) -> Vec<u8> {
-    written(text.len() + 120, |buffer| {
-        // SAFETY: as above.
-        unsafe { cvss_reason(text.as_ptr(), text.len(), buffer.as_mut_ptr(), buffer.len()) }
-    })
-}
-
-/// The number of the kind of error of a text, or 0.
-pub(crate) fn refusal_kind(text: &[u8]) -> i32 {
-    // SAFETY: the pointer is that of a slice that lives through the call.
-    unsafe { cvss_refusal_kind(text.as_ptr(), text.len()) }
-}
-
-/// The abbreviation of the metric that the reason names, or nothing.
-pub(crate) fn refusal_metric(text: &[u8]) -> Vec<u8> {
-    written(4, |buffer| {
-        // SAFETY: as above.
-        unsafe { cvss_refusal_metric(text.as_ptr(), text.len(), buffer.as_mut_ptr(), buffer.len()) }
-    })
-}
-
-/// The part of a text that the reason quotes, or nothing.
-pub(crate) fn refusal_value(text: &[u8]) -> Vec<u8> {
-    written(text.len(), |buffer| {
-        // SAFETY: as above.
-        unsafe { cvss_refusal_value(text.as_ptr(), text.len(), buffer.as_mut_ptr(), buffer.len()) }
-    })
-}
-
-/// The line that the program answers.
-pub(crate) fn answer(text: &[u8]) -> Vec<u8> {
-    written(text.len() + 120, |buffer| {
-        // SAFETY: as above.
-        unsafe { cvss_answer(text.as_ptr(), text.len(), buffer.as_mut_ptr(), buffer.len()) }
-    })
-}
-
-/// The answers to texts that newlines end, each with its newline.
-pub(crate) fn answers(texts: &[u8]) -> Vec<u8> {
-    let mut all = Vec::with_capacity(2 * texts.len());
-    let mut buffer = vec![0; 1 << 16];
-    let mut rest = texts;
-    while rest.contains(&b'\n') {
-        let mut read = 0;
-        // SAFETY: the pointers are those of slices and of a number that live through the call and
-        // do not overlap.
-        let written = unsafe {
-            cvss_answers(
-                rest.as_ptr(),
-                rest.len(),
-                buffer.as_mut_ptr(),
-                buffer.len(),
-                &mut read,
-            )
-        };
-        all.extend_from_slice(&buffer[..written]);
-        rest = &rest[read..];
-        if read == 0 {
-            buffer.resize(2 * buffer.len(), 0);
+/// What a call writes into a buffer that is large enough; tried first with one of at least this size.
+fn written(size: usize, mut call: impl FnMut(&mut [u8]) -> usize) -> Vec<u8> {
+    let mut small = [0; 512];
+    let mut length = size;
+    if size <= small.len() {
+        length = call(&mut small);
+        if let Some(text) = small.get(..length) {
+            return text.to_vec();
         }
     }
-    all
-}
-
-/// Where the first vector in a text from a byte on begins, and how long it is.
-pub(crate) fn find(text: &[u8], from: usize) -> Option<(usize, usize)> {
-    let (mut start, mut length) = (0, 0);
-    // SAFETY: the pointers are those of a slice and of two numbers that live through the call and
-    // do not overlap.
-    let is_found = unsafe { cvss_find(text.as_ptr(), text.len(), from, &mut start, &mut length) };
-    is_found.then_some((start, length))
-}
-
-/// What a call writes into a buffer that is large enough; tried first with one of this size.
-fn written(size: usize, call: impl FnMut(&mut [u8]) -> usize) -> Vec<u8> {
-    written_over(vec![0; size], call)
-}
-
-/// What a call writes into a buffer that is large enough; tried first with this one.
-fn written_over(mut buffer: Vec<u8>, mut call: impl FnMut(&mut [u8]) -> usize) -> Vec<u8> {
-    let mut length = call(&mut buffer);
+    let mut buffer = Vec::new();
     while length > buffer.len() {
         buffer.resize(length, 0);
         length = call(&mut buffer);
@@ -450,10 +301,32 @@ fn written_over(mut buffer: Vec<u8>, mut call: impl FnMut(&mut [u8]) -> usize) -
     buffer
 }
 
-/// The library answers in the encoding of the text that it was given.
-pub(crate) fn text_of(bytes: Vec<u8>) -> String {
+/// The library writes in the encoding of the text that it was given.
+fn text_of(bytes: Vec<u8>) -> String {
     match String::from_utf8(bytes) {
         Ok(text) => text,
         Err(error) => String::from_utf8_lossy(error.as_bytes()).into_owned(),
+    }
+}
+
+#[cfg(test)]
+mod tests {
+    use super::written;
+
+    /// A call that writes more than the buffer holds leaves it as it was, and is repeated.
+    #[test]
+    fn a_buffer_that_is_too_short_is_replaced() {
+        let text = "abc".repeat(1000);
+        for length in [0, 1, 512, 513, 3000] {
+            for size in [0, 1, 512, 513, 4000] {
+                let own = written(size, |buffer| {
+                    if let Some(start) = buffer.get_mut(..length) {
+                        start.copy_from_slice(&text.as_bytes()[..length]);
+                    }
+                    length
+                });
+                assert_eq!(own, &text.as_bytes()[..length], "{size}");
+            }
+        }
     }
 }

@@ -1,6 +1,7 @@
 //! Exact numbers: the sub-scores of vectors, which need not be complete, and numbers that are rounded.
 
-use crate::calls::{self, CvssNumber};
+use crate::calls;
+use crate::library::CvssNumber;
 use crate::{Score, Version};
 
 /// How many 10^-24 a trillionth has.
@@ -64,17 +65,17 @@ impl Exact {
     }
 }
 
-/// The scores and sub-scores of a vector of v2 or v3, which may lack mandatory metrics: these weigh
-/// nothing.
+/// The scores and sub-scores of a vector of v2 or v3, which may lack mandatory metrics: these have no
+/// weight.
 ///
 /// ```
 /// use cvss_proved::{Numbers, Version};
 ///
-/// let numbers = Numbers::of(Version::V20, "AV:N/C:P/I:P/A:P").unwrap();
+/// let numbers = Numbers::parse(Version::V20, "AV:N/C:P/I:P/A:P").unwrap();
 /// assert_eq!(numbers.impact().count(), 6_442_976_718_750 * 10_i128.pow(12));
 /// assert_eq!(numbers.impact().value(), 6.44297671875);
 /// assert_eq!((numbers.exploitability().value(), numbers.scores()[0].tenths()), (0.0, 28));
-/// assert_eq!(Numbers::of(Version::V20, "AV:Q"), None);
+/// assert_eq!(Numbers::parse(Version::V20, "AV:Q"), None);
 /// ```
 #[derive(Clone, Copy, Debug, PartialEq, Eq)]
 pub struct Numbers {
@@ -85,10 +86,10 @@ pub struct Numbers {
 }
 
 impl Numbers {
-    /// Those of the vector with these components, joined by slashes; an empty text has none. `None` where
+    /// Those of the vector with these components, joined by slashes; an empty text has none. `None` if
     /// a component is rejected, and for v4.0.
     #[must_use]
-    pub fn of(version: Version, metrics: &str) -> Option<Numbers> {
+    pub fn parse(version: Version, metrics: &str) -> Option<Numbers> {
         let numbers = calls::numbers(version.number(), metrics.as_bytes())?;
         let score = |tenths: i32| Score::of(tenths).unwrap_or_default();
         Some(Numbers {
@@ -128,8 +129,8 @@ impl Numbers {
     }
 }
 
-/// The tenths of the temporal score of the vector of v2 with these components, as of [`Numbers::of`], and
-/// with another impact in place of its own. It may be below 0. `None` where a component is rejected.
+/// The tenths of the temporal score of the vector of v2 with these components, as of [`Numbers::parse`], and
+/// with another impact in place of its own. It may be below 0. `None` if a component is rejected.
 #[must_use]
 pub fn temporal_with_impact(metrics: &str, impact: Exact) -> Option<i32> {
     calls::temporal_with_impact(metrics.as_bytes(), &impact.number())

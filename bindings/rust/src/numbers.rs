@@ -129,7 +129,7 @@ impl Score {
         self.tenths
     }
 
-    /// The rating of the score by the bounds of a version, which v3.0, v3.1 and v4.0 share.
+    /// The severity of the score by the bounds of a version, which v3.0, v3.1 and v4.0 share.
     ///
     /// ```
     /// use cvss_proved::{Score, Severity, Version};
@@ -140,8 +140,8 @@ impl Score {
     /// ```
     #[must_use]
     pub fn severity(self, version: Version) -> Severity {
-        let rating = calls::rating(version.number(), i32::from(self.tenths));
-        Severity::of(rating).unwrap_or(Severity::None)
+        let number = calls::severity(version.number(), i32::from(self.tenths));
+        Severity::of(number).unwrap_or(Severity::None)
     }
 
     /// The `f64` nearest to the score.
@@ -193,7 +193,7 @@ impl TryFrom<&str> for Score {
     }
 }
 
-/// A qualitative severity rating. A v2 score has only the middle three.
+/// How severe a score is, in one word. A v2 score has only the middle three.
 #[derive(Clone, Copy, Debug, PartialEq, Eq, PartialOrd, Ord, Hash)]
 pub enum Severity {
     /// A score of 0.0.
@@ -222,7 +222,7 @@ impl Severity {
 }
 
 named! {
-    /// Reads a rating in any ASCII case.
+    /// Reads a severity in any ASCII case.
     Severity by str::eq_ignore_ascii_case: None => "none", Low => "low", Medium => "medium",
         High => "high", Critical => "critical"
 }

@@ -4,20 +4,15 @@ use crate::{Cvss, Group, Nomenclature, Score, Severity, Version};
 use serde::de::{Deserialize, Deserializer, Error, Unexpected, Visitor};
 use serde::ser::{Serialize, Serializer};
 use std::fmt::{self, Display, Formatter};
-use std::marker::PhantomData;
 use std::str::FromStr;
 
 /// Reads a text, and says what is expected if it is rejected.
-struct Text<T> {
+struct Text<T, E> {
     expected: &'static str,
-    read: PhantomData<T>,
+    read: fn(&str) -> Result<T, E>,
 }
 
-impl<T> Visitor<'_> for Text<T>
-where
-    T: FromStr,
-    T::Err: Display,
-{
+impl<T, R: Display> Visitor<'_> for Text<T, R> {
     type Value = T;
 
     fn expecting(&self, f: &mut Formatter<'_>) -> fmt::Result {
@@ -25,13 +20,14 @@ where
     }
 
     fn visit_str<E: Error>(self, text: &str) -> Result<T, E> {
-        let refused = |error| E::custom(format_args!("{error}: `{text}` is not {}", self.expected));
-        text.parse().map_err(refused)
+        let read = self.read;
+        read(text)
+            .map_err(|error| E::custom(format_args!("{error}: `{text}` is not {}", self.expected)))
     }
 }
 
 macro_rules! serialized {
-    ($($(#[$doc:meta])* $type:ident: $expected:literal),+) => {
+    ($($(#[$doc:meta])* $type:ident: $expected:expr),+) => {
         $(
             $(#[$doc])*
             impl Serialize for $type {
@@ -45,7 +41,7 @@ macro_rules! serialized {
                 fn deserialize<D: Deserializer<'de>>(deserializer: D) -> Result<$type, D::Error> {
                     deserializer.deserialize_str(Text {
                         expected: $expected,
-                        read: PhantomData,
+                        read: $type::from_str,
                     })
                 }
             }
@@ -53,9 +49,12 @@ macro_rules! serialized {
     };
 }
 
+const VECTOR: &str = "a CVSS vector of v2, v3.0, v3.1 or v4.0";
+
 serialized! {
-    /// As its canonical text; with the feature `serde`.
-    Cvss: "a CVSS vector of v2, v3.0, v3.1 or v4.0",
+    /// As its canonical text. A v3 vector that lacks base metrics is serialized, but rejected when it
+    /// is deserialized, unless by [`allow_incomplete`]; with the feature `serde`.
+    Cvss: VECTOR,
     /// As its text, which is read in any ASCII case; with the feature `serde`.
     Severity: "one of none, low, medium, high and critical",
     /// As its text; with the feature `serde`.
@@ -64,6 +63,41 @@ serialized! {
     Nomenclature: "one of CVSS-B, CVSS-BE, CVSS-BT and CVSS-BTE",
     /// As its text; with the feature `serde`.
     Group: "one of base, temporal, threat, environmental and supplemental"
+}
+
+/// Serializes a [`Cvss`] as its canonical text, and deserializes it as [`Cvss::parse_incomplete`] does;
+/// with the feature `serde`.
+///
+/// ```ignore
+/// #[derive(Serialize, Deserialize)]
+/// struct Finding {
+///     #[serde(with = "cvss_proved::allow_incomplete")]
+///     cvss: Cvss,
+/// }
+/// ```
+pub mod allow_incomplete {
+    use super::{Cvss, Deserializer, Serialize, Serializer, Text, VECTOR};
+
+    /// The canonical text.
+    ///
+    /// # Errors
+    ///
+    /// Those of the serializer.
+    pub fn serialize<S: Serializer>(cvss: &Cvss, serializer: S) -> Result<S::Ok, S::Error> {
+        cvss.serialize(serializer)
+    }
+
+    /// The vector that a text denotes, which in v3 may lack base metrics.
+    ///
+    /// # Errors
+    ///
+    /// Those of the deserializer, and for a text that is rejected why it is.
+    pub fn deserialize<'de, D: Deserializer<'de>>(deserializer: D) -> Result<Cvss, D::Error> {
+        deserializer.deserialize_str(Text {
+            expected: VECTOR,
+            read: Cvss::parse_incomplete,
+        })
+    }
 }
 
 /// As a number, such as 9.8; with the feature `serde`.
@@ -83,6 +117,7 @@ impl Visitor<'_> for Number {
         f.write_str("a number from 0 to 10 with at most one decimal")
     }
 
+    #[allow(clippy::float_cmp)] // a score is the nearest number to its tenths, and no other
     fn visit_f64<E: Error>(self, number: f64) -> Result<Score, E> {
         (0..=100)
             .filter_map(Score::from_tenths)

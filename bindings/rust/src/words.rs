@@ -80,11 +80,3 @@ pub fn metrics(version: Version) -> &'static [MetricType] {
         Version::V40 => V40,
     }
 }
-
-/// Whether a version has an environmental metric of this name, in any ASCII case.
-pub(crate) fn is_environmental(name: &str) -> bool {
-    let mut types = [V20, V31, V40].into_iter().flatten();
-    types.any(|metric| {
-        metric.group == Group::Environmental && metric.name.eq_ignore_ascii_case(name)
-    })
-}

@@ -1,203 +1,137 @@
-//! The vectors that are kept in the repository, with their answers.
+//! The vectors that are kept in the repository. What is expected of them is what the second
+//! implementation in `reference/` says.
 
+mod common;
+
+use common::{facts, score_facts, stored, stored_lines, vectors};
 use cvss_proved::{
-    answer, answer_lines, find, metrics, score, Cvss, Group, Mention, Metric, MetricType,
-    Nomenclature, OverrideError, Refused, RefusedKind, Score, Severity, Values, Version,
+    metrics, score, score_incomplete, score_line, score_line_incomplete, score_lines,
+    score_lines_incomplete, scores, scores_incomplete, Cvss, Group, Metric, MetricType, Score,
+    Values, Version,
 };
-use std::fmt::Display;
-use std::fs;
-use std::path::Path;
 
-/// The stored lines without a mark or their answers, which stand first, as many as there are facts.
-fn stored_lines(name: &str) -> String {
-    let root = Path::new(env!("CARGO_MANIFEST_DIR")).join("../..");
-    let facts = fs::read_to_string(root.join("bindings/stored/facts")).unwrap();
-    let stored = fs::read(root.join("crates/test_vectors").join(name)).unwrap();
-    let lines = stored.split_inclusive(|byte| *byte == b'\n');
-    let first = lines.take(facts.lines().count()).flatten().copied();
-    String::from_utf8(first.collect()).unwrap()
+#[test]
+fn stored_lines_have_their_facts() {
+    let (lines, facts_of_lines) = (stored_lines(), stored("facts"));
+    for (line, expected) in lines.lines().zip(facts_of_lines.lines()) {
+        assert_eq!(facts(&Cvss::parse_incomplete(line)), expected, "{line}");
+        let bytes = Cvss::parse_bytes_incomplete(line.as_bytes());
+        assert_eq!(facts(&bytes), expected, "{line}");
+    }
 }
 
 #[test]
-fn stored_lines_have_their_answers() {
-    let lines = stored_lines("stdin");
-    let answers = stored_lines("stdout");
-    assert!(!lines.is_empty());
-    assert_eq!(answer_lines(lines.as_bytes()), answers);
-    assert_eq!(lines.lines().count(), answers.lines().count());
-    for (line, expected) in lines.lines().zip(answers.lines()) {
-        assert_eq!(answer(line.as_bytes()), expected, "{line}");
+fn stored_lines_have_their_scores() {
+    let (lines, expected) = (stored_lines(), stored("score_lines"));
+    assert_eq!(score_lines(lines.as_bytes()), expected);
+    assert_eq!(lines.lines().count(), expected.lines().count());
+    for (line, expected) in lines.lines().zip(expected.lines()) {
+        assert_eq!(score_line(line.as_bytes()), expected, "{line}");
         let parsed = match Cvss::parse(line) {
             Ok(cvss) => format!("{cvss} {} {}", cvss.score(), cvss.severity()),
-            Err(refused) => format!("error: {refused}"),
+            Err(error) => format!("error: {error}"),
         };
         assert_eq!(parsed, expected, "{line}");
     }
 }
 
-fn scored(score: Option<Score>, severity: Option<Severity>) -> String {
-    match score.zip(severity) {
-        Some((score, severity)) => format!("{score} {severity}"),
-        None => "- -".to_string(),
-    }
-}
-
-fn vector_facts(cvss: &Cvss) -> String {
-    let nomenclature = cvss.nomenclature();
-    let metrics: Vec<String> = cvss
-        .metrics()
-        .iter()
-        .map(|metric| format!("{}={}", metric.name(), metric.value()))
-        .collect();
-    [
-        cvss.to_string(),
-        cvss.version().to_string(),
-        nomenclature.map_or("-".to_string(), |told| told.to_string()),
-        if cvss.is_complete() {
-            "complete"
+/// An incomplete vector has the canonical text, the score and the severity that its facts begin with, if
+/// that is allowed; other lines are the same.
+#[test]
+fn lines_may_be_incomplete() {
+    let lines = stored_lines();
+    let all = score_lines_incomplete(lines.as_bytes());
+    assert_eq!(all.lines().count(), lines.lines().count());
+    let (expected, facts) = (stored("score_lines"), stored("facts"));
+    let rows = expected.lines().zip(facts.lines()).zip(all.lines());
+    let mut incomplete = 0;
+    for (line, ((expected, facts), own)) in lines.lines().zip(rows) {
+        let words: Vec<&str> = facts.split(' ').collect();
+        let is_incomplete = words.get(3) == Some(&"incomplete");
+        let expected = if is_incomplete {
+            incomplete += 1;
+            [words[0], words[4], words[5]].join(" ")
         } else {
-            "incomplete"
-        }
-        .to_string(),
-        scored(Some(cvss.score()), Some(cvss.severity())),
-        scored(cvss.temporal_score(), cvss.temporal_severity()),
-        scored(cvss.environmental_score(), cvss.environmental_severity()),
-        metrics.join(" "),
-    ]
-    .join(" ")
-}
-
-fn refusal_facts(refused: &Refused) -> String {
-    let kinds = [
-        RefusedKind::InvalidComponent,
-        RefusedKind::InvalidPrefix,
-        RefusedKind::UnsupportedVersion,
-        RefusedKind::UnknownMetric,
-        RefusedKind::InvalidValue,
-        RefusedKind::DuplicateMetric,
-        RefusedKind::MissingMetric,
-    ];
-    let place = kinds.iter().position(|kind| *kind == refused.kind());
-    let number = place.map_or(0, |place| place + 1);
-    format!("{number} {} {refused}", refused.metric().unwrap_or("-"))
-}
-
-/// The facts are those that the second implementation in `reference/` tells.
-#[test]
-fn stored_lines_have_their_facts() {
-    let root = Path::new(env!("CARGO_MANIFEST_DIR")).join("../..");
-    let lines = stored_lines("stdin");
-    let facts = fs::read_to_string(root.join("bindings/stored/facts")).unwrap();
-    assert!(!lines.is_empty());
-    assert_eq!(lines.lines().count(), facts.lines().count());
-    for (line, expected) in lines.lines().zip(facts.lines()) {
-        let told = match Cvss::parse(line) {
-            Ok(cvss) => vector_facts(&cvss),
-            Err(refused) => refusal_facts(&refused),
+            expected.to_string()
         };
-        assert_eq!(told, expected, "{line}");
+        assert_eq!(own, expected, "{line}");
+        assert_eq!(score_line_incomplete(line.as_bytes()), expected, "{line}");
     }
+    assert!(incomplete > 0);
 }
 
-/// A vector's values and its score by themselves are those of the vector, whose facts are tried above.
+/// A vector's values and its scores by themselves are those of the vector, whose facts are tried above.
 #[test]
-fn values_are_those_of_the_vector() {
-    for line in stored_lines("stdin").lines() {
-        let values = Values::of(line);
-        let Ok(cvss) = Cvss::parse(line) else {
-            assert_eq!((values, score(line)), (None, None), "{line}");
+fn values_and_scores_are_those_of_the_vector() {
+    for line in stored_lines().lines() {
+        let (values, all) = (Values::parse_incomplete(line), scores_incomplete(line));
+        let Ok(cvss) = Cvss::parse_incomplete(line) else {
+            let own = (values, all, score_incomplete(line));
+            assert_eq!(own, (None, None, None), "{line}");
             continue;
         };
-        let values = values.unwrap();
-        let read = (values.version(), values.score(), values.nomenclature());
-        let expected = (cvss.version(), cvss.score(), cvss.nomenclature());
+        assert_eq!(all, Some(cvss.scores()), "{line}");
+        assert_eq!(score_incomplete(line), Some(cvss.score()), "{line}");
+        if cvss.is_complete() {
+            let own = (Values::parse(line), scores(line), score(line));
+            assert_eq!(own, (values, all, Some(cvss.score())), "{line}");
+        } else {
+            let own = (Values::parse(line), scores(line), score(line));
+            assert_eq!(own, (None, None, None), "{line}");
+        }
+        assert_values(&values.unwrap(), &cvss);
+    }
+}
+
+fn assert_values(values: &Values, cvss: &Cvss) {
+    let read = (values.version(), values.score(), values.nomenclature());
+    let expected = (cvss.version(), cvss.score(), cvss.nomenclature());
+    assert_eq!(read, expected, "{cvss}");
+    let types = metrics(cvss.version());
+    let own = cvss.metrics();
+    for metric in types {
+        let value = own.iter().find(|own| own.name() == metric.name);
         assert_eq!(
-            (read, score(line)),
-            (expected, Some(cvss.score())),
-            "{line}"
+            values.value(metric.name),
+            value.map(Metric::value),
+            "{cvss}"
         );
-        let types = metrics(cvss.version());
-        let own = cvss.metrics();
-        for metric in types {
-            let held = own.iter().find(|held| held.name() == metric.name);
-            assert_eq!(values.value(metric.name), held.map(Metric::value), "{line}");
-        }
-        assert!(values.fields()[types.len()..]
-            .iter()
-            .all(|field| *field == [0; 8]));
+    }
+    let others = &values.fields()[types.len()..];
+    assert!(others.iter().all(|field| *field == [0; 8]), "{cvss}");
+}
+
+/// The struct of scores has those that the methods return.
+#[test]
+fn scores_are_those_of_the_methods() {
+    for cvss in vectors() {
+        let scores = cvss.scores();
+        assert_eq!(scores.version, cvss.version());
+        assert_eq!(
+            (scores.score, scores.base),
+            (cvss.score(), cvss.base_score())
+        );
+        let others = (scores.temporal, scores.environmental);
+        assert_eq!(others, (cvss.temporal_score(), cvss.environmental_score()));
+        assert_eq!(scores.nomenclature, cvss.nomenclature());
     }
 }
 
-/// A reading that asks for all base metrics refuses the incomplete vectors of v3, by the words that
-/// were written by hand, and no others.
+/// Where no number has more than seven decimals.
 #[test]
-fn incomplete_vectors_are_refused() {
-    let root = Path::new(env!("CARGO_MANIFEST_DIR")).join("../..");
-    let rows = fs::read_to_string(root.join("bindings/stored/incomplete")).unwrap();
-    assert!(!rows.is_empty());
-    for (text, refusal) in rows.lines().map(|row| row.split_once(' ').unwrap()) {
-        let refused = Cvss::parse_complete(text).unwrap_err();
-        assert_eq!(refusal_facts(&refused), refusal, "{text}");
-        let mention = find(text).next().unwrap();
-        assert!(!mention.found.unwrap().is_complete(), "{text}");
-    }
-    for line in stored_lines("stdin").lines() {
-        let read = Cvss::parse(line);
-        let is_incomplete = read.as_ref().is_ok_and(|cvss| !cvss.is_complete());
-        assert_eq!(Cvss::parse_complete(line) != read, is_incomplete, "{line}");
-    }
-}
-
-/// The accounts are those that the second implementation in `reference/` tells, where no number has more
-/// than seven decimals.
-#[test]
-fn vectors_have_their_accounts() {
-    let root = Path::new(env!("CARGO_MANIFEST_DIR")).join("../..");
-    let accounts = fs::read_to_string(root.join("bindings/stored/accounts")).unwrap();
-    assert!(!accounts.is_empty());
-    for account in accounts.lines() {
-        let text = account.split(r#""vector":""#).nth(1).unwrap();
+fn vectors_have_their_explanations() {
+    for explanation in stored("explanations").lines() {
+        let text = explanation.split(r#""vector":""#).nth(1).unwrap();
         let text = text.split('"').next().unwrap();
-        assert_eq!(Cvss::parse(text).unwrap().account(), account);
+        let cvss = Cvss::parse_incomplete(text).unwrap();
+        assert_eq!(cvss.explain(), explanation);
     }
-}
-
-fn told(mention: &Mention) -> String {
-    match &mention.found {
-        Ok(cvss) => format!("{cvss} {} {}", cvss.score(), cvss.severity()),
-        Err(refused) => format!("error: {refused}"),
-    }
-}
-
-/// The mentions are those that the second implementation in `reference/` tells.
-#[test]
-fn stored_texts_have_their_mentions() {
-    let root = Path::new(env!("CARGO_MANIFEST_DIR")).join("../../bindings/stored");
-    let texts = fs::read(root.join("texts")).unwrap();
-    let mut lines = Vec::new();
-    for (number, text) in texts.split(|byte| *byte == b'\n').enumerate() {
-        for mention in find(text) {
-            let end = mention.place + mention.text.len();
-            assert_eq!(&text[mention.place..end], mention.text.as_bytes());
-            lines.push(format!(
-                "{}:{} {}\n",
-                number + 1,
-                mention.place + 1,
-                told(&mention)
-            ));
-        }
-    }
-    assert_eq!(
-        lines.concat(),
-        fs::read_to_string(root.join("found")).unwrap()
-    );
 }
 
 /// The records were written by hand from FIRST's JSON schemas.
 #[test]
 fn vectors_have_their_records() {
-    let root = Path::new(env!("CARGO_MANIFEST_DIR")).join("../..");
-    let records = fs::read_to_string(root.join("bindings/stored/records")).unwrap();
+    let records = stored("records");
     assert_eq!(records.lines().count(), 3);
     for record in records.lines() {
         let text = record.split(r#""vectorString":""#).nth(1).unwrap();
@@ -210,25 +144,9 @@ fn vectors_have_their_records() {
 /// section 3).
 #[test]
 fn what_is_not_defined_scores_as_absent() {
-    let lines = stored_lines("stdin");
-    for cvss in lines.lines().filter_map(|line| Cvss::parse(line).ok()) {
-        let shorter = cvss.without_undefined();
-        assert_eq!(shorter.score(), cvss.score(), "{cvss}");
-        assert_eq!(shorter.temporal_score(), cvss.temporal_score(), "{cvss}");
-        assert_eq!(
-            shorter.environmental_score(),
-            cvss.environmental_score(),
-            "{cvss}"
-        );
-        assert_eq!(cvss.with_overrides(&[]).as_ref(), Ok(&cvss));
-        let own = cvss.with_overrides(&[("IR", "H")]).unwrap();
-        let is_own = |metric: &Metric| (metric.name(), metric.value()) == ("IR", "H");
-        assert!(own.metrics().iter().any(is_own), "{cvss}");
-        let others = |cvss: &Cvss| -> Vec<Metric> {
-            let metrics = cvss.metrics().into_iter();
-            metrics.filter(|metric| metric.name() != "IR").collect()
-        };
-        assert_eq!(others(&own), others(&cvss), "{cvss}");
+    for cvss in vectors() {
+        let shorter = cvss.without_not_defined();
+        assert_eq!(score_facts(&shorter), score_facts(&cvss), "{cvss}");
         let is_defined = |metric: &Metric| !["X", "ND"].contains(&metric.value());
         let defined: Vec<Metric> = cvss.metrics().into_iter().filter(is_defined).collect();
         assert!(
@@ -238,13 +156,25 @@ fn what_is_not_defined_scores_as_absent() {
     }
 }
 
+#[test]
+fn a_metric_that_is_set_leaves_the_others() {
+    for cvss in vectors() {
+        assert_eq!(cvss.with_metrics(&[]).as_ref(), Ok(&cvss));
+        let own = cvss.with_metrics(&[("IR", "H")]).unwrap();
+        let is_own = |metric: &Metric| (metric.name(), metric.value()) == ("IR", "H");
+        assert!(own.metrics().iter().any(is_own), "{cvss}");
+        let others = |cvss: &Cvss| -> Vec<Metric> {
+            let metrics = cvss.metrics().into_iter();
+            metrics.filter(|metric| metric.name() != "IR").collect()
+        };
+        assert_eq!(others(&own), others(&cvss), "{cvss}");
+    }
+}
+
 /// Each metric that a vector has is in the table of its version, with its value.
 #[test]
 fn metrics_are_described_in_words() {
-    for cvss in stored_lines("stdin")
-        .lines()
-        .filter_map(|line| Cvss::parse(line).ok())
-    {
+    for cvss in vectors() {
         let letters: Vec<String> = cvss
             .described()
             .iter()
@@ -258,170 +188,46 @@ fn metrics_are_described_in_words() {
         metrics(version).iter().filter(is_own).count()
     };
     // CVSS v2 guide, section 2; v3.1 specification, table 1; v4.0 specification, section 1.2
-    assert_eq!(
-        (
-            count(Version::V20, Group::Base),
-            count(Version::V20, Group::Environmental)
-        ),
-        (6, 5)
-    );
-    assert_eq!(
-        (
-            count(Version::V31, Group::Base),
-            count(Version::V31, Group::Temporal)
-        ),
-        (8, 3)
-    );
-    assert_eq!(
-        (
-            count(Version::V40, Group::Base),
-            count(Version::V40, Group::Supplemental)
-        ),
-        (11, 6)
-    );
+    for (version, group, expected) in [
+        (Version::V20, Group::Base, 6),
+        (Version::V20, Group::Environmental, 5),
+        (Version::V31, Group::Base, 8),
+        (Version::V31, Group::Temporal, 3),
+        (Version::V40, Group::Base, 11),
+        (Version::V40, Group::Supplemental, 6),
+    ] {
+        assert_eq!(count(version, group), expected, "{version} {group}");
+    }
     assert_eq!(metrics(Version::V30), metrics(Version::V31));
 }
 
+/// The scores of v2 are those of the CVSS v2 guide, section 3.3.1, and the others those of the second
+/// implementation.
 #[test]
-fn metrics_that_are_not_environmental_are_no_overrides() {
-    let cvss = Cvss::parse("CVSS:3.1/AV:N").unwrap();
-    for own in [("AC", "L"), ("E", "U"), ("CR", "H/E:U")] {
-        let refused = cvss.with_overrides(&[own]).unwrap_err();
-        assert!(
-            matches!(refused, OverrideError::NotEnvironmental(_)),
-            "{own:?}"
+fn scores_count_all_metrics() {
+    let v2 = "AV:N/AC:L/Au:N/C:N/I:N/A:C";
+    let v3 = "CVSS:3.1/AV:N/AC:L/PR:N/UI:N/S:U/C:H/I:H/A:H";
+    let v4 = "CVSS:4.0/AV:N/AC:L/AT:N/PR:N/UI:N/VC:H/VI:H/VA:H/SC:N/SI:N/SA:N";
+    for (base, metrics, all, base_score) in [
+        (v2, "/E:F/RL:OF/RC:C", 64, 78),
+        (v2, "/E:F/RL:OF/RC:C/CDP:H/TD:H/CR:M/IR:M/AR:H", 92, 78),
+        (v3, "", 98, 98),
+        (v3, "/E:X/RL:X/CR:X", 98, 98),
+        (v3, "/E:U/RL:O/RC:C", 85, 98),
+        (v3, "/E:U/RL:O/RC:C/MAV:P", 59, 98),
+        (v3, "/MAV:P", 68, 98),
+        (v4, "/E:U", 81, 93),
+    ] {
+        let text = format!("{base}{metrics}");
+        let cvss = Cvss::parse(&text).unwrap();
+        assert_eq!(cvss.score().tenths(), all, "{text}");
+        assert_eq!(cvss.base_score().tenths(), base_score, "{text}");
+        assert_eq!(score(&text), Score::from_tenths(all), "{text}");
+        assert_eq!(
+            Values::parse(&text).unwrap().score().tenths(),
+            all,
+            "{text}"
         );
-    }
-    let refused = cvss.with_overrides(&[("CR", "Q")]).unwrap_err();
-    assert_eq!(
-        refused.to_string(),
-        "invalid CVSSv3 CR (Confidentiality Requirements) metric: `Q`"
-    );
-}
-
-#[test]
-fn overrides_are_read_in_any_case() {
-    for (text, own, expected) in [
-        ("AV:N/AC:L/Au:N/C:N/I:N/A:C/TD:L", ("td", "h"), "/TD:H"),
-        ("CVSS:3.0/AV:N/MAV:L", ("mav", "p"), "/MAV:P"),
-        ("CVSS:3.1/AV:N/CR:L", ("Cr", "h"), "/CR:H"),
-        (
-            "CVSS:4.0/AV:N/AC:L/AT:N/PR:N/UI:N/VC:L/VI:L/VA:L/SC:N/SI:N/SA:N/MSI:L",
-            ("msi", "s"),
-            "/MSI:S",
-        ),
-    ] {
-        let cvss = Cvss::parse(text).unwrap();
-        let front = &text[..text.rfind('/').unwrap()];
-        let told = cvss.with_overrides(&[own]).unwrap();
-        assert_eq!(told.as_str(), format!("{front}{expected}"));
-        let twice = cvss.with_overrides(&[own, (expected[1..].split(':').next().unwrap(), "X")]);
-        assert!(matches!(twice, Err(OverrideError::Refused(_))), "{text}");
-        assert!(cvss.with_overrides(&[("\u{17f}i", "h")]).is_err());
-    }
-}
-
-#[test]
-fn overrides_of_v4_are_put_in_place() {
-    let text = "CVSS:4.0/AV:N/AC:L/AT:N/PR:N/UI:N/VC:L/VI:L/VA:L/SC:N/SI:N/SA:N/CR:H/S:P";
-    let cvss = Cvss::parse(text).unwrap();
-    let own = cvss.with_overrides(&[("MSI", "S"), ("CR", "L")]).unwrap();
-    let expected = "CVSS:4.0/AV:N/AC:L/AT:N/PR:N/UI:N/VC:L/VI:L/VA:L/SC:N/SI:N/SA:N/CR:L/MSI:S/S:P";
-    assert_eq!(own.as_str(), expected);
-    let twice = cvss
-        .with_overrides(&[("MSI", "S"), ("MSI", "H")])
-        .unwrap_err();
-    assert!(matches!(twice, OverrideError::Refused(_)));
-    let unknown = cvss.with_overrides(&[("MS", "C")]).unwrap_err();
-    assert_eq!(unknown.to_string(), "unknown CVSS metric name: `MS`");
-}
-
-#[test]
-fn each_text_that_is_printed_is_read_back() {
-    for tenths in 0..=100 {
-        let score = Score::from_tenths(tenths).unwrap();
-        assert_eq!(score.to_string().parse(), Ok(score));
-    }
-    assert_eq!(Score::from_tenths(101), None);
-    assert_eq!(Score::try_from("9.80").ok(), None);
-    assert_eq!("critical".parse(), Ok(Severity::Critical));
-    assert_eq!("3.1".parse(), Ok(Version::V31));
-    assert_eq!(Nomenclature::try_from("CVSS-BT"), Ok(Nomenclature::BT));
-    assert!("cvss-bt".parse::<Nomenclature>().is_err());
-}
-
-/// FIRST's JSON schemas print ratings in capitals.
-#[test]
-fn ratings_are_read_in_any_case() {
-    for (text, severity) in [
-        ("NONE", Severity::None),
-        ("Low", Severity::Low),
-        ("mEDIUM", Severity::Medium),
-        ("HIGH", Severity::High),
-        ("Critical", Severity::Critical),
-    ] {
-        assert_eq!(text.parse(), Ok(severity));
-        assert_eq!(Severity::try_from(text), Ok(severity));
-    }
-    for text in ["", "HIGH ", "H\u{131}GH", "severe"] {
-        assert!(text.parse::<Severity>().is_err(), "{text}");
-    }
-}
-
-/// With a precision a score is formatted as the `f64` is, and without one as the `f64` is with one
-/// decimal.
-#[test]
-fn scores_are_formatted_as_floats() {
-    for tenths in 0..=100 {
-        let score = Score::from_tenths(tenths).unwrap();
-        let value = f64::from(tenths) / 10.0;
-        for precision in 0..=4 {
-            assert_eq!(
-                format!("{score:.precision$}"),
-                format!("{value:.precision$}")
-            );
-            assert_eq!(
-                format!("{score:#^+9.precision$}"),
-                format!("{value:#^+9.precision$}")
-            );
-        }
-        for width in 0..=6 {
-            assert_eq!(format!("{score:width$}"), format!("{value:width$.1}"));
-            assert_eq!(format!("{score:_<width$}"), format!("{value:_<width$.1}"));
-            assert_eq!(format!("{score:*^+width$}"), format!("{value:*^+width$.1}"));
-            assert_eq!(format!("{score:0width$}"), format!("{value:0width$.1}"));
-        }
-    }
-    let score = Score::from_tenths(98).unwrap();
-    assert_eq!(
-        format!("{score:.1} {score:.0} {score:.2} [{score:>6}]"),
-        "9.8 10 9.80 [   9.8]"
-    );
-}
-
-/// What else is printed is formatted as the `str` is.
-#[test]
-fn texts_are_formatted_as_strs() {
-    let cvss = Cvss::parse("CVSS:3.1/AV:N").unwrap();
-    let refused = Cvss::parse("CVSS:3.1/AV:Q").unwrap_err();
-    let unknown = "severe".parse::<Severity>().unwrap_err();
-    let own = cvss.with_overrides(&[("AC", "L")]).unwrap_err();
-    let other = cvss.with_overrides(&[("CR", "Q")]).unwrap_err();
-    let printed: [&dyn Display; 8] = [
-        &cvss,
-        &refused,
-        &unknown,
-        &own,
-        &other,
-        &cvss.version(),
-        &cvss.severity(),
-        &Nomenclature::BTE,
-    ];
-    for value in printed {
-        let text = value.to_string();
-        assert_eq!(format!("[{value:<70}]"), format!("[{text:<70}]"));
-        assert_eq!(format!("[{value:*>70}]"), format!("[{text:*>70}]"));
-        assert_eq!(format!("[{value:.2}]"), format!("[{text:.2}]"));
     }
 }
 
@@ -432,43 +238,20 @@ fn vectors_are_ordered_by_score() {
     let higher = Cvss::try_from("AV:N/AC:L/Au:N/C:C/I:C/A:C").unwrap();
     assert!(lower < higher);
     assert_ne!(lower, higher);
-}
-
-/// An error has the part of the text that its reason quotes, as the reason has it.
-#[test]
-fn errors_have_the_rejected_value() {
-    for (text, kind, value) in [
-        ("AV/N", RefusedKind::InvalidComponent, Some("AV")),
-        ("CVS:3.1/AV:N", RefusedKind::InvalidPrefix, Some("CVS")),
-        (
-            "CVSS:3.2/AV:N",
-            RefusedKind::UnsupportedVersion,
-            Some("3.2"),
-        ),
-        ("CVSS:3.1/xx:N", RefusedKind::UnknownMetric, Some("XX")),
-        ("CVSS:3.1/av:a`b", RefusedKind::InvalidValue, Some("A`B")),
-        ("AV:/AC:L", RefusedKind::InvalidValue, Some("")),
-        ("CVSS:3.1/AV:N/av:n", RefusedKind::DuplicateMetric, None),
-        ("AV:N/AC:L", RefusedKind::MissingMetric, None),
-    ] {
-        let refused = Cvss::parse(text).unwrap_err();
-        assert_eq!((refused.kind(), refused.value()), (kind, value), "{text}");
-    }
+    // 2.5 with all metrics, by the second implementation
+    let reduced = Cvss::try_from("AV:N/AC:L/Au:N/C:C/I:C/A:C/TD:L").unwrap();
+    assert!(reduced < lower);
 }
 
 #[test]
-fn a_text_that_is_not_utf8_is_refused() {
-    assert_eq!(answer(b"AV:\xff"), "error: not UTF-8");
-    let refused = Cvss::parse_bytes(b"AV:\xff").unwrap_err();
-    assert_eq!(refused.kind(), RefusedKind::NotUtf8);
-}
-
-#[test]
-fn a_long_line_is_answered_among_others() {
+fn a_long_line_is_scored_among_others() {
     let long = "x".repeat(200_000);
-    let expected = [answer(b""), answer(long.as_bytes()), answer(b"")].join("\n");
-    assert_eq!(
-        answer_lines(format!("\r\n{long}\n\nx").as_bytes()),
-        expected + "\n"
-    );
+    let expected = [
+        score_line(b""),
+        score_line(long.as_bytes()),
+        score_line(b""),
+    ];
+    let lines = format!("\r\n{long}\n\nx");
+    assert_eq!(score_lines(lines.as_bytes()), expected.join("\n") + "\n");
+    assert!(expected[1].ends_with(&format!("`{long}`")));
 }

@@ -83,7 +83,7 @@ pub enum Error {
         /// What it begins with.
         prefix: String,
     },
-    /// There is no such rating.
+    /// There is no such severity.
     InvalidSeverity {
         /// The name.
         name: String,

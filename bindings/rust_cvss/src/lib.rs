@@ -1,7 +1,7 @@
 //! CVSS vectors of v2, v3.0, v3.1 and v4.0, with the interface of the crate `cvss` 3.0.0.
 //!
 //! Each vector is read, each score computed and each error in a vector found by the library of
-//! `cvss_proved`, whose answers are proved. A score or sub-score is the nearest `f64` of the exact one.
+//! `cvss_proved`, which is proved. A score or sub-score is the nearest `f64` of the exact one.
 //!
 //! ```
 //! use cvss::{Cvss, Severity};
@@ -30,7 +30,7 @@
 
 mod error;
 mod library;
-mod refusing;
+mod rejecting;
 #[cfg(feature = "serde")]
 mod serialized;
 mod severity;
@@ -89,7 +89,7 @@ impl Cvss {
         }
     }
 
-    /// The rating of the score.
+    /// The severity of the score.
     ///
     /// # Panics
     ///
@@ -154,7 +154,7 @@ impl FromStr for Cvss {
         if let Some(error) = left_out {
             return Err(error);
         }
-        let own = Values::with(text, |values| match values.version() {
+        let own = Values::with_incomplete(text, |values| match values.version() {
             #[cfg(feature = "v2")]
             Version::V20 => v2::Vector::of(values).map(Cvss::CvssV20),
             #[cfg(feature = "v3")]

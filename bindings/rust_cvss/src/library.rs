@@ -1,6 +1,7 @@
-//! What is asked of the proved library: whether a text is a vector, its canonical text, and its scores.
+//! What is asked of the proved library: whether a text is a vector, its canonical text, and its scores. As in the
+//! crate, a v3 vector may lack base metrics.
 
-use crate::refusing::{component_error, error_of, invalid_component};
+use crate::rejecting::{component_error, error_of, invalid_component};
 use crate::Error;
 use cvss_proved::{Cvss as Read, Values};
 #[cfg(any(feature = "v2", feature = "v3"))]
@@ -58,14 +59,14 @@ pub(crate) trait Own: Sized {
 
 /// Reads a text by the rules of the version that it reports, which is that of the vector.
 pub(crate) fn read<V: Own>(text: &str) -> Result<V, Error> {
-    let vector = Values::with(text, V::of).flatten();
+    let vector = Values::with_incomplete(text, V::of).flatten();
     vector.ok_or_else(|| rejected(text))
 }
 
 /// Why a text is rejected.
 pub(crate) fn rejected(text: &str) -> Error {
-    let refused = Read::parse(text).err();
-    refused.map_or_else(|| component_error(text), |refused| error_of(&refused))
+    let error = Read::parse_incomplete(text).err();
+    error.map_or_else(|| component_error(text), |error| error_of(&error))
 }
 
 /// Writes and reads the metrics of a vector, whose fields are given in printing order, those of base metrics
@@ -123,10 +124,10 @@ macro_rules! listed {
 pub(crate) use {components, listed, placed};
 
 /// The base score of a vector of v2 or v3 that has base metrics alone and may lack any: of its text if the
-/// library reads it, or else of its components.
+/// library reads it, or else of its components. The score with all metrics is then the base score.
 #[cfg(any(feature = "v2", feature = "v3"))]
 pub(crate) fn base_score(version: Version, text: &str, components: &str) -> f64 {
-    match cvss_proved::score(text) {
+    match cvss_proved::score_incomplete(text) {
         Some(score) => score.value(),
         None => scores_of_components(version, components)[0],
     }
@@ -136,7 +137,7 @@ pub(crate) fn base_score(version: Version, text: &str, components: &str) -> f64 
 #[cfg(any(feature = "v2", feature = "v3"))]
 pub(crate) fn other_scores(version: Version, text: &str, components: &str) -> [f64; 2] {
     let value = |score: Option<cvss_proved::Score>| score.unwrap_or_default().value();
-    if let Some(scores) = cvss_proved::scores(text) {
+    if let Some(scores) = cvss_proved::scores_incomplete(text) {
         return [value(scores.temporal), value(scores.environmental)];
     }
     let [_, temporal, environmental] = scores_of_components(version, components);
@@ -154,7 +155,7 @@ fn scores_of_components(version: Version, components: &str) -> [f64; 3] {
 /// The scores and sub-scores of a vector of v2 or v3 with these components.
 #[cfg(any(feature = "v2", feature = "v3"))]
 pub(crate) fn numbers(version: Version, components: &str) -> Option<Numbers> {
-    Numbers::of(version, components.strip_prefix('/').unwrap_or(components))
+    Numbers::parse(version, components.strip_prefix('/').unwrap_or(components))
 }
 
 /// A number that is rounded as the scores of a version are. One that is no number, or more than 999,999
@@ -209,6 +210,6 @@ pub(crate) fn read_v2<V: Own>(text: &str) -> Result<V, Error> {
     }
     // The first component is at fault: no value has a point, and a vector has more than one component.
     let metric = first.split_once(':').unwrap_or((first, ""));
-    let refused = Read::from_metrics(Version::V20, &[metric]).err();
-    Err(refused.map_or_else(|| component_error(first), |refused| error_of(&refused)))
+    let error = Read::from_metrics(Version::V20, &[metric]).err();
+    Err(error.map_or_else(|| component_error(first), |error| error_of(&error)))
 }

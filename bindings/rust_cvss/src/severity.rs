@@ -1,10 +1,10 @@
-//! Ratings of scores.
+//! Severities of scores.
 
 use crate::Error;
 use core::fmt;
 use core::str::FromStr;
 
-/// The rating of a score.
+/// The severity of a score.
 #[derive(Clone, Copy, Debug, PartialEq, Eq, PartialOrd, Ord, Hash)]
 pub enum Severity {
     /// No severity. CVSS v2 has none of it.
@@ -40,7 +40,7 @@ impl Severity {
         }
     }
 
-    /// The rating of a score of CVSS v3 or v4.0.
+    /// The severity of a score of CVSS v3 or v4.0.
     #[cfg(any(feature = "v3", feature = "v4"))]
     pub(crate) fn since_v3(score: f64) -> Severity {
         if score < 0.1 {

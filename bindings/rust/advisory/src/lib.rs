@@ -3,7 +3,7 @@
 use cvss_proved::{Cvss, Nomenclature, Score, Severity, Version};
 use serde::{Deserialize, Serialize};
 
-/// What a database keeps of a vulnerability.
+/// What a database keeps of a vulnerability. A vector that lacks base metrics is rejected.
 #[derive(Clone, Debug, PartialEq, Serialize, Deserialize)]
 pub struct Advisory {
     /// The name of the vulnerability.
@@ -12,10 +12,15 @@ pub struct Advisory {
     pub cvss: Option<Cvss>,
     /// Its score.
     pub score: Option<Score>,
-    /// Its rating.
+    /// The severity of the score.
     pub severity: Severity,
     /// The version of the standard.
     pub version: Version,
-    /// Which groups of metrics the score rests on.
+    /// Which groups of metrics the score counts.
     pub nomenclature: Option<Nomenclature>,
 }
+
+/// A vector that may lack base metrics, as it is in a draft of an advisory.
+#[derive(Clone, Debug, PartialEq, Serialize, Deserialize)]
+#[serde(transparent)]
+pub struct Draft(#[serde(with = "cvss_proved::allow_incomplete")] pub Cvss);

@@ -1,6 +1,6 @@
 //! Each vector and each name is the same JSON string both ways, and each score the same number.
 
-use advisory::Advisory;
+use advisory::{Advisory, Draft};
 use cvss_proved::{metrics, Cvss, Nomenclature, Score, Severity, Version};
 use serde::de::DeserializeOwned;
 use serde::Serialize;
@@ -72,9 +72,9 @@ fn each_score_is_a_number() {
     for json in [
         "98", "11", "10.1", "9.85", "-1", "-0.1", "266", "1e300", "\"9.8\"", "null",
     ] {
-        let refused = serde_json::from_str::<Score>(json).unwrap_err().to_string();
+        let error = serde_json::from_str::<Score>(json).unwrap_err().to_string();
         let expected = "expected a number from 0 to 10 with at most one decimal";
-        assert!(refused.contains(expected), "{json}: {refused}");
+        assert!(error.contains(expected), "{json}: {error}");
     }
 }
 
@@ -115,19 +115,46 @@ fn each_name_is_read_and_written() {
 
 #[test]
 fn a_vector_is_written_as_its_canonical_text() {
-    let cvss: Cvss = serde_json::from_str(r#""CVSS:3.1/s:u/av:n""#).unwrap();
-    is_read_and_written(&cvss, "CVSS:3.1/AV:N/S:U");
+    let text = r#""CVSS:3.1/s:u/av:n/ac:l/pr:n/ui:n/c:h/i:h/a:h""#;
+    let cvss: Cvss = serde_json::from_str(text).unwrap();
+    is_read_and_written(&cvss, "CVSS:3.1/AV:N/AC:L/PR:N/UI:N/S:U/C:H/I:H/A:H");
 }
 
 #[test]
-fn a_refusal_says_what_is_expected() {
-    let refused = serde_json::from_str::<Cvss>(r#""CVSS:3.1/AV:Q""#).unwrap_err();
-    let reason = "invalid CVSSv3 AV (Attack Vector) metric: `Q`";
-    assert!(refused.to_string().starts_with(reason), "{refused}");
-    let refused = serde_json::from_str::<Severity>(r#""hgh""#).unwrap_err();
+fn an_incomplete_vector_is_rejected_unless_a_field_allows_it() {
+    let json = r#""CVSS:3.1/AV:N/C:H""#;
+    let error = serde_json::from_str::<Cvss>(json).unwrap_err().to_string();
+    let message =
+        "missing mandatory CVSSv3 AC (Attack Complexity) metric: `CVSS:3.1/AV:N/C:H` is not";
+    assert!(error.starts_with(message), "{error}");
+    let draft: Option<Draft> = serde_json::from_str(json).unwrap();
+    let Some(Draft(cvss)) = &draft else {
+        panic!("there is no draft");
+    };
+    assert_eq!(
+        (cvss.as_str(), cvss.is_complete()),
+        ("CVSS:3.1/AV:N/C:H", false)
+    );
+    assert_eq!(serde_json::to_string(&draft).unwrap(), json);
+    assert_eq!(serde_json::to_string(cvss).unwrap(), json);
+    let none: Option<Draft> = serde_json::from_str("null").unwrap();
+    assert_eq!(none, None);
+    for json in [r#""CVSS:3.1/AV:Q""#, "9.8"] {
+        assert!(serde_json::from_str::<Draft>(json).is_err(), "{json}");
+    }
+}
+
+#[test]
+fn an_error_says_what_is_expected() {
+    let error = serde_json::from_str::<Cvss>(r#""CVSS:3.1/AV:Q""#).unwrap_err();
+    let message = "invalid CVSSv3 AV (Attack Vector) metric: `Q`";
+    assert!(error.to_string().starts_with(message), "{error}");
+    let expected = "is not a CVSS vector of v2, v3.0, v3.1 or v4.0";
+    assert!(error.to_string().contains(expected), "{error}");
+    let error = serde_json::from_str::<Severity>(r#""hgh""#).unwrap_err();
     let expected = "`hgh` is not one of none, low, medium, high and critical";
-    assert!(refused.to_string().contains(expected), "{refused}");
-    let refused = serde_json::from_str::<Version>("3.1").unwrap_err();
+    assert!(error.to_string().contains(expected), "{error}");
+    let error = serde_json::from_str::<Version>("3.1").unwrap_err();
     let expected = "expected one of 2.0, 3.0, 3.1 and 4.0";
-    assert!(refused.to_string().contains(expected), "{refused}");
+    assert!(error.to_string().contains(expected), "{error}");
 }

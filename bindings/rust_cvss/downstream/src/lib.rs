@@ -13,7 +13,7 @@ pub struct Advisory {
 }
 
 impl Advisory {
-    /// The rating of the advisory; `None` where it has no vector.
+    /// The severity of the advisory; `None` if it has no vector.
     #[must_use]
     pub fn severity(&self) -> Option<Severity> {
         self.cvss.as_ref().map(Cvss::severity)

@@ -27,7 +27,7 @@ impl Score {
         Score(library::rounded(Version::V20, self.0))
     }
 
-    /// The rating, by the bounds of the National Vulnerability Database.
+    /// The severity, by the bounds of the National Vulnerability Database.
     #[must_use]
     pub fn severity(self) -> Severity {
         if self.0 < 4.0 {

@@ -33,7 +33,7 @@ impl Score {
         Score(library::rounded(version_of(minor_version), self.0))
     }
 
-    /// The rating.
+    /// The severity.
     #[must_use]
     pub fn severity(self) -> Severity {
         Severity::since_v3(self.0)

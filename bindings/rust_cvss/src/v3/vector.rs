@@ -151,7 +151,7 @@ impl Vector {
         numbers.map_or(f64::NAN, |numbers| of(&numbers).value())
     }
 
-    /// The rating of the base score.
+    /// The severity of the base score.
     #[must_use]
     pub fn severity(&self) -> Severity {
         self.base_score().severity()

@@ -28,7 +28,7 @@ impl Score {
         self.value
     }
 
-    /// The rating.
+    /// The severity.
     #[must_use]
     pub fn severity(self) -> Severity {
         Severity::since_v3(self.value)

@@ -1,0 +1,41 @@
+package cvss
+
+// #include "library.h"
+// static size_t record(_GoString_ text, CvssError *error, void *buffer, size_t size)
+// {
+//     return cvss_record(_GoStringPtr(text), _GoStringLen(text), CVSS_ALLOW_INCOMPLETE, error, buffer, size);
+// }
+// static size_t explain(_GoString_ text, CvssError *error, void *buffer, size_t size)
+// {
+//     return cvss_explain(_GoStringPtr(text), _GoStringLen(text), CVSS_ALLOW_INCOMPLETE, error, buffer, size);
+// }
+import "C"
+
+// Record is the vector's record: the JSON object of FIRST's schema of its version, without spaces. As the schema has it,
+// baseScore of v4.0 is the score of all metrics in the vector.
+func (v Vector) Record() []byte {
+	return object(func(failure *C.CvssError, buffer []byte) int {
+		return int(C.record(v.text, failure, pointer(buffer), C.size_t(len(buffer))))
+	})
+}
+
+// Explain shows how the score is computed: a JSON object, without spaces. For v2 and v3 it has the weights, the sub-scores
+// and the number before the rounding of each score; for v4.0 the values that count, the MacroVector with its listed score,
+// the share of each group of metrics in what is subtracted from it, and the number before the rounding. A number is less
+// than 10^-6 from the exact one. It is exact if that has at most seven decimals, except for those of v3 with a changed
+// scope, which have a power.
+func (v Vector) Explain() []byte {
+	return object(func(failure *C.CvssError, buffer []byte) int {
+		return int(C.explain(v.text, failure, pointer(buffer), C.size_t(len(buffer))))
+	})
+}
+
+// object is the JSON object that a call writes. The zero Vector has none.
+func object(call func(failure *C.CvssError, buffer []byte) int) []byte {
+	failure := &C.CvssError{size: C.sizeof_CvssError}
+	object := written(make([]byte, 1<<11), func(buffer []byte) int { return call(failure, buffer) })
+	if failure.kind != C.CVSS_ACCEPTED {
+		return nil
+	}
+	return object
+}
