@@ -31,11 +31,11 @@ PROGRAM = ROOT / "crates/cvss_command/out/cvss_command"
 STORED = ROOT / "bench/documents"
 # What is planted in the stored documents, by hand: the pointer, and the members that disagree or why it is found.
 PLANTED = {
-    "cargo_audit": [("/vulnerabilities/list/1/advisory", "refused"), ("/vulnerabilities/list/2/advisory", "missing")],
+    "cargo_audit": [("/vulnerabilities/list/1/advisory", "error"), ("/vulnerabilities/list/2/advisory", "missing")],
     "csaf": [("/vulnerabilities/0/scores/1/cvss_v2", "baseScore")],
     "cve": [("/containers/cna/metrics/0/cvssV3_1", "baseSeverity"), ("/containers/cna/metrics/1/cvssV3_0", "version cvssV3_0")],
     "cyclonedx": [("/vulnerabilities/0/ratings/1", "method score severity"), ("/vulnerabilities/0/ratings/3", "severity"),
-                  ("/vulnerabilities/0/ratings/6", "score"), ("/vulnerabilities/0/ratings/7", "refused")],
+                  ("/vulnerabilities/0/ratings/6", "score"), ("/vulnerabilities/0/ratings/7", "error")],
     "github": [("/cvss_severities/cvss_v3", "score")],
     "grype": [("/matches/0/relatedVulnerabilities/0/cvss/0", "baseScore"), ("/matches/0/vulnerability/cvss/1", "baseScore"),
               ("/matches/0/vulnerability/cvss/2", "version")],
@@ -43,7 +43,7 @@ PLANTED = {
             ("/vulnerabilities/0/cve/metrics/cvssMetricV31/4/cvssData", "scope impactScore"),
             ("/vulnerabilities/1/cve/metrics/cvssMetricV2/0/cvssData", "baseSeverity exploitabilityScore impactScore")],
     "osv": [("/severity/1", "type")],
-    "spdx": [("/@graph/3", "security_score security_severity"), ("/@graph/5", "refused"), ("/@graph/7", "security_severity")],
+    "spdx": [("/@graph/3", "security_score security_severity"), ("/@graph/5", "error"), ("/@graph/7", "security_severity")],
     "trivy": [("/Results/0/Vulnerabilities/0/CVSS/nvd", "V2Score"), ("/Results/0/Vulnerabilities/0/CVSS/redhat", "V3Score"),
               ("/Results/0/Vulnerabilities/0/CVSS/wrong", "V2Vector"), ("/Results/0/Vulnerabilities/0/CVSS/wrong", "V40Vector"),
               ("/Results/0/Vulnerabilities/1/CVSS/nvd", "missing")],
@@ -61,7 +61,7 @@ def audit(*arguments, given=b"", cwd=None):
 def finding(answer):
     if "differs" in answer:
         return " ".join(each["member"] for each in answer["differs"])
-    return next((member for member in ("refused", "missing") if member in answer), None)
+    return next((member for member in ("error", "missing") if member in answer), None)
 
 
 def expect(actual, expected, what):
@@ -257,7 +257,7 @@ class Drawing:
         text = self.vector()
         known = self.known(text)
         score = known and known.score / 10
-        rating = known and known.rating(known.score)
+        severity = known and known.severity_of(known.score)
         named = documents.VERSION_NAMES[known.version] if known else "3.1"
         kind = self.random.randrange(9)
         if kind == 0:
@@ -268,7 +268,7 @@ class Drawing:
             return {"type": self.value(known and documents.OSV_TYPES[known.version]), "score": text}
         if kind == 3:
             members = {"vector": text, "method": self.value(known and documents.METHODS[known.version]), "score": self.value(score),
-                    "severity": self.value(rating)}
+                    "severity": self.value(severity)}
         elif kind == 4:
             members = {"vector": text, "version": self.value(named), "metrics": {"baseScore": self.value(score)} if self.chance(0.9) else self.pick([], None, 1)}
         elif kind == 5:
@@ -281,11 +281,11 @@ class Drawing:
         elif kind == 6:
             return {self.pick("advisory", "advisory", "other"): {"id": "RUSTSEC-1", "cvss": text}}
         elif kind == 7:
-            members = {"security_vectorString": text, "security_score": self.value(score), "security_severity": self.value(rating)}
+            members = {"security_vectorString": text, "security_score": self.value(score), "security_severity": self.value(severity)}
         else:
             parts = known.sub_scores() if known else {}
             members = {self.pick("cvssData", "cvssData", "cvssV3_1", "cvss_v2", "cvss_v4"): self.record(text, known),
-                    "baseSeverity": self.value(rating and rating.upper())}
+                    "baseSeverity": self.value(severity and severity.upper())}
             for member in ("exploitabilityScore", "impactScore"):
                 members[member] = self.value(parts[member] / 10 if member in parts else None)
         return {name: value for name, value in members.items() if self.chance(0.9)}

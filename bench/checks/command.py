@@ -15,6 +15,8 @@ ROOT = Path(__file__).resolve().parents[2]
 PROGRAM = ROOT / "crates/cvss_command/out/cvss_command"
 V2 = b"AV:N/AC:L/Au:N/C:N/I:N/A:C"
 V2_ANSWER = V2 + b" 7.8 high\n"
+BASE = b"CVSS:3.1/AV:N/AC:L/PR:N/UI:N/S:U/C:H/I:H/A:H"
+V4 = b"CVSS:4.0/AV:N/AC:L/AT:N/PR:N/UI:N/VC:L/VI:H/VA:N/SC:N/SI:N/SA:N"
 CUT = b"CVSS:3.1/AV:N/AC:L/PR:N/UI:N/S:U/C:H"
 CUT_ANSWER = b"error: missing mandatory CVSSv3 I (Integrity Impact) metric\n"
 NO_FILE = b": No such file or directory (os error 2)\n"
@@ -53,12 +55,59 @@ def try_arguments():
     expect(0, usage, b"", "help", "help")
     expect(0, f"cvss {(ROOT / 'VERSION').read_text().strip()}\n".encode(), b"", "--version")
     expect(2, b"", usage)
-    expect(2, b"", usage, "set")
-    for arguments, wrong in ((["scores"], b"scores"), (["--helper"], b"--helper"), (["--version", "x"], b"x"),
-                             (["score", "--jsn", "x"], b"--jsn"), (["set", "E:A", "-x", "--"], b"-x"),
-                             (["set", "--", "x"], b"--"), (["help", "x"], b"x"), (["help", "set", "y", "z"], b"y"),
-                             ([b"\xff\n"], b"\xff\n"), (["set", b"E:\xff"], b"E:\xff")):
-        expect(2, b"", b"cvss: not understood: " + wrong + b"\n" + usage, *arguments)
+
+
+def try_usage_errors():
+    """One line says what is wrong with the arguments, and where help is."""
+    all_scores = " does not go with '--json', which prints all scores"
+    for arguments, problem, topic in (
+            (["scores"], "unknown command 'scores'", None), ([b"a\n"], "unknown command 'a\n'", None),
+            (["-"], "unknown command '-'", None), (["--helper"], "unknown option '--helper'", None),
+            (["-h"], "unknown option '-h'", None), (["--version", "x"], "unexpected argument 'x'", None),
+            (["--help", "score"], "unexpected argument 'score'", None), (["help", "x"], "unknown command 'x'", None),
+            (["help", "set", "y", "z"], "unexpected argument 'y'", None),
+            (["score", "--min", "x"], "unknown option '--min'", "score"),
+            (["find", "--tsv"], "unknown option '--tsv'", "find"), (["explain", "--base"], "unknown option '--base'", "explain"),
+            (["audit", "--json"], "unknown option '--json'", "audit"),
+            (["set", "E:A", "-x", "--"], "unknown option '-x'", "set"),
+            (["triage", "--base", "--min", "x"], "unknown option '--min'", "triage"),
+            (["triage", "--set"], "option '--set' needs a value", "triage"),
+            (["triage", "--keep-going", "--profile"], "option '--profile' needs a value", "triage"),
+            (["set"], "no metric to set", "set"), (["set", "--", "x"], "no metric to set", "set"),
+            (["set", "--base", "--allow-incomplete", "--", V2], "no metric to set", "set"),
+            (["set", b"E:\xff"], "a metric is not UTF-8", "set"), (["set", "E:A", b"\xff"], "a metric is not UTF-8", "set"),
+            (["score", "--base", "--json"], "--base" + all_scores, "score"),
+            (["score", "--json", "--tsv", "--base"], "--base" + all_scores, "score"),
+            (["score", "--tsv", "--base", V2], "--base" + all_scores.replace("json", "tsv"), "score"),
+            (["find", "--annotate", "--json", "--base"], "--base" + all_scores, "find")):
+        help_command = f"cvss help {topic}" if topic else "cvss help"
+        expect(2, b"", f"cvss: {problem}; see '{help_command}'\n".encode(), *arguments)
+    expect(2, b"", b"cvss: unknown command '\xff'; see 'cvss help'\n", b"\xff")
+
+
+def try_base():
+    """The score with all metrics, and the base score in place of it."""
+    all_metrics = BASE + b"/E:U/RL:O/RC:C"
+    expect(0, all_metrics + b" 8.5 high\n", b"", "score", all_metrics)
+    expect(0, all_metrics + b" 9.8 critical\n", b"", "score", "--base", all_metrics)
+    expect(0, b"1:1 " + all_metrics + b" 8.5 high\n", b"", "find", given=all_metrics)
+    expect(0, b"1:1 " + all_metrics + b" 9.8 critical\n", b"", "find", "--base", given=all_metrics)
+    expect(0, BASE + b"/CR:H/MAV:L 8.4 high\n", b"", "set", "MAV:L", "CR:H", "--", BASE)
+    expect(0, BASE + b"/CR:H/MAV:L 9.8 critical\n", b"", "set", "MAV:L", "--base", "CR:H", "--", BASE)
+    expect(0, b"8.5 high " + all_metrics + b"\t" + all_metrics + b"\n", b"", "triage", all_metrics)
+    expect(0, b"9.8 critical " + all_metrics + b"\t" + all_metrics + b"\n", b"", "triage", "--base", all_metrics)
+    expect(0, V4 + b"/E:P 7.8 high\n", b"", "score", V4 + b"/E:P")
+    expect(0, V4 + b"/E:P 8.8 high\n", b"", "score", "--base", V4 + b"/E:P")
+
+
+def try_incomplete():
+    """A v3 vector that lacks base metrics, in each subcommand that scores."""
+    expect(1, CUT_ANSWER, b"", "set", "E:U", "--", CUT)
+    expect(0, CUT + b"/E:U 6.9 medium\n", b"", "set", "E:U", "--allow-incomplete", "--", CUT)
+    expect(0, CUT + b"/E:U 7.5 high\n", b"", "set", "--allow-incomplete", "--base", "E:U", "--", CUT)
+    expect(0, CUT + b" 7.5 high\n", b"", "score", "--allow-incomplete", CUT)
+    expect(0, b"1:1 " + CUT + b" 7.5 high\n", b"", "find", "--allow-incomplete", given=CUT)
+    expect(0, b"7.5 high " + CUT + b"\t" + CUT + b"\n", b"", "triage", "--allow-incomplete", CUT)
 
 
 def try_hints():
@@ -89,7 +138,7 @@ def try_notes():
         expect(0, b"", note, "audit", given=given)
     expect(0, b"", note, "audit", "--document", given=b"{}")
     expect(2, b"", b"cvss: gone" + NO_FILE, "audit", "gone")
-    expect(1, b'{"line":1,"refused":"not JSON"}\n', b"", "audit", given=b"x\n")
+    expect(1, b'{"error":"not JSON","line":1}\n', b"", "audit", given=b"x\n")
     found = b'{"vectorString":"' + V2 + b'"}\n'
     done = subprocess.run([PROGRAM, "audit"], input=found, capture_output=True, check=True)
     assert done.stdout and not done.stderr, done
@@ -166,6 +215,7 @@ def try_completion():
     assert {"score", "set", "help", "--help", "--version"} <= set(complete_words(""))
     assert complete_words("sc") == ["score"] and complete_words("help", "se") == ["set"]
     assert complete_words("score", "--a") == ["--allow-incomplete"] and "--tsv" in complete_words("score", "--")
+    assert complete_words("set", "--b") == ["--base"] and "--base" not in complete_words("explain", "--")
     assert complete_words("score", "VERS") == ["VERSION"]
 
 
@@ -173,6 +223,9 @@ def main():
     with tempfile.TemporaryDirectory() as folder:
         room = Path(folder)
         try_arguments()
+        try_usage_errors()
+        try_base()
+        try_incomplete()
         try_hints()
         try_notes()
         try_operands(room)

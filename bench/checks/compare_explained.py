@@ -95,14 +95,14 @@ def run(given, end, *options, room=None):
 def compare_json(given, *options, room=None):
     """Ends if an object is another than that of accounts.py, or the status is."""
     answers, status = run(given, "\n", "--json", *options, room=room)
-    refused = False
+    rejected = False
     for number, line, answer in answers:
         expected = accounts.answer(number, line, ALLOW in options)
-        refused = refused or "refused" in expected
+        rejected = rejected or "error" in expected
         found = difference(json.loads(answer, parse_float=Fraction), expected)
         if found or not is_as_written(answer):
             sys.exit(f"{line[:500]}: {found or answer}")
-    if status != int(refused):
+    if status != int(rejected):
         sys.exit(f"cvss explain --json: status {status}")
 
 
@@ -120,14 +120,14 @@ def is_line(actual, expected):
 def compare_text(given, *options, room=None):
     """Ends if a text is another than that of explained.py, or the status is."""
     answers, status = run(given, "\n\n", *options, room=room)
-    refused = False
+    rejected = False
     for _, line, answer in answers:
         expected = explained.answer(line, ALLOW in options)
-        refused = refused or expected[0][0].startswith("error: ")
+        rejected = rejected or expected[0][0].startswith("error: ")
         written = answer.split("\n")
         if len(written) != len(expected) or not all(map(is_line, written, expected)):
             sys.exit(f"{line[:500]}: {answer}\nand not\n{explained.written(expected)}")
-    if status != int(refused):
+    if status != int(rejected):
         sys.exit(f"cvss explain: status {status}")
 
 
@@ -147,16 +147,16 @@ def scores_in(rows):
 def compare_what_if(given, *options, room=None):
     """Ends if the scores that other values would give are others than those of what_if.py."""
     answers, status = run(given, "\n\n", "--what-if", *options, room=room)
-    refused = False
+    rejected = False
     for _, line, answer in answers:
         heading, *rows = answer.split("\n")
         expected = complete.answer(line, allow_incomplete=ALLOW in options)
-        is_refused = expected.startswith("error: ")
-        scores = ({}, {}) if is_refused else what_if.scores(line)
+        is_rejected = expected.startswith("error: ")
+        scores = ({}, {}) if is_rejected else what_if.scores_with(line)
         if heading != expected or scores_in(rows) != scores:
             sys.exit(f"{line[:500]}: {answer}\nand not {expected}\n{scores}")
-        refused = refused or is_refused
-    if status != int(refused):
+        rejected = rejected or is_rejected
+    if status != int(rejected):
         sys.exit(f"cvss explain --what-if: status {status}")
 
 

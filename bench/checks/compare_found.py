@@ -21,7 +21,7 @@ import texts
 
 PROGRAM = ROOT / "crates/cvss_command/out/cvss_command"
 
-# Texts, and what is found in each: its column and its answer.
+# Texts, and what is found in each: its column and its score line.
 V2 = b"AV:N/AC:L/Au:N/C:N/I:N/A:P"
 V2_ANSWER = V2.decode() + " 5.0 medium"
 METRICS = b"AV:N/AC:L/PR:N/UI:N/S:U/C:H/I:H/A:H"
@@ -51,7 +51,7 @@ CASES = [
     (b"vector:" + V2, [(8, V2_ANSWER)]),
     (b"score:7.5/" + V2, [(11, V2_ANSWER)]),
     (b"AC:L/AV:N/Au:N/C:N/I:N/A:P", [(1, V2_ANSWER)]),
-    (b"E:U/" + V2, [(1, V2.decode() + "/E:U 5.0 medium")]),
+    (b"E:U/" + V2, [(1, V2.decode() + "/E:U 4.3 medium")]),
     (CUT, [(1, MISSING)]),
     (b"text " + CUT + b"/", [(6, COMPONENT + "``")]),
     (b"text " + V3 + b"/", [(6, COMPONENT + "``")]),
@@ -99,9 +99,9 @@ def try_cases():
 
 
 def compare(room, written, *arguments):
-    """Ends if the program writes something else or has another status; otherwise returns how many answers there are."""
+    """Ends if the program writes something else or has another status; otherwise returns how many matches there are."""
     answers = [(name, number, place, answer) for name, number, line in lines_of(written)
-               for place, answer in finding.reported(line, bool(arguments))]
+               for place, answer in finding.reported(line, "--allow-incomplete" in arguments, "--base" in arguments)]
     expected = [fronted(name, f"{number}:{place + 1} {answer}".encode()) for name, number, place, answer in answers]
     done = run_over(room, written, *arguments)
     actual = done.stdout.split(b"\n")[:-1]
@@ -117,11 +117,11 @@ def compare(room, written, *arguments):
 
 
 def try_annotated(room, written):
-    """Each line is repeated, with the answer of its first match or of each."""
+    """Each line is repeated, with the score line of its first match or of each."""
     lines = lines_of(written)
-    for arguments in ((), ("--all",), ("--allow-incomplete",), ("--all", "--allow-incomplete")):
-        is_all, allow = "--all" in arguments, "--allow-incomplete" in arguments
-        expected = [finding.annotated(line, is_all, allow) for *_, line in lines]
+    for arguments in ((), ("--all",), ("--allow-incomplete", "--base"), ("--all", "--allow-incomplete")):
+        flags = [flag in arguments for flag in ("--all", "--allow-incomplete", "--base")]
+        expected = [finding.annotated(line, *flags) for *_, line in lines]
         done = run_over(room, written, "--annotate", *arguments)
         actual = done.stdout.split(b"\n")
         assert actual.pop() == b"" and len(actual) == len(lines), f"{len(actual)} lines, and not {len(lines)}"
@@ -193,6 +193,7 @@ def main():
         while drawn < count:
             written = hostile.files(draw, room, min(AT_ONCE, count - drawn), line)
             answered += compare(room, written) + compare(room, written, "--allow-incomplete")
+            compare(room, written, "--base")
             try_annotated(room, written)
             try_objects(room, written)
             drawn += len(lines_of(written))

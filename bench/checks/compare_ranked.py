@@ -34,7 +34,7 @@ V3 = b"CVSS:3.1/AV:N/AC:L/PR:N/UI:N/S:U/C:H/I:H/A:H"
 V4 = b"CVSS:4.0/AV:N/AC:L/AT:N/PR:N/UI:N/VC:L/VI:H/VA:N/SC:N/SI:N/SA:N"
 CUT = b"CVSS:3.1/AV:N/AC:L/PR:N/UI:N/S:U/C:H"
 ROW_V2, ROW_V3, ROW_V4 = b"7.8 high " + V2, b"9.8 critical " + V3, b"8.8 high " + V4
-UNKNOWN = b"not a metric of any version: "
+UNKNOWN = b"no CVSS version has "
 # Arguments, standard input, and the status, standard output and standard error, by hand.
 CASES = [
     ([], b"", (0, b"", b"")),
@@ -44,7 +44,7 @@ CASES = [
     ([b"--", V2, V3], b"", (0, ROW_V3 + b"\t" + V3 + b"\n" + ROW_V2 + b"\t" + V2 + b"\n", b"")),
     ([], V2 + b"\n\n" + V3, (1, b"", b"cvss: line 2: no vector\n")),
     ([b"--keep-going"], V2 + b"\n\n" + V2 + b" " + V3,
-     (1, ROW_V2 + b"\t" + V2 + b"\n", b"cvss: line 2: no vector\ncvss: line 3: several vectors\n")),
+     (1, ROW_V2 + b"\t" + V2 + b"\n", b"cvss: line 2: no vector\ncvss: line 3: more than one vector on this line\n")),
     ([b"--keep-going"], CUT, (1, b"", b"cvss: line 1: missing mandatory CVSSv3 I (Integrity Impact) metric\n")),
     ([b"--allow-incomplete"], CUT, (0, b"7.5 high " + CUT + b"\t" + CUT + b"\n", b"")),
     ([b"--set", b"E:Q"], V2, (2, b"", b"cvss: " + UNKNOWN + b"E:Q\n")),
@@ -55,6 +55,7 @@ CASES = [
      (2, b"", b"cvss: -: line 4: " + UNKNOWN + b"CVSS:2.0/E:U\n")),
     ([b"--profile", b"CVSS:4.0/E:U", V4], b"", (0, b"6.7 medium " + V4 + b"/E:U\t" + V4 + b"\n", b"")),
     ([b"--profile", b"CVSS:3.1/E:U", V4], b"", (0, ROW_V4 + b"\t" + V4 + b"\n", b"")),
+    ([b"--set", b"E:U", b"--base", V4], b"", (0, b"8.8 high " + V4 + b"/E:U\t" + V4 + b"\n", b"")),
     ([b"--profile", b"no such file", b"--keep-going", V4], b"", (2, b"", b"cvss: no such file: No such file or directory (os error 2)\n")),
     ([b"--keep-going", b"no such file", b"-"], V4,
      (2, ROW_V4 + b"\t" + V4 + b"\n", b"cvss: no such file: No such file or directory (os error 2)\n")),
@@ -117,7 +118,7 @@ def try_list(draw, room):
             arguments += [b"--set", word.encode()]
         else:
             arguments += [b"--profile", file(profile(draw, wrong))]
-    arguments += [flag for flag in (b"--keep-going", b"--allow-incomplete") if draw.random() < 0.4]
+    arguments += [flag for flag in (b"--keep-going", b"--allow-incomplete", b"--base") if draw.random() < 0.4]
     rejected = draw.choice((0, 0.02, 0.3))
     parts = [[line(draw, rejected) for _ in range(draw.randrange(80))] for _ in range(draw.choice((1, 1, 2, 3)))]
     given = None

@@ -1,7 +1,7 @@
 #!/usr/bin/env python3
 """Compares what the built `cvss score` and `cvss set` write with complete.py and rows.py, over drawn lines, many of
-them almost vectors: as answers, columns and objects, with incomplete vectors and without, from standard input, a file,
-several files and words. The metrics to set are drawn too.
+them almost vectors: as lines with all metrics counted or the base metrics, as columns and objects, with incomplete vectors
+and without, from standard input, a file, several files and words. The metrics to set are drawn too.
 
 usage: bench/checks/compare_scored.py [COUNT [SEED]]
 """
@@ -29,6 +29,7 @@ ODD = [b"", b"a\tb\\c\rd:e/f", b'x:"\x01\x1f\x7f/AV:N', b"\xff\t\\", "AV:\u00e9/
 # Metrics by hand, and how drawn ones are made wrong.
 METRICS = (["E:U"], ["E:A", "MAV:L"], ["c:h", "i:H", "A:N"], ["RL:OF"], ["MSI:S", "CR:H", "CR:L"], ["Q"],
            ["S:C/PR:L"], ["E:U", ""])
+FLAGS = (), (), ("--base",), ("--allow-incomplete", "--base"), ("--base", "--allow-incomplete")
 WRONG = "", "x", ":", "E:", ":A", "E:Q", "E::U", "CVSS:3.1", "E:\u00dc", "/", "AV:N/", "e"
 AT_ONCE = 5_000
 
@@ -74,10 +75,10 @@ def answers_of(written, answer):
 
 def compare_score(room, written):
     """The forms of `cvss score` over files."""
-    for allow, form in product((False, True), (None, "tsv", "json")):
+    for allow, form in product((False, True), (None, "base", "tsv", "json")):
         words = ["score", *(["--allow-incomplete"] if allow else []), *([f"--{form}"] if form else [])]
-        expected, rejected = answers_of(written, lambda line: complete.answer(line, allow_incomplete=allow))
-        if form:
+        expected, rejected = answers_of(written, lambda line: complete.answer(line, None, allow, form == "base"))
+        if form in ("tsv", "json"):
             several = len(written) > 1
             header = (b"file\t" if several else b"") + HEADER if form == "tsv" else b""
             expected = header + b"".join(rows.row(form, line, allow, name.encode() if several else None) + b"\n"
@@ -98,9 +99,11 @@ def metrics(draw):
     return words
 
 
-def compare_set(room, written, own):
-    words = ["set", *own, "--"]
-    expected, rejected = answers_of(written, lambda line: complete.answer(line, metrics="/".join(own).encode()))
+def compare_set(room, written, own, flags=()):
+    """Metrics are set, with flags before the first and after it."""
+    words = ["set", *flags[:1], *own[:1], *flags[1:], *own[1:], "--"]
+    expected, rejected = answers_of(written, lambda line: complete.answer(
+        line, "/".join(own).encode(), "--allow-incomplete" in flags, "--base" in flags))
     expect(words, run(room, words, written), expected, rejected)
 
 
@@ -151,7 +154,8 @@ def main():
             try_files(draw, room, 20, lambda *files, own=own: compare_set(*files, own))
         while set_lines < count:
             size = draw.randrange(1, 200)
-            set_lines += try_files(draw, room, size, lambda *files: compare_set(*files, metrics(draw)))
+            own, flags = metrics(draw), draw.choice(FLAGS)
+            set_lines += try_files(draw, room, size, lambda *files, own=own, flags=flags: compare_set(*files, own, flags))
             sets += 1
     print(f"cvss score: {scored} drawn lines in each form, and {of_words} words; cvss set: {set_lines} drawn lines,"
           f" with {sets} drawn settings: the answers are those of complete.py, the rows those of rows.py")

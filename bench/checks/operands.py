@@ -75,6 +75,10 @@ def score(line, number, operand):
     return prefixed(operand, complete.answer(line).encode() + b"\n")
 
 
+def score_base(line, number, operand):
+    return prefixed(operand, complete.answer(line, base=True).encode() + b"\n")
+
+
 def set_metrics(line, number, operand):
     return prefixed(operand, complete.answer(line, metrics=b"E:U").encode() + b"\n")
 
@@ -100,7 +104,7 @@ def json_text(value):
 def explain_object(line, number, operand):
     scored = complete.answer(line)
     if scored.startswith("error: "):
-        members = {"given": line.decode(), "line": number, "refused": scored.removeprefix("error: ")}
+        members = {"given": line.decode(), "line": number, "error": scored.removeprefix("error: ")}
     else:
         members = accounts.answer(number, line)
     file = f'{{"file":{json.dumps(operand.decode(), ensure_ascii=False)},' if operand else "{"
@@ -116,6 +120,7 @@ def audit(line, number, operand):
 
 SUBCOMMANDS = [
     Subcommand(["score"], ACCEPTED, REJECTED, score),
+    Subcommand(["score", "--base"], ACCEPTED, REJECTED, score_base),
     Subcommand(["set", "E:U", "--"], ACCEPTED, REJECTED, set_metrics),
     Subcommand(["find"], b"(" + ACCEPTED + b")", b'"' + REJECTED + b'"', find),
     Subcommand(["explain"], ACCEPTED, REJECTED, explain),
@@ -189,7 +194,7 @@ def try_long(command, room):
     lines = [command.accepted.replace(ACCEPTED, vector) for vector in vectors]
     for given in (lines, [command.accepted, b"q" * (17 << 20), command.accepted]):
         answers = command.answers(given)
-        status = int(any(word in answers for word in (b"error: ", b'"refused":')))
+        status = int(any(word in answers for word in (b"error: ", b'"error":')))
         assert status or command.name == "find", command.name
         (room / "long texts").write_bytes(b"\n".join(given))
         command.expect(status, answers, b"", given=b"\n".join(given) + b"\n")

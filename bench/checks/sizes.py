@@ -75,15 +75,15 @@ def reason(read, text):
     """Why a text is rejected."""
     try:
         sys.exit(f"{read(text)[0][:200]!r} is accepted")
-    except reference.Refused as refused:
-        return str(refused)
+    except reference.Refused as error:
+        return str(error)
 
 
 READ = {"v2": reference.read_v2, "v3": reference.read_v3, "v4": reference.read_v4,
         "cvss": reference.read}
 
 
-def refused():
+def rejected():
     """Texts that are rejected for a part `q`, by the version whose rules read them."""
     for version, front in (("v2", "AV:N/"), ("v3", "CVSS:3.0/AV:N/"), ("v4", "CVSS:4.0/AV:N/")):
         for text in ("q", "q:N", "AC:q"):
@@ -98,9 +98,9 @@ def lengthened(text, size):
     return text.replace("q", "q" * size).replace("Q", "Q" * size)
 
 
-def try_refusals(runs):
+def try_rejections(runs):
     """Each error with a long part: by the rules of each version, and as a JSON string."""
-    short = [(version, text, reason(READ[version], text)) for version, text in refused()]
+    short = [(version, text, reason(READ[version], text)) for version, text in rejected()]
     for size in SIZES:
         cases = [(version, lengthened(text, size), lengthened(words, size))
                 for version, text, words in short]
@@ -169,7 +169,7 @@ def try_arguments(runs):
     for size in ARGUMENT_SIZES:
         part = "q" * size
         for metric in (part, f"{part}:N", f"MAV:{part}", f"E:{part}"):
-            runs.expect("cvss_command", LOW.encode(), (2, b"", f"cvss: not a metric of any version: {metric}\n"),
+            runs.expect("cvss_command", LOW.encode(), (2, b"", f"cvss: no CVSS version has {metric}\n"),
                         ["triage", "--set", metric])
         runs.expect("cvss_tool", b"", (0, b"", ""), [part] * 20)
 
@@ -183,7 +183,7 @@ def try_much(runs):
                     (1, f"error: {reason}\n{FIRST}".encode(), ""))
         runs.expect("cvss_command", part.encode(), (1, b"", "cvss: line 1: no vector\n"), ["triage"])
         runs.expect("cvss_command", f'{{"vectorString":"{part}"}}'.encode(),
-                    (1, f'{{"at":"","given":"{part}","line":1,"refused":"{reason}"}}\n'.encode(), ""), ["audit"])
+                    (1, f'{{"at":"","error":"{reason}","given":"{part}","line":1}}\n'.encode(), ""), ["audit"])
     count = ALL // len(LINE)
     runs.expect("cvss_tool", LINE * count, (0, FIRST.encode() * count, ""))
     count = ONE_BY_ONE // len(LINE)
@@ -195,7 +195,7 @@ def try_much(runs):
     reason = b"error: invalid CVSS metric group component: `\0`\n"
     runs.expect("cvss_tool", b"\0\n" + LINE + b"\0\n", (1, reason + FIRST.encode() + reason, ""))
     runs.expect("cvss_tool", LINE + b"\0\n", (1, FIRST.encode() + reason, ""), READ_STEP=len(LINE))
-    runs.expect("cvss_command", b"\0", (1, b'{"line":1,"refused":"not JSON"}\n', ""), ["audit"])
+    runs.expect("cvss_command", b"\0", (1, b'{"error":"not JSON","line":1}\n', ""), ["audit"])
 
 
 def try_many(runs):
@@ -254,7 +254,7 @@ def built(room, name, source):
 def main():
     with tempfile.TemporaryDirectory() as room:
         runs = Runs(built(room, "streams", SHIM))
-        for tried in (try_arguments, try_refusals, try_whole, try_much, try_many):
+        for tried in (try_arguments, try_rejections, try_whole, try_much, try_many):
             tried(runs)
         texts = try_memory(built(room, "counted", COUNTED))
     print(f"{runs.count} runs over much input, long parts and many arguments ended as they should; "

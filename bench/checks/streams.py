@@ -131,7 +131,7 @@ DOCUMENT = f'{{"vectorString":"{V2}","baseScore":7}}'
 def audited(says="7", line=1):
     """What `cvss audit` answers to a document that says this of the score 7.8 of a vector of v2."""
     return (f'{{"at":"","differs":[{{"is":7.8,"member":"baseScore","says":{says}}}],"given":"{V2}",'
-            f'"line":{line},"scores":{{"base":7.8,"environmental":7.8,"temporal":7.8}},'
+            f'"line":{line},"scores":{{"base":7.8,"environmental":7.8,"score":7.8,"temporal":7.8}},'
             f'"severity":"high","vector":"{V2}"}}\n')
 
 
@@ -143,7 +143,7 @@ def agreed():
 
 
 def no_json(line):
-    return f'{{"line":{line},"refused":"not JSON"}}\n'
+    return f'{{"error":"not JSON","line":{line}}}\n'
 
 
 def nested(depth, text=""):
@@ -157,17 +157,17 @@ DOCUMENTS = [
     (b" \t\r\n\n ", "", 0),
     (DOCUMENT.encode(), audited(), 1),
     (b"\n{\n{}\r\n{}{}", no_json(2) + no_json(4), 1),
-    (b"{}\n\xff\n", '{"line":2,"refused":"not UTF-8"}\n', 1),
+    (b"{}\n\xff\n", '{"error":"not UTF-8","line":2}\n', 1),
     (b"\xef\xbb\xbf{}", no_json(1), 1),
     (b" \t[\n1\n]\n", no_json(1) + no_json(3), 1),
     (b'[{"vectorString":""},{"vectorString":"CVSS:3.0/S:U"}]',
-     '{"at":"/0","given":"","line":1,"refused":"invalid CVSS metric group component: ``"}\n'
+     '{"at":"/0","error":"invalid CVSS metric group component: ``","given":"","line":1}\n'
      '{"at":"/1","given":"CVSS:3.0/S:U","line":1,"missing":["AV","AC","PR","UI","C","I","A"],'
-     '"scores":{"base":0.0,"environmental":0.0,"temporal":0.0},"severity":"none",'
+     '"scores":{"base":0.0,"environmental":0.0,"score":0.0,"temporal":0.0},"severity":"none",'
      '"vector":"CVSS:3.0/S:U"}\n', 1),
     (b'{"vector_string":"CVSS:3.1/A:N/AV:N/AC:L/PR:N/UI:R/S:C/C:L/I:L","score":61e-1}',
      '{"at":"","given":"CVSS:3.1/A:N/AV:N/AC:L/PR:N/UI:R/S:C/C:L/I:L","line":1,'
-     '"scores":{"base":6.1,"environmental":6.1,"temporal":6.1},"severity":"medium",'
+     '"scores":{"base":6.1,"environmental":6.1,"score":6.1,"temporal":6.1},"severity":"medium",'
      '"vector":"CVSS:3.1/AV:N/AC:L/PR:N/UI:R/S:C/C:L/I:L/A:N"}\n', 0),
     # A number beyond the doubles, half of a pair of escapes, and scores that are read as doubles.
     (b'{"vectorString":"AV:N","says":1e400}', no_json(1), 1),
@@ -179,8 +179,7 @@ DOCUMENTS = [
     (DOCUMENT.replace("{", '{"baseScore":7.8,').encode(), audited(), 1),
     # A document that nests 127 deep is read, and one that nests deeper is not.
     (f'{{"vectorString":"CVSS:2","says":{nested(126)}}}'.encode(),
-     '{"at":"","given":"CVSS:2","line":1,'
-     '"refused":"invalid CVSS metric group component: `CVSS:2`"}\n', 1),
+     '{"at":"","error":"invalid CVSS metric group component: `CVSS:2`","given":"CVSS:2","line":1}\n', 1),
     (nested(1, f'{{"vectorString":"CVSS:2","says":{nested(126)}}}').encode(), no_json(1), 1),
     (f'{{"vectorString":"{V2}","baseScore":{nested(126)}}}'.encode(), audited(nested(126)), 1),
 ]

@@ -54,7 +54,7 @@ class Planted:
         known = documents.vector_of(text)
         if not self.chance(self.rate / 3):
             return text, known, None
-        fault = self.draw.choice(("refused", "missing", "not a string"))
+        fault = self.draw.choice(("error", "missing", "not a string"))
         if fault == "not a string":
             return self.draw.choice(NO_STRINGS), known, fault
         if fault == "missing" and known.version in (30, 31):
@@ -62,9 +62,9 @@ class Planted:
             dropped = self.draw.choice([piece for piece in pieces if piece.split(":")[0].upper() in documents.v3.BASE])
             text = "/".join([front, *(piece for piece in pieces if piece != dropped)])
             return text, documents.vector_of(text), fault
-        return self.refused(text), known, "refused"
+        return self.rejected(text), known, "error"
 
-    def refused(self, text):
+    def rejected(self, text):
         for _ in range(20):
             other = self.draw.choice((text + "/", text + "/x", " " + text, text.lower(), text[:-1], text + "/E:Q",
                                       text + "\u00e9", text * 2, text[1:], "x"))
@@ -91,8 +91,8 @@ class Planted:
             for other, name in self.draw.sample(places, min(len(places), self.draw.choice((1, 1, 2, 3)))):
                 other[name] = self.wrong(other[name])
                 members.add(name)
-        if fault in ("refused", "not a string"):
-            members = {"refused"}
+        if fault in ("error", "not a string"):
+            members = {"error"}
         elif fault == "missing" and not members:
             members = {"missing"}
         if members:
@@ -140,7 +140,7 @@ class Planted:
         for member, tenths in known.sub_scores().items():
             entry[member] = tenths / 10
         if known.version == 20:
-            entry["baseSeverity"] = known.rating(known.score).upper()
+            entry["baseSeverity"] = known.severity_of(known.score).upper()
         places += [(entry, name) for name in entry if name not in ("source", "type", "cvssData")]
         self.finish(holder, fault, places)
         return OF_NVD[known.version], entry
@@ -192,7 +192,7 @@ class Planted:
 
     def rating(self):
         text, known, fault = self.vector()
-        holder = {"source": {"name": "NVD"}, "score": known.score / 10, "severity": known.rating(known.score),
+        holder = {"source": {"name": "NVD"}, "score": known.score / 10, "severity": known.severity_of(known.score),
                   "method": documents.METHODS[known.version], "vector": text}
         places = [(holder, name) for name in ("score", "severity", "method")]
         if self.chance(0.1):
@@ -249,7 +249,7 @@ class Planted:
         text, known, fault = self.vector()
         holder = {"type": "security_CvssV3VulnAssessmentRelationship", "spdxId": f"urn:{self.number()}",
                   "security_vectorString": text, "security_score": known.score / 10,
-                  "security_severity": known.rating(known.score)}
+                  "security_severity": known.severity_of(known.score)}
         self.finish(holder, fault, [(holder, "security_score"), (holder, "security_severity")])
         return holder
 

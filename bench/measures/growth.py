@@ -74,9 +74,9 @@ def made(told):
 def audited(data):
     """The answer to a document of `deep_documents.py`: one object for each of its places. Where no
     metric of a group is given, its score is the base score."""
-    text, score, rating = answer(VECTOR.encode()).split()
-    scores = ",".join(f'"{group}":{score}' for group in ("base", "environmental", "temporal"))
-    told = (f'"given":"{VECTOR}","line":1,"scores":{{{scores}}},"severity":"{rating}",'
+    text, score, severity = answer(VECTOR.encode()).split()
+    scores = ",".join(f'"{group}":{score}' for group in ("base", "environmental", "score", "temporal"))
+    told = (f'"given":"{VECTOR}","line":1,"scores":{{{scores}}},"severity":"{severity}",'
             f'"vector":"{text}"}}\n')
     return "".join(f'{{"at":"{place}",{told}' for place in places(json.loads(data), "")).encode()
 
