@@ -14,7 +14,7 @@ from pathlib import Path
 KEPT = (".tar.xz", ".whl", ".tgz", ".html", ".wasm", "SHA256SUMS", "BUILT_WITH")
 LARGEST = 2 * 1024 * 1024
 # What the tools make, and the sums that depend on it.
-COMPILED = ("/bin/", ".so.1", ".so", ".a", ".wasm", ".html", "/RECORD", "SHA256SUMS", "BUILT_WITH")
+COMPILED = ("/bin/", ".so.2", ".so", ".a", ".wasm", ".html", "/RECORD", "SHA256SUMS", "BUILT_WITH")
 
 
 def kept(folder):
