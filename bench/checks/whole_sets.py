@@ -69,10 +69,10 @@ def answers(program, lines):
     path = ROOT / f"crates/{program}/out/{program}"
     given = "".join(f"{line}\n" for line in lines)
     done = subprocess.run([path], input=given, capture_output=True, text=True, check=True)
-    told = done.stdout.splitlines()
-    if len(told) != len(lines):
-        sys.exit(f"{program} answers {len(told)} of {len(lines)} lines")
-    return told
+    printed = done.stdout.splitlines()
+    if len(printed) != len(lines):
+        sys.exit(f"{program} answers {len(printed)} of {len(lines)} lines")
+    return printed
 
 
 def checksum(tenths):
@@ -84,10 +84,10 @@ def checksum(tenths):
     return len(tenths), sum(tenths), seen, [total[place] for place in range(5)]
 
 
-def compare(name, told, expected):
-    if told != expected:
-        sys.exit(f"{name}: {told}, and not {expected}")
-    print(f"{name}: {told[0]} vectors, the sum of the scores is that from outside")
+def compare(name, sums, expected):
+    if sums != expected:
+        sys.exit(f"{name}: {sums}, and not {expected}")
+    print(f"{name}: {sums[0]} vectors, the sum of the scores is that from outside")
 
 
 def compare_base(version, texts, expected):
@@ -153,11 +153,11 @@ def compare_effective():
         whole, end, behind_it = (cut + chunk).rpartition(b"\n")
         scores.update(re.findall(rb" (\d+\.\d) ", whole + end))
         cut = behind_it
-    told = (sum(scores.values()),
+    sums = (sum(scores.values()),
             sum(int(score.replace(b".", b"")) * count for score, count in scores.items()))
     if tool.wait() != 0:
         sys.exit(f"status {tool.returncode} over all effective values")
-    compare("v4.0, all effective values", told, EFFECTIVE)
+    compare("v4.0, all effective values", sums, EFFECTIVE)
 
 
 def compare_records(name, texts):

@@ -76,9 +76,9 @@ def audited(data):
     metric of a group is given, its score is the base score."""
     text, score, severity = answer(VECTOR.encode()).split()
     scores = ",".join(f'"{group}":{score}' for group in ("base", "environmental", "score", "temporal"))
-    told = (f'"given":"{VECTOR}","line":1,"scores":{{{scores}}},"severity":"{severity}",'
-            f'"vector":"{text}"}}\n')
-    return "".join(f'{{"at":"{place}",{told}' for place in places(json.loads(data), "")).encode()
+    members = (f'"given":"{VECTOR}","line":1,"scores":{{{scores}}},"severity":"{severity}",'
+               f'"vector":"{text}"}}\n')
+    return "".join(f'{{"at":"{place}",{members}' for place in places(json.loads(data), "")).encode()
 
 
 def places(value, at):

@@ -57,14 +57,15 @@ static bool is_cut(char *line, Column columns[COLUMNS])
 /* What a call returns and writes. */
 typedef struct Result {
     char *buffer;
-    size_t size, told;
+    size_t size, returned;
     CvssError error;
 } Result;
 
 /* Whether the buffer has the column. */
 static bool is_column(const Column *column, const Result *own)
 {
-    return own->told == column->length && own->told <= own->size && memcmp(own->buffer, column->bytes, own->told) == 0;
+    return own->returned == column->length && own->returned <= own->size
+        && memcmp(own->buffer, column->bytes, own->returned) == 0;
 }
 
 /* Whether an error is that of a column: its kind, the metric and what is quoted, which a column of an unknown version has too. */
@@ -73,7 +74,7 @@ static bool is_error(const Column *column, const Result *own, bool quotes)
     const CvssError *error = &own->error;
     char head[24];
     size_t begun = (size_t)snprintf(head, sizeof head, "%d %s ", (int)error->kind, error->metric[0] == '\0' ? "-" : error->metric);
-    if (!column->is_there || own->told > own->size || column->length < begun || memcmp(column->bytes, head, begun) != 0)
+    if (!column->is_there || own->returned > own->size || column->length < begun || memcmp(column->bytes, head, begun) != 0)
         return false;
     return !quotes ? error->quoted_length == 0 : column->length - begun == error->quoted_length
         && memcmp(column->bytes + begun, own->buffer + error->quoted_start, error->quoted_length) == 0;
@@ -102,10 +103,10 @@ static bool are_scored(const Column columns[COLUMNS], const CvssVector *vector)
 {
     bool is_right = (vector->version == 40) == columns[B].is_there;
     for (size_t i = 0; i < 4 && is_right && columns[B].is_there; i++) {
-        char told[8];
+        char score_text[8];
         int32_t tenths = vector->by_nomenclature[i];
-        size_t length = (size_t)snprintf(told, sizeof told, "%d.%d", (int)(tenths / 10), (int)(tenths % 10));
-        is_right = columns[B + i].length == length && memcmp(columns[B + i].bytes, told, length) == 0;
+        size_t length = (size_t)snprintf(score_text, sizeof score_text, "%d.%d", (int)(tenths / 10), (int)(tenths % 10));
+        is_right = columns[B + i].length == length && memcmp(columns[B + i].bytes, score_text, length) == 0;
     }
     return is_right;
 }
@@ -115,10 +116,10 @@ static bool is_parsed(const Column columns[COLUMNS], Result *own)
 {
     const Column *text = &columns[TEXT];
     CvssVector vector = CVSS_VECTOR_INIT;
-    own->told = cvss_parse(text->bytes, text->length, 0, &vector, &own->error, own->buffer, own->size);
+    own->returned = cvss_parse(text->bytes, text->length, 0, &vector, &own->error, own->buffer, own->size);
     bool is_right = (own->error.kind == CVSS_ACCEPTED) == !columns[STRICT_MESSAGE].is_there;
     is_right = is_right && (own->error.kind == CVSS_ACCEPTED || is_column(&columns[STRICT_MESSAGE], own));
-    own->told = cvss_parse(text->bytes, text->length, CVSS_ALLOW_INCOMPLETE, &vector, &own->error, own->buffer, own->size);
+    own->returned = cvss_parse(text->bytes, text->length, CVSS_ALLOW_INCOMPLETE, &vector, &own->error, own->buffer, own->size);
     is_right = is_right && (own->error.kind == CVSS_ACCEPTED) == !columns[ERROR].is_there;
     is_right = is_right && (own->error.kind == CVSS_ACCEPTED || is_error(&columns[ERROR], own, true));
     return is_right && are_scored(columns, &vector);
@@ -140,17 +141,18 @@ static bool is_right(const Column columns[COLUMNS], Result *own)
     const Column *text = &columns[TEXT], *metrics = &columns[METRICS], *components = &columns[COMPONENTS];
     int32_t version = version_of(&columns[ASKED]);
     bool right = is_parsed(columns, own);
-    own->told = cvss_with_metrics(text->bytes, text->length, metrics->bytes, metrics->length, CVSS_ALLOW_INCOMPLETE, &own->error,
-                                  own->buffer, own->size);
+    own->returned = cvss_with_metrics(text->bytes, text->length, metrics->bytes, metrics->length, CVSS_ALLOW_INCOMPLETE,
+                                      &own->error, own->buffer, own->size);
     /* a text that is rejected has its own error */
     const Column *error = &columns[columns[ERROR].is_there ? ERROR : METRICS_ERROR];
     right = right && is_either(&columns[CHANGED], error, own, true) && (own->error.index < 0 || !columns[ERROR].is_there);
-    own->told = cvss_with_metrics(text->bytes, text->length, metrics->bytes, metrics->length, 0, &own->error, own->buffer, own->size);
+    own->returned = cvss_with_metrics(text->bytes, text->length, metrics->bytes, metrics->length, 0, &own->error, own->buffer,
+                                      own->size);
     right = right && is_as_complete(&columns[CHANGED], own);
-    own->told = cvss_from_metrics(version, components->bytes, components->length, CVSS_ALLOW_INCOMPLETE, &own->error, own->buffer,
-                                  own->size);
+    own->returned = cvss_from_metrics(version, components->bytes, components->length, CVSS_ALLOW_INCOMPLETE, &own->error,
+                                      own->buffer, own->size);
     right = right && is_either(&columns[MADE], &columns[MADE_ERROR], own, version != CVSS_NOTHING);
-    own->told = cvss_from_metrics(version, components->bytes, components->length, 0, &own->error, own->buffer, own->size);
+    own->returned = cvss_from_metrics(version, components->bytes, components->length, 0, &own->error, own->buffer, own->size);
     return right && is_as_complete(&columns[MADE], own);
 }
 

@@ -129,8 +129,8 @@ static bool fails(Call call, const Row *row)
     error.size = sizeof error;
     again = error;
     sprintf(message, "%s%s%s", row->before, row->quoted == NULL ? "" : row->quoted, row->after);
-    size_t length = strlen(message), told = call(row->given, strlen(row->given), &error, buffer, sizeof buffer);
-    bool is_right = told == length && strcmp(buffer, message) == 0 && is_error(&error, row)
+    size_t length = strlen(message), returned = call(row->given, strlen(row->given), &error, buffer, sizeof buffer);
+    bool is_right = returned == length && strcmp(buffer, message) == 0 && is_error(&error, row)
         && call(row->given, strlen(row->given), &again, small, length - 1) == length && small[0] == '#' && is_error(&again, row);
     if (!is_right)
         printf("%s: %s\n", row->given, buffer);

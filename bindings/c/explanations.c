@@ -20,17 +20,17 @@ static size_t count_of(char byte, const char *bytes, size_t length)
 }
 
 /* Prints an explanation of so many bytes. Returns whether it is written only where it fits. */
-static bool print_explanation(const char *text, size_t length, size_t told)
+static bool print_explanation(const char *text, size_t length, size_t needed)
 {
     CvssError error = CVSS_ERROR_INIT;
-    char *explanation = malloc(told);
+    char *explanation = malloc(needed);
     if (explanation == NULL)
         return false;
-    memset(explanation, '#', told);
-    bool is_right = cvss_explain(text, length, CVSS_ALLOW_INCOMPLETE, &error, explanation, told - 1) == told
-        && count_of('#', explanation, told) == told;
-    is_right = cvss_explain(text, length, CVSS_ALLOW_INCOMPLETE, &error, explanation, told) == told && is_right;
-    fwrite(explanation, 1, told, stdout);
+    memset(explanation, '#', needed);
+    bool is_right = cvss_explain(text, length, CVSS_ALLOW_INCOMPLETE, &error, explanation, needed - 1) == needed
+        && count_of('#', explanation, needed) == needed;
+    is_right = cvss_explain(text, length, CVSS_ALLOW_INCOMPLETE, &error, explanation, needed) == needed && is_right;
+    fwrite(explanation, 1, needed, stdout);
     putchar('\n');
     free(explanation);
     return is_right && error.kind == CVSS_ACCEPTED;
@@ -48,10 +48,10 @@ int main(void)
             length--;
         char small[1] = {'#'};
         CvssError error = CVSS_ERROR_INIT;
-        size_t told = cvss_explain(line, length, CVSS_ALLOW_INCOMPLETE, &error, small, 1);
+        size_t needed = cvss_explain(line, length, CVSS_ALLOW_INCOMPLETE, &error, small, 1);
         is_right = small[0] == '#';
         if (error.kind == CVSS_ACCEPTED)
-            is_right = print_explanation(line, length, told) && is_right;
+            is_right = print_explanation(line, length, needed) && is_right;
     }
     free(line);
     return !is_right ? 3 : ferror(stdin) || fflush(stdout) != 0 ? 2 : 0;

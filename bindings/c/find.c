@@ -12,11 +12,11 @@
 
 static void print_line(const char *text, size_t length)
 {
-    size_t told = cvss_score_line(text, length, 0, NULL, 0);
-    char *line = malloc(told);
-    if (line == NULL || cvss_score_line(text, length, 0, line, told) != told)
+    size_t needed = cvss_score_line(text, length, 0, NULL, 0);
+    char *line = malloc(needed);
+    if (line == NULL || cvss_score_line(text, length, 0, line, needed) != needed)
         exit(3);
-    fwrite(line, 1, told, stdout);
+    fwrite(line, 1, needed, stdout);
     putchar('\n');
     free(line);
 }

@@ -103,13 +103,13 @@ static uint64_t called(Call call, const char *text, size_t length, uint64_t sum)
 {
     CvssError *error = last(&error_room, sizeof *error);
     error->size = sizeof *error;
-    size_t told = call(text, length, error, NULL, 0);
-    char *buffer = last(&buffer_room, told);
-    call(text, length, error, buffer, told);
-    sum = added(sum, buffer, told);
-    if (told > 0) {
-        buffer = last(&buffer_room, told - 1);
-        call(text, length, error, buffer, told - 1);
+    size_t needed = call(text, length, error, NULL, 0);
+    char *buffer = last(&buffer_room, needed);
+    call(text, length, error, buffer, needed);
+    sum = added(sum, buffer, needed);
+    if (needed > 0) {
+        buffer = last(&buffer_room, needed - 1);
+        call(text, length, error, buffer, needed - 1);
     }
     return added(sum, error, sizeof *error);
 }
@@ -139,8 +139,8 @@ static uint64_t structs_filled(const char *text, size_t length, uint64_t sum)
 static uint64_t lines_written(const char *text, size_t length, uint64_t sum)
 {
     size_t *read = last(&tenths_room, sizeof *read);
-    size_t told = cvss_score_lines(text, length, 0, last(&buffer_room, 1000), 1000, read);
-    return added(added(sum, last(&buffer_room, 1000), told), read, sizeof *read);
+    size_t returned = cvss_score_lines(text, length, 0, last(&buffer_room, 1000), 1000, read);
+    return added(added(sum, last(&buffer_room, 1000), returned), read, sizeof *read);
 }
 
 /* All that is written for a text at this place. */

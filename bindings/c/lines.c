@@ -13,15 +13,15 @@
 /* Prints the line of a text. Returns the status of the program if it cannot go on, and otherwise 0. */
 static int print_line(const char *text, size_t length, uint32_t flags)
 {
-    size_t told = cvss_score_line(text, length, flags, NULL, 0);
-    char *line = malloc(told), *untouched = malloc(told);
+    size_t needed = cvss_score_line(text, length, flags, NULL, 0);
+    char *line = malloc(needed), *untouched = malloc(needed);
     if (line == NULL || untouched == NULL)
         return 2;
-    memset(line, '#', told);
-    memset(untouched, '#', told);
-    int status = cvss_score_line(text, length, flags, line, told - 1) == told && memcmp(line, untouched, told) == 0 ? 0 : 3;
-    status = cvss_score_line(text, length, flags, line, told) == told ? status : 3;
-    fwrite(line, 1, told, stdout);
+    memset(line, '#', needed);
+    memset(untouched, '#', needed);
+    int status = cvss_score_line(text, length, flags, line, needed - 1) == needed && memcmp(line, untouched, needed) == 0 ? 0 : 3;
+    status = cvss_score_line(text, length, flags, line, needed) == needed ? status : 3;
+    fwrite(line, 1, needed, stdout);
     putchar('\n');
     free(untouched);
     free(line);

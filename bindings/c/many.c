@@ -34,11 +34,11 @@ static char *input(size_t *length)
 static int print_lines(const char *texts, size_t length, uint32_t flags, char *buffer, size_t size, size_t *read)
 {
     memset(buffer, '#', size);
-    size_t told = cvss_score_lines(texts, length, flags, buffer, size, read);
-    for (size_t i = told; i < size; i++)
+    size_t returned = cvss_score_lines(texts, length, flags, buffer, size, read);
+    for (size_t i = returned; i < size; i++)
         if (buffer[i] != '#')
             return 3;
-    return fwrite(buffer, 1, told, stdout) == told ? 0 : 2;
+    return fwrite(buffer, 1, returned, stdout) == returned ? 0 : 2;
 }
 
 int main(int count, char **words)

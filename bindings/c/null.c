@@ -14,11 +14,11 @@ static bool is_right(Call call, size_t least, size_t most)
 {
     char buffer[80];
     CvssError error = CVSS_ERROR_INIT;
-    size_t told = call(NULL, 0, 0, &error, buffer, sizeof buffer);
-    bool right = told == strlen(empty) && memcmp(buffer, empty, told) == 0 && error.kind == CVSS_INVALID_COMPONENT;
-    right &= call(NULL, 0, 0, &error, NULL, 0) == told && error.quoted_start == told - 1 && error.quoted_length == 0;
-    told = call(text, length, 0, &error, NULL, 0);
-    return right && least <= told && told <= most && error.kind == CVSS_ACCEPTED && error.quoted_start == 0;
+    size_t returned = call(NULL, 0, 0, &error, buffer, sizeof buffer);
+    bool right = returned == strlen(empty) && memcmp(buffer, empty, returned) == 0 && error.kind == CVSS_INVALID_COMPONENT;
+    right &= call(NULL, 0, 0, &error, NULL, 0) == returned && error.quoted_start == returned - 1 && error.quoted_length == 0;
+    returned = call(text, length, 0, &error, NULL, 0);
+    return right && least <= returned && returned <= most && error.kind == CVSS_ACCEPTED && error.quoted_start == 0;
 }
 
 static size_t parse(const void *given, size_t size, uint32_t flags, CvssError *error, void *buffer, size_t room)

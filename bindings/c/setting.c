@@ -69,14 +69,14 @@ static const Made made[] = {
 /* What a call has written, and what it has left in a buffer that is too small by a byte. */
 typedef struct Written {
     char buffer[400], small[400];
-    size_t told, again;
+    size_t returned, again;
     CvssError error;
 } Written;
 
 static bool is_written(const Written *own, const char *expected, int32_t kind)
 {
     size_t length = strlen(expected);
-    bool right = own->told == length && strcmp(own->buffer, expected) == 0 && own->again == length && own->small[0] == '#'
+    bool right = own->returned == length && strcmp(own->buffer, expected) == 0 && own->again == length && own->small[0] == '#'
         && own->error.kind == kind;
     if (!right)
         printf("%s, and not %s\n", own->buffer, expected);
@@ -88,7 +88,7 @@ static bool is_set(const Set *row, uint32_t flags)
     Written own = {"", "#", 0, 0, CVSS_ERROR_INIT};
     size_t length = strlen(row->text), count = strlen(row->metrics), least = strlen(row->expected) - 1;
     own.again = cvss_with_metrics(row->text, length, row->metrics, count, flags, &own.error, own.small, least);
-    own.told = cvss_with_metrics(row->text, length, row->metrics, count, flags, &own.error, own.buffer, sizeof own.buffer);
+    own.returned = cvss_with_metrics(row->text, length, row->metrics, count, flags, &own.error, own.buffer, sizeof own.buffer);
     return is_written(&own, row->expected, row->kind);
 }
 
@@ -97,7 +97,7 @@ static bool is_made(const Made *row, uint32_t flags)
     Written own = {"", "#", 0, 0, CVSS_ERROR_INIT};
     size_t count = strlen(row->metrics), least = strlen(row->expected) - 1;
     own.again = cvss_from_metrics(row->version, row->metrics, count, flags, &own.error, own.small, least);
-    own.told = cvss_from_metrics(row->version, row->metrics, count, flags, &own.error, own.buffer, sizeof own.buffer);
+    own.returned = cvss_from_metrics(row->version, row->metrics, count, flags, &own.error, own.buffer, sizeof own.buffer);
     return is_written(&own, row->expected, row->kind);
 }
 

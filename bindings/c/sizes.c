@@ -38,10 +38,10 @@ static bool parse(Place *place)
 }
 
 /* The message is written without the struct, too. */
-static bool is_message(const char *buffer, size_t told)
+static bool is_message(const char *buffer, size_t returned)
 {
     static const char message[] = "invalid CVSS metric group component: `x`";
-    return told == strlen(message) && memcmp(buffer, message, told) == 0;
+    return returned == strlen(message) && memcmp(buffer, message, returned) == 0;
 }
 
 static bool parse_error(Place *place)

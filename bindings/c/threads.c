@@ -37,9 +37,9 @@ typedef size_t (*Put)(const void *, size_t, uint32_t, CvssError *, void *, size_
 static const Put puts_of_text[] = {cvss_without_not_defined, cvss_record, cvss_explain};
 
 /* Moves the end past what a function wrote there; to the end of the buffer if that did not fit. */
-static void advance(Own *own, size_t told)
+static void advance(Own *own, size_t returned)
 {
-    own->end = told <= WRITTEN - own->end ? own->end + told : WRITTEN;
+    own->end = returned <= WRITTEN - own->end ? own->end + returned : WRITTEN;
 }
 
 static void write_bytes(Own *own, const void *bytes, size_t size)

@@ -31,10 +31,10 @@ static void count_vector(Counted *counted, const char *text, size_t length)
         && vector.severity == vector.base_severity && cvss_severity(vector.version, vector.score) == vector.severity
         && cvss_score(text, length, 0) == vector.score && cvss_values(text, length, 0, &values) && values.score == vector.score;
     const char *severity = cvss_severity_name(vector.severity);
-    int told = sprintf(expected, "%.*s %d.%d %s", (int)length, text, (int)(vector.score / 10), (int)(vector.score % 10),
-                       severity == NULL ? "" : severity);
-    is_right = is_right && cvss_score_line(text, length, 0, line, sizeof line) == (size_t)told
-        && memcmp(line, expected, (size_t)told) == 0;
+    int expected_length = sprintf(expected, "%.*s %d.%d %s", (int)length, text, (int)(vector.score / 10),
+                                  (int)(vector.score % 10), severity == NULL ? "" : severity);
+    is_right = is_right && cvss_score_line(text, length, 0, line, sizeof line) == (size_t)expected_length
+        && memcmp(line, expected, (size_t)expected_length) == 0;
     if (!is_right) {
         printf("%.*s\n", (int)length, text);
         exit(3);

@@ -53,8 +53,8 @@ GIVEN = ("text", "metrics", "components")
 
 def explanation(canonical):
     """The explanation of a vector; none if a number has more than seven decimals, since its digits may differ."""
-    told = accounts.account(canonical)
-    return accounts.written(told) if accounts.is_exact(told) else None
+    explained = accounts.account(canonical)
+    return accounts.written(explained) if accounts.is_exact(explained) else None
 
 
 def defined(version, vector):
@@ -96,14 +96,14 @@ def accepted(text):
     """The results for a text that is a vector, which may be incomplete."""
     version, vector = setting.read(text)
     canonical, own = setting.canonical_text(version, vector), rated(version, vector)
-    told = {"canonical": canonical, "version": tenths(version), "defined": defined(version, vector),
-            "record": records.record(version, canonical, vector, own), "explanation": explanation(canonical)}
+    values = {"canonical": canonical, "version": tenths(version), "defined": defined(version, vector),
+              "record": records.record(version, canonical, vector, own), "explanation": explanation(canonical)}
     for name, (score, severity) in own.items():
-        told |= {name: tenths(score), SEVERITIES[name]: severity}
+        values |= {name: tenths(score), SEVERITIES[name]: severity}
     if version == 40:
-        told["nomenclature"] = v4.nomenclature(vector)
-        told |= {name: tenths(v4.score_by(vector, of)) for name, of in NOMENCLATURES.items()}
-    return told
+        values["nomenclature"] = v4.nomenclature(vector)
+        values |= {name: tenths(v4.score_by(vector, of)) for name, of in NOMENCLATURES.items()}
+    return values
 
 
 def made(version, components):
@@ -134,37 +134,37 @@ def match_of(mention, allow_incomplete):
 
 def found(text):
     """The vectors in a text, with their offsets in characters and in bytes."""
-    told = {}
+    values = {}
     for name, allow_incomplete in (("found", False), ("incomplete_found", True)):
         matches = [(place, match_of(mention, allow_incomplete)) for place, mention, _ in finding.found(text)]
         by_characters = [f"{len(CHARACTER.findall(text[:place])) + 1} {match}" for place, match in matches]
-        told[name] = ";".join(by_characters) or None
-        told[f"{name}_bytes"] = ";".join(f"{place + 1} {match}" for place, match in matches) or None
-    return told
+        values[name] = ";".join(by_characters) or None
+        values[f"{name}_bytes"] = ";".join(f"{place + 1} {match}" for place, match in matches) or None
+    return values
 
 
 def called(draw, canonical, version, error):
     """The results for random metrics: set in a vector, unless its text is rejected; and made a vector of."""
     given, asked = some_metrics(draw, version), some_version(draw)
     components = some_components(draw, asked)
-    told = {"metrics": given, "asked": asked, "components": components}
+    values = {"metrics": given, "asked": asked, "components": components}
     changed = (None, *error) if error else outcome(setting.with_metrics, canonical.encode(), given)
-    told["changed"], told["incomplete_changed_error"], told["metrics_refusal"] = changed
-    told["changed_error"] = changed[1] or missing(changed[0])
-    told["built"], told["incomplete_made_error"], told["build_refusal"] = outcome(made, asked, components)
-    told["made_error"] = told["incomplete_made_error"] or missing(told["built"])
-    return told
+    values["changed"], values["incomplete_changed_error"], values["metrics_refusal"] = changed
+    values["changed_error"] = changed[1] or missing(changed[0])
+    values["built"], values["incomplete_made_error"], values["build_refusal"] = outcome(made, asked, components)
+    values["made_error"] = values["incomplete_made_error"] or missing(values["built"])
+    return values
 
 
 def results(draw, text):
     """The results for a text, and for metrics that are drawn, if any are."""
     own, error, refusal = outcome(lambda: accepted(reference.text_of(text)))
     own = own or {}
-    told = {"text": text, **own, "incomplete_error": error, "refusal": refusal, **found(text)}
-    told["error"] = told["strict_reason"] = error or missing(own["canonical"])
+    values = {"text": text, **own, "incomplete_error": error, "refusal": refusal, **found(text)}
+    values["error"] = values["strict_reason"] = error or missing(own["canonical"])
     if draw:
-        told.update(called(draw, own.get("canonical"), own.get("version"), error and (error, refusal)))
-    return [told.get(name) for name in COLUMNS]
+        values.update(called(draw, own.get("canonical"), own.get("version"), error and (error, refusal)))
+    return [values.get(name) for name in COLUMNS]
 
 
 def escaped(column):

@@ -82,14 +82,14 @@ def word(version, words, value):
     if value in ("X", "ND"):
         return "NOT_DEFINED"
     spelled = SPELLINGS[version if version in SPELLINGS else "3"].get(value)
-    return spelled or next(told for told in words.split() if told.startswith(value))
+    return spelled or next(title for title in words.split() if title.startswith(value))
 
 
 def is_environmental(version, name):
     return name in REQUIREMENTS or name in ("CDP", "TD") or (version != "2.0" and name.startswith("M"))
 
 
-def told_groups(version, names):
+def groups_with_scores(version, names):
     """The groups whose scores a record has."""
     yield "base"
     if version != "4.0":
@@ -106,13 +106,13 @@ def record(number, canonical, metrics, scores):
     publishers write it."""
     version = f"{number // 10}.{number % 10}"
     table = {"2.0": V2, "4.0": V4}.get(version, V3)
-    told = {"version": version, "vectorString": canonical}
+    members = {"version": version, "vectorString": canonical}
     for name, value in metrics.items():
         member, words = table[name]
-        told[member] = word(version, words, value)
-    for group in told_groups(version, metrics):
+        members[member] = word(version, words, value)
+    for group in groups_with_scores(version, metrics):
         tenths, severity = scores["score" if version == "4.0" else group]
-        told[f"{group}Score"] = tenths / 10
+        members[f"{group}Score"] = tenths / 10
         if version != "2.0":
-            told[f"{group}Severity"] = severity.upper()
-    return json.dumps(told, separators=(",", ":"), sort_keys=True)
+            members[f"{group}Severity"] = severity.upper()
+    return json.dumps(members, separators=(",", ":"), sort_keys=True)

@@ -22,7 +22,7 @@ return at("why").hidden ? null : {
   parts: [...at("why-numbers").tBodies].map((part) => [...part.rows].map(cells)),
   weights: [...at("why-metrics").children].map((pair) => [...pair.children].map(words)),
   drawn: [...at("why-drawing").querySelectorAll("g")].map((group) => [...boxes(group), group.className.baseVal]),
-  told: words(at("why-drawing").querySelector("title") ?? document.createElement("p")),
+  title: words(at("why-drawing").querySelector("title") ?? document.createElement("p")),
 };
 """
 _NAMES = {
@@ -53,8 +53,8 @@ _GROUPS = {
 def _explanations(root: Path, texts: List[str]) -> List[Dict[str, Any]]:
     command = [sys.executable, str(root / "reference" / "accounts.py")]
     given = "".join(f"{text}\n" for text in texts)
-    told = subprocess.run(command, input=given, stdout=subprocess.PIPE, text=True, check=True).stdout
-    return [json.loads(line) for line in told.splitlines()]
+    output = subprocess.run(command, input=given, stdout=subprocess.PIPE, text=True, check=True).stdout
+    return [json.loads(line) for line in output.splitlines()]
 
 
 def _is(shown: str, number: Optional[float]) -> bool:
@@ -88,15 +88,15 @@ def _check_groups(shown: Dict[str, Any], explanation: Dict[str, Any]) -> None:
         name = group["group"]
         assert title == [_GROUPS[name][0], f" {name} {_letters(name, explanation)}"], title
         steps = f"{group['distance']} of {group['depth']}"
-        assert numbers[:2] == [group["class"], steps] and f"{_GROUPS[name][0]} {steps}" in shown["told"], numbers
+        assert numbers[:2] == [group["class"], steps] and f"{_GROUPS[name][0]} {steps}" in shown["title"], numbers
         assert all(map(_is, numbers[2:], [group[member] for member in ("nextValue", "gap", "share")])), numbers
-    told = [(row[0], row[-1]) for row in shown["parts"][-1]]
+    rows = [(row[0], row[-1]) for row in shown["parts"][-1]]
     members = ("value", "mean", "number", "score")
-    assert all(_is(number, explanation[member]) for (_, number), member in zip(told, members)), told
-    assert told[0][0].endswith(explanation["macroVector"]) and told[3] == ("Score", f"{explanation['score']:.1f}"), told
+    assert all(_is(number, explanation[member]) for (_, number), member in zip(rows, members)), rows
+    assert rows[0][0].endswith(explanation["macroVector"]) and rows[3] == ("Score", f"{explanation['score']:.1f}"), rows
     shares = [group["share"] for group in groups if group["share"] is not None]
-    numbers = told[1][0].replace(" and ", ", ").rpartition("mean of ")[2].split(", ") if shares else []
-    assert len(numbers) == len(shares) and all(map(_is, numbers, shares)), told
+    numbers = rows[1][0].replace(" and ", ", ").rpartition("mean of ")[2].split(", ") if shares else []
+    assert len(numbers) == len(shares) and all(map(_is, numbers, shares)), rows
     assert ("* Not defined" in shown["foot"]) == any("*" in _letters(group["group"], explanation) for group in groups)
     assert ("no lower level" in shown["foot"]) == any(group["next"] is None for group in groups)
 
@@ -106,11 +106,11 @@ def _check_weights(shown: Dict[str, Any], explanation: Dict[str, Any]) -> None:
     assert shown["drawn"] == [] and len(shown["parts"]) == 3
     for part, (title, *rows) in zip(("base", "temporal", "environmental"), shown["parts"]):
         assert title[0] == part
-        told = {row[0]: row[-1] for row in rows}
+        by_name = {row[0]: row[-1] for row in rows}
         members = {_NAMES[name]: number for name, number in explanation[part].items() if name != "severity"}
-        assert told.keys() == members.keys() and len(rows) == len(told), (told, members)
-        assert all(_is(told[name], number) for name, number in members.items()), (told, members)
-        assert told["Score"] == f"{explanation[part]['score']:.1f}", told
+        assert by_name.keys() == members.keys() and len(rows) == len(by_name), (by_name, members)
+        assert all(_is(by_name[name], number) for name, number in members.items()), (by_name, members)
+        assert by_name["Score"] == f"{explanation[part]['score']:.1f}", by_name
     pairs = dict(shown["weights"])
     scopes = {"U": "unchanged", "C": "changed"}
     metrics = _metrics(explanation)
@@ -138,8 +138,8 @@ def check_explanations(page: Page, root: Path, texts: List[str]) -> None:
         try:
             (_check_groups if "groups" in explanation else _check_weights)(shown, explanation)
             words = shown["sum"].partition("Before rounding ")[2]
-            told = re.findall(r"-?\d+(?:\.\d+)?", words)
-            assert len(told) >= len(_numbers(explanation)) and all(map(_is, told, _numbers(explanation))), words
+            numbers = re.findall(r"-?\d+(?:\.\d+)?", words)
+            assert len(numbers) >= len(_numbers(explanation)) and all(map(_is, numbers, _numbers(explanation))), words
         except AssertionError as error:
             raise AssertionError((text, shown, explanation)) from error
 
