@@ -20,14 +20,14 @@ StandsFor Denotes value x = IsStringOf (λ text. Denotes text x) value
 abbrev pub IsNoString : Data → Type 0
 IsNoString value = (text : List ℕ) → value ≢ string text
 
--- what the error says is so: the value is no string, or its text is refused for this reason, or
+-- what the error says is so: the value is no string, or its text is rejected for this reason, or
 -- the text is refused and there was no memory to say the reason
 abbrev pub ReportsWhy : (List ℕ → Error → Type 0) → Data → JsonError → Type 0
-ReportsWhy Refuses value NotAString = IsNoString value
-ReportsWhy Refuses value (Invalid error) = IsStringOf (λ text. Refuses text error) value
-ReportsWhy Refuses value OutOfMemory = IsStringOf (λ text. Refuses text Error.OutOfMemory) value
+ReportsWhy Rejects value NotAString = IsNoString value
+ReportsWhy Rejects value (Invalid error) = IsStringOf (λ text. Rejects text error) value
+ReportsWhy Rejects value OutOfMemory = IsStringOf (λ text. Rejects text Error.OutOfMemory) value
 
--- the error by which a reason that a text is refused for is reported
+-- the error by which a reason that a text is rejected for is reported
 abbrev pub reported_as : Error → JsonError
 reported_as Error.OutOfMemory = OutOfMemory
 reported_as error = Invalid error

@@ -28,8 +28,8 @@ pub use Rattle.cvss_base.specs.ErrorText
 pub use Rattle.cvss_base.specs.Exact
 pub use Rattle.cvss_base.specs.Groups
 pub use Rattle.cvss_text.specs.Listing
-pub use Rattle.cvss_base.specs.Rating
-pub use Rattle.cvss_base.specs.Refusal
+pub use Rattle.cvss_base.specs.SeverityScale
+pub use Rattle.cvss_base.specs.Rejection
 pub use Rattle.cvss_base.specs.Rounding
 pub use Rattle.cvss_base.specs.SeverityText
 pub use Rattle.cvss_base.specs.Tenths
@@ -47,7 +47,7 @@ pub use Rattle.cvss_base.specs.declared.v3.MetricType as MetricTypeV3
 pub use Rattle.cvss_base.specs.declared.v4.MetricType as MetricTypeV4
 pub use Rattle.cvss_score.specs.AtMost
 pub use Rattle.cvss_score.specs.v2.Bounds as BoundsV2
-pub use Rattle.cvss_score.specs.v2.Rating as RatingV2
+pub use Rattle.cvss_score.specs.v2.SeverityScale as RatingV2
 pub use Rattle.cvss_score.specs.v2.Scores as ScoresV2
 pub use Rattle.cvss_metric.specs.v2.Table as TableV2
 pub use Rattle.cvss_vector.specs.v2.Vector as VectorV2

@@ -14,6 +14,6 @@ pub record IsMetric {A : Type 0} (kind : MetricType) (value : A → Value kind) 
   pub ordered : (x y : A) → compared x y ≡ nat_cmp (rank_of kind (value x)) (rank_of kind (value y))
   -- two values are found equal where they are one value
   pub equal : EqualsByValue same
-  -- a clone is the value itself, and is never refused
+  -- a clone is the value itself, and is never rejected
   pub cloned : ClonesByValue is_clone
   pub clonable : ClonesAlways is_infallible

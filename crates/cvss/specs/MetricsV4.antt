@@ -14,6 +14,6 @@ pub record IsMetric {A : Type 0} (kind : MetricType) (rank : A → ℕ) (is_defa
   pub usual : (x : A) → is_default x → spelling_at kind (rank x) ≡ default_of kind
   -- two values are found equal where they are one value
   pub equal : EqualsByValue same
-  -- a clone is the value itself, and is never refused
+  -- a clone is the value itself, and is never rejected
   pub cloned : ClonesByValue is_clone
   pub clonable : (x : A) → is_infallible x

@@ -7,7 +7,7 @@ ghost use Rattle.cvss_score.specs.v4.Nomenclature.{ReportsNoNomenclature};
 ghost use Rattle.cvss_base.specs.V2Types.{v2_reason};
 ghost use Rattle.cvss_base.specs.V3Types.{v3_reason};
 ghost use Rattle.cvss_base.specs.V4Types.{v4_reason};
-ghost use Rattle.cvss_base.specs.Refusal.{IsFirstRefusal, IsFirstRefusalAfter};
+ghost use Rattle.cvss_base.specs.Rejection.{IsFirstRejection, IsFirstRejectionAfter};
 ghost use Rattle.cvss_base.specs.Version.{canonical_text, Denotes, IsComplete, IsWellFormed};
 ghost use Rattle.cvss_base.specs.declared.error.Error.{Error};
 ghost use Rattle.cvss_base.specs.declared.error.Error.TheVariants.{OutOfMemory as LacksMemory};
@@ -16,7 +16,7 @@ ghost use Rattle.cvss_vector.specs.v3.Vector.{v3};
 ghost use Rattle.cvss_score.specs.v4.Nomenclature as nomenclature;
 ghost use Rattle.cvss_vector.specs.v4.Vector.{v4};
 ghost use Rattle.cvss_vector.specs.Answers.{text_of};
-ghost use Rattle.cvss_vector.specs.Dispatch.{DenotesCvss, IsFirstRefusalCvss, cvss_reason};
+ghost use Rattle.cvss_vector.specs.Dispatch.{DenotesCvss, IsFirstRejectionCvss, cvss_reason};
 ghost use Rattle.cvss.specs.Json.{IsNoString, StandsFor, ReportsWhy, json_error_text, reported_as};
 ghost use Rattle.cvss.specs.declared.json.JsonError.TheVariants.{NotAString, Invalid, OutOfMemory};
 ghost use Rattle.serde_json.specs.Data.{string};
@@ -32,9 +32,9 @@ use std::fmt;
 pub enum JsonError {
     /// The value is no string.
     NotAString,
-    /// The text of the string is refused. This error is never `OutOfMemory`.
+    /// The text of the string is rejected. This error is never `OutOfMemory`.
     Invalid(Error),
-    /// There was no memory for the value, or for the text of a refusal.
+    /// There was no memory for the value, or for the text of a rejection.
     OutOfMemory,
 }
 
@@ -80,7 +80,7 @@ pub trait JsonText: fmt::Display + Sized {
     ghost denotes: { List ℕ → Self → Type 0 };
 
     // the error says why the text denotes no value
-    ghost refuses: { List ℕ → Error → Type 0 };
+    ghost rejects: { List ℕ → Error → Type 0 };
 
     /// The JSON string of the text that is printed.
     ///
@@ -98,15 +98,15 @@ pub trait JsonText: fmt::Display + Sized {
     ///
     /// # Errors
     ///
-    /// `NotAString` for any other value; `Invalid` with the reason why the text is refused, and
+    /// `NotAString` for any other value; `Invalid` with the reason why the text is rejected, and
     /// `OutOfMemory` in place of one that carries text.
     fn from_value(alloc: Global, value: &Value) -> Result<Self, JsonError>
         // Accepted: what is given is what the value stands for, and each such is given.
         ensures stands { IfOk result (StandsFor denotes (view value.now)) }
         ensures accepts { (x : Self) → StandsFor denotes (view value.now) x → result ≡ Ok x }
-        // Refused: as no string, or for the reason that the text is refused for.
+        // Rejected: as no string, or for the reason that the text is rejected for.
         ensures not_a_string { IsNoString (view value.now) → result ≡ Err NotAString }
-        ensures refused { IfErr result (ReportsWhy refuses (view value.now)) }
+        ensures rejected { IfErr result (ReportsWhy rejects (view value.now)) }
         ensures reported { IfErr result (λ error. error ≢ Invalid LacksMemory) };
 
     ghost printed: { (x : Self) → Self.output x ≡ Some (text x) };
@@ -129,7 +129,7 @@ impl JsonText for Severity {
 
     ghost denotes = { λ text x. severity.text_of x ≡ severity.lowered text };
 
-    ghost refuses = { ReportsNoSeverity };
+    ghost rejects = { ReportsNoSeverity };
 
     ghost printed = { λ x. refl };
 
@@ -143,7 +143,7 @@ impl JsonText for v4::Nomenclature {
 
     ghost denotes = { λ text x. nomenclature.text_of x ≡ text };
 
-    ghost refuses = { ReportsNoNomenclature };
+    ghost rejects = { ReportsNoNomenclature };
 
     ghost printed = { λ x. refl };
 
@@ -157,7 +157,7 @@ impl JsonText for v2::Vector {
 
     ghost denotes = { λ text x. Denotes v2 text x × IsComplete v2 x };
 
-    ghost refuses = { λ text. ReportsFirst v2_reason (IsFirstRefusal v2 text) };
+    ghost rejects = { λ text. ReportsFirst v2_reason (IsFirstRejection v2 text) };
 
     ghost printed = { λ x. refl };
 
@@ -171,7 +171,7 @@ impl JsonText for v3::Vector {
 
     ghost denotes = { λ text x. Denotes v3 text x × IsWellFormed v3 x };
 
-    ghost refuses = { λ text. ReportsFirst v3_reason (IsFirstRefusalAfter v3 text) };
+    ghost rejects = { λ text. ReportsFirst v3_reason (IsFirstRejectionAfter v3 text) };
 
     ghost printed = { λ x. refl };
 
@@ -185,7 +185,7 @@ impl JsonText for v4::Vector {
 
     ghost denotes = { λ text x. Denotes v4 text x × IsWellFormed v4 x };
 
-    ghost refuses = { λ text. ReportsFirst v4_reason (IsFirstRefusalAfter v4 text) };
+    ghost rejects = { λ text. ReportsFirst v4_reason (IsFirstRejectionAfter v4 text) };
 
     ghost printed = { λ x. refl };
 
@@ -199,7 +199,7 @@ impl JsonText for Cvss {
 
     ghost denotes = { DenotesCvss };
 
-    ghost refuses = { λ text. ReportsFirst cvss_reason (IsFirstRefusalCvss text) };
+    ghost rejects = { λ text. ReportsFirst cvss_reason (IsFirstRejectionCvss text) };
 
     ghost printed = { λ x. refl };
 

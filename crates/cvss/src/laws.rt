@@ -10,11 +10,11 @@ ghost use Rattle.cvss.specs.laws.JsonErrors.{ReportTheSame};
 use crate::json::JsonError;
 use crate::{
     Bounds, BytesError, Cvss, Error, Evaluation, Group, Message, MetricType, OneDecimal, Published,
-    Rated, ReadError, Refusal, Scoring, Segment, SetError, Version, v2, v3, v4,
+    Rated, ReadError, Rejection, Scoring, Segment, SetError, Version, v2, v3, v4,
 };
 pub use cvss_laws::any::{
     errors_print_their_reasons, scores_are_unique, texts_denote_one_vector,
-    texts_have_one_first_refusal,
+    texts_have_one_first_rejection,
 };
 
 /// Two vectors of any version, two metrics, what is published of two vectors, two choices of a score, or
@@ -39,7 +39,7 @@ pub fn equality_is_that_of_values()
     v4::laws::equality_is_that_of_values();
 }
 
-/// A clone of a vector, a metric, what is told of its scores or a count is that value, and a clone of an
+/// A clone of a vector, a metric, what is reported of its scores or a count is that value, and a clone of an
 /// error says the same.
 pub fn clones_are_equal()
     ensures vector { ClonesByValue ⟦<Cvss as Clone>⟧.is_clone }
@@ -53,7 +53,7 @@ pub fn clones_are_equal()
     ensures decimal { ClonesByValue ⟦<OneDecimal as Clone>⟧.is_clone }
     ensures segment { ClonesByValue ⟦<Segment<'static> as Clone>⟧.is_clone }
     ensures message { ClonesByValue ⟦<Message<'static> as Clone>⟧.is_clone }
-    ensures refusal { ClonesByValue ⟦<Refusal<'static> as Clone>⟧.is_clone }
+    ensures rejection { ClonesByValue ⟦<Rejection<'static> as Clone>⟧.is_clone }
     ensures read_error { ClonesByValue ⟦<ReadError<'static> as Clone>⟧.is_clone }
     ensures set_error { ClonesByValue ⟦<SetError<'static> as Clone>⟧.is_clone }
     ensures version { ClonesByValue ⟦<Version as Clone>⟧.is_clone }
@@ -67,8 +67,8 @@ pub fn clones_are_equal()
     cvss_laws::base::clones_are_equal();
 }
 
-/// To clone a vector, a metric, what is told of its scores or a count takes no memory, so it is never
-/// refused.
+/// To clone a vector, a metric, what is reported of its scores or a count takes no memory, so it is never
+/// rejected.
 pub fn values_are_cloned_without_memory()
     ensures vector { ClonesAlways ⟦<Cvss as Clone>⟧.is_infallible }
     ensures metric { ClonesAlways ⟦<MetricType as Clone>⟧.is_infallible }
@@ -81,7 +81,7 @@ pub fn values_are_cloned_without_memory()
     ensures decimal { ClonesAlways ⟦<OneDecimal as Clone>⟧.is_infallible }
     ensures segment { ClonesAlways ⟦<Segment<'static> as Clone>⟧.is_infallible }
     ensures message { ClonesAlways ⟦<Message<'static> as Clone>⟧.is_infallible }
-    ensures refusal { ClonesAlways ⟦<Refusal<'static> as Clone>⟧.is_infallible }
+    ensures rejection { ClonesAlways ⟦<Rejection<'static> as Clone>⟧.is_infallible }
     ensures read_error { ClonesAlways ⟦<ReadError<'static> as Clone>⟧.is_infallible }
     ensures set_error { ClonesAlways ⟦<SetError<'static> as Clone>⟧.is_infallible }
     ensures version { ClonesAlways ⟦<Version as Clone>⟧.is_infallible }

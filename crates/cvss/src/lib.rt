@@ -14,5 +14,5 @@ pub mod v4;
 pub use cvss_base::{Error, LIMIT, MetricGroup, ONE, OneDecimal, PREFIX, Severity, tenths};
 pub use cvss_vector::{
     Bounds, BytesError, Cvss, Evaluation, Group, Message, MetricType, Metrics, Published, Rated,
-    ReadError, Refusal, Scoring, Segment, SetError, Version,
+    ReadError, Rejection, Scoring, Segment, SetError, Version,
 };

@@ -7,7 +7,7 @@ use Rattle.std.proofs.lemmas.List.{flat_map_more, map-append}
 use Rattle.std.proofs.lemmas.List.Folds.{list_all-append}
 use Rattle.std.specs.Io.KnownBytes.{Appends}
 use Rattle.std.specs.Str.{IsUtf8}
-use Rattle.cvss_lines.specs.Answers.{Answer, Accepted, Refused, is_accepted, written_answer, written_text}
+use Rattle.cvss_lines.specs.Answers.{Answer, Accepted, Rejected, is_accepted, written_answer, written_text}
 use Rattle.cvss_lines.specs.Streaming.{IsPassed, WritesWaiting}
 use Rattle.cvss_lines.specs.declared.fault.RunFault.{RunFault}
 use Rattle.cvss_lines.specs.declared.fault.RunFault.TheVariants.{Memory, Write}
@@ -131,7 +131,7 @@ reported_answer : (found : List Found)
     → (all_agree found ≡ is_accepted (answer_of found)) × (flat_map written_text (texts_of found) ≡ written_answer (answer_of found))
 reported_answer found = reported (all_agree found) where
   answer : Bool → Answer
-  answer b = if b then Accepted (texts_of found) else Refused (texts_of found)
+  answer b = if b then Accepted (texts_of found) else Rejected (texts_of found)
 
   reported : (b : Bool) → (b ≡ is_accepted (answer b)) × (flat_map written_text (texts_of found) ≡ written_answer (answer b))
   reported true = (refl, refl)

@@ -3,7 +3,7 @@ use Rattle.std.specs.Prelude.{◌≡◌, ◌≢◌, ℕ, ◌==◌, ◌||◌, ◌
 use Rattle.std.specs.List.{list_all}
 use Rattle.std.specs.Str.{IsUtf8}
 use Rattle.cvss_vector.specs.Complete.{first_missing}
-use Rattle.cvss_vector.specs.Dispatch.{DenotesCvss, IsFirstRefusalCvss, cvss_reason}
+use Rattle.cvss_vector.specs.Dispatch.{DenotesCvss, IsFirstRejectionCvss, cvss_reason}
 use Rattle.cvss_base.specs.ErrorText.{error_text}
 use Rattle.cvss_base.specs.declared.error.Error.{Error}
 use Rattle.cvss_base.specs.declared.error.Error.TheVariants.{OutOfMemory}
@@ -11,7 +11,7 @@ use Rattle.cvss_base.specs.Reported.{ReportsFirst}
 use Rattle.cvss_vector.specs.Evaluation.{IsEvaluation}
 use Rattle.cvss_vector.specs.declared.evaluation.Evaluation.{Evaluation}
 use Rattle.cvss_vector.specs.declared.vector.Cvss.{Cvss}
-use Rattle.cvss_lines.specs.Answers.{Answer, Accepted, Refused, Rule, written_text}
+use Rattle.cvss_lines.specs.Answers.{Answer, Accepted, Rejected, Rule, written_text}
 use Rattle.cvss_lines.specs.Streaming.{Beginning}
 use Rattle.cvss_json_tree.specs.Texts.{IsTextOf}
 use Rattle.cvss_document.specs.Differences.{AreDifferencesAt, Difference}
@@ -45,7 +45,7 @@ pub record IsAcceptedPlace (input : Input) (place : Place) (text : List ℕ) (va
 -- the text denotes no vector, and the object says the first reason
 pub record IsRejectedPlace (input : Input) (place : Place) (text : List ℕ) (value : Data) (agrees : Bool) : Type 0 where
   pub error : Error
-  pub first : ReportsFirst cvss_reason (IsFirstRefusalCvss text) error
+  pub first : ReportsFirst cvss_reason (IsFirstRejectionCvss text) error
   pub no_want : error ≢ OutOfMemory
   pub is : value ≡ object_of (place_members input place ++ error_member (error_text error) ∷ [])
   pub reported : agrees ≡ false
@@ -102,7 +102,7 @@ pub record BeginsFound (input : Input) (places : List Place) (bytes : List ℕ) 
 
 -- the answer to a document: a line for each place. The document is accepted if all agree.
 abbrev pub answer_of : List Found → Answer
-answer_of found = if all_agree found then Accepted (texts_of found) else Refused (texts_of found)
+answer_of found = if all_agree found then Accepted (texts_of found) else Rejected (texts_of found)
 
 -- a blank: RFC 8259, section 2
 abbrev pub is_blank : ℕ → Bool
@@ -125,19 +125,19 @@ pub record IsPassedOver (input : Input) (text : List ℕ) (answer : Answer) : Ty
 pub record IsRejectedText (input : Input) (reason : List ℕ) (answer : Answer) : Type 0 where
   pub text : List ℕ
   pub is_text : IsTextOf (error_value input reason) text
-  pub is : answer ≡ Refused (text ∷ [])
+  pub is : answer ≡ Rejected (text ∷ [])
 
 -- the bytes are no text
 pub record IsNoText (input : Input) (text : List ℕ) (answer : Answer) : Type 0 where
   pub not_utf8 : ¬ (IsUtf8 text)
-  pub refused : IsRejectedText input (codes "not UTF-8") answer
+  pub rejected : IsRejectedText input (codes "not UTF-8") answer
 
 -- the text is no JSON, and is not passed over
 pub record IsNoJson (input : Input) (text : List ℕ) (answer : Answer) : Type 0 where
   pub utf8 : IsUtf8 text
   pub not_blank : is_passed_over input text ≡ false
   pub not_json : read text ≡ None
-  pub refused : IsRejectedText input (codes "not JSON") answer
+  pub rejected : IsRejectedText input (codes "not JSON") answer
 
 -- the text is a JSON document, and the answer says of each location of a vector in it
 pub record IsDocument (input : Input) (text : List ℕ) (answer : Answer) : Type 0 where

@@ -41,6 +41,6 @@ fn summary_of_one(accepted: bool) -> Summary
 {
     Summary {
         accepted: u64::from(accepted),
-        refused: u64::from(!accepted),
+        rejected: u64::from(!accepted),
     }
 }

@@ -1,4 +1,4 @@
--- What each refusal says to a reader.
+-- What each rejection says to a reader.
 use Rattle.std.specs.Prelude.{ℕ, List, ◌++◌, codes}
 use Rattle.std.specs.String.{string_bytes}
 use Rattle.cvss_base.specs.declared.error.Error.{Error}
@@ -11,7 +11,7 @@ use Rattle.cvss_base.specs.V4Types as v4
 abbrev pub quoted : List ℕ → List ℕ
 quoted text = codes "`" ++ text ++ codes "`"
 
--- the refusal's text
+-- the rejection's text
 abbrev pub error_text : Error → List ℕ
 error_text (InvalidComponent component) = codes "invalid CVSS metric group component: " ++ quoted (string_bytes component)
 error_text (InvalidPrefix prefix) = codes "invalid CVSS string prefix: " ++ quoted (string_bytes prefix)

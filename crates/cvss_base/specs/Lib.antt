@@ -2,8 +2,8 @@ pub mod Equality
 pub mod ErrorText
 pub mod Exact
 pub mod Groups
-pub mod Rating
-pub mod Refusal
+pub mod SeverityScale
+pub mod Rejection
 pub mod Rounding
 pub mod SeverityText
 pub mod Tenths

@@ -1,7 +1,7 @@
 -- CVSS v2 guide, sections 2.1 to 2.4: the metrics, by their abbreviations and their names.
 use Rattle.std.specs.Prelude.{ℕ, List, [], ◌∷◌, codes, Option, Some, None}
 use Rattle.std.specs.String.{string_bytes}
-use Rattle.cvss_base.specs.Refusal.{Refusal, BadValue, Repeated, Missing}
+use Rattle.cvss_base.specs.Rejection.{Rejection, BadValue, Repeated, Missing}
 use Rattle.cvss_base.specs.Text.{described}
 use Rattle.cvss_base.specs.declared.error.Error.{Error}
 use Rattle.cvss_base.specs.declared.error.Error.TheVariants.{InvalidMetricV2, DuplicateMetricV2, MissingMandatoryMetricV2}
@@ -48,7 +48,7 @@ abbrev pub declared : List MetricType
 declared = A ∷ AC ∷ AV ∷ Au ∷ C ∷ I ∷ E ∷ RL ∷ RC ∷ CDP ∷ TD ∷ CR ∷ IR ∷ AR ∷ []
 
 -- what the errors of CVSS v2 say
-abbrev pub v2_reason : Error → Option (Refusal MetricType)
+abbrev pub v2_reason : Error → Option (Rejection MetricType)
 v2_reason (InvalidMetricV2 kind value) = Some (BadValue kind (string_bytes value))
 v2_reason (DuplicateMetricV2 kind) = Some (Repeated kind)
 v2_reason (MissingMandatoryMetricV2 kind) = Some (Missing kind)

@@ -2,7 +2,7 @@
 -- their names. The names of the requirements are in the plural, as the Rust crate prints them.
 use Rattle.std.specs.Prelude.{ℕ, List, [], ◌∷◌, codes, Option, Some, None}
 use Rattle.std.specs.String.{string_bytes}
-use Rattle.cvss_base.specs.Refusal.{Refusal, BadValue, Repeated}
+use Rattle.cvss_base.specs.Rejection.{Rejection, BadValue, Repeated}
 use Rattle.cvss_base.specs.Text.{described}
 use Rattle.cvss_base.specs.declared.error.Error.{Error}
 use Rattle.cvss_base.specs.declared.error.Error.TheVariants.{InvalidMetricV3, DuplicateMetricV3}
@@ -57,7 +57,7 @@ abbrev pub declared : List MetricType
 declared = A ∷ AC ∷ AV ∷ C ∷ I ∷ PR ∷ S ∷ UI ∷ E ∷ RL ∷ RC ∷ CR ∷ IR ∷ AR ∷ MAV ∷ MAC ∷ MPR ∷ MUI ∷ MS ∷ MC ∷ MI ∷ MA ∷ []
 
 -- what the errors of CVSS v3 say
-abbrev pub v3_reason : Error → Option (Refusal MetricType)
+abbrev pub v3_reason : Error → Option (Rejection MetricType)
 v3_reason (InvalidMetricV3 kind value) = Some (BadValue kind (string_bytes value))
 v3_reason (DuplicateMetricV3 kind) = Some (Repeated kind)
 v3_reason _ = None

@@ -2,7 +2,7 @@
 -- requirements are in the plural, as the Rust crate prints them.
 use Rattle.std.specs.Prelude.{ℕ, List, [], ◌∷◌, codes, Option, Some, None}
 use Rattle.std.specs.String.{string_bytes}
-use Rattle.cvss_base.specs.Refusal.{Refusal, BadValue, Repeated, Missing}
+use Rattle.cvss_base.specs.Rejection.{Rejection, BadValue, Repeated, Missing}
 use Rattle.cvss_base.specs.Text.{described}
 use Rattle.cvss_base.specs.declared.error.Error.{Error}
 use Rattle.cvss_base.specs.declared.error.Error.TheVariants.{InvalidMetricV4, DuplicateMetricV4, MissingMandatoryMetricV4}
@@ -71,7 +71,7 @@ abbrev pub declared : List MetricType
 declared = AC ∷ AT ∷ AV ∷ PR ∷ SA ∷ SC ∷ SI ∷ UI ∷ VA ∷ VC ∷ VI ∷ E ∷ AR ∷ CR ∷ IR ∷ MAC ∷ MAT ∷ MAV ∷ MPR ∷ MSA ∷ MSC ∷ MSI ∷ MUI ∷ MVA ∷ MVC ∷ MVI ∷ AU ∷ R ∷ RE ∷ S ∷ U ∷ V ∷ []
 
 -- what the errors of CVSS v4 say
-abbrev pub v4_reason : Error → Option (Refusal MetricType)
+abbrev pub v4_reason : Error → Option (Rejection MetricType)
 v4_reason (InvalidMetricV4 kind value) = Some (BadValue kind (string_bytes value))
 v4_reason (DuplicateMetricV4 kind) = Some (Repeated kind)
 v4_reason (MissingMandatoryMetricV4 kind) = Some (Missing kind)

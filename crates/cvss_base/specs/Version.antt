@@ -19,7 +19,7 @@ pub record Version (V K : Type 0) : Type 1 where
   pub printed : List K
   -- the metrics that each vector has, in the order in which they are missed
   pub mandatory : List K
-  -- the metric that a refused value is reported under
+  -- the metric that a rejected value is reported under
   pub reported_kind : K → K
   -- the piece that says the version, where there is one
   pub front : V → List (List ℕ)

@@ -1,4 +1,4 @@
-//! Why a text is refused.
+//! Why a text is rejected.
 
 ghost use Rattle.std.specs.Prelude.{◌≡◌, Some};
 ghost use Rattle.cvss_base.specs.declared.error.Error.TheVariants.{OutOfMemory};
@@ -72,7 +72,7 @@ pub enum Error {
     UnknownMetric {
         name: String,
     },
-    /// There was no memory for the refusal's text.
+    /// There was no memory for the rejection's text.
     OutOfMemory,
 }
 

@@ -1,7 +1,7 @@
 //! The names of a metric type, and the type that is looked up by its name, once for all versions.
 
 ghost use Rattle.std.specs.Prelude.{◌≡◌, IfOk, IfErr, IfSome, Some, Ok, ℕ, List, Option, find, bytes_eq};
-ghost use Rattle.cvss_base.specs.Refusal.{Refusal, UnknownName};
+ghost use Rattle.cvss_base.specs.Rejection.{Rejection, UnknownName};
 ghost use Rattle.cvss_base.specs.Reported.{Reports};
 ghost use Rattle.cvss_base.specs.declared.group.MetricGroup.{MetricGroup};
 
@@ -60,7 +60,7 @@ pub(crate) fn from_name<N: Named>(alloc: Global, all: &[N], name: &str) -> Resul
     requires { all.now ≡ N.declared }
     ensures named { IfOk result (λ kind. (N.row_of kind).0 ≡ name.now) }
     ensures read { (kind : N) → (N.row_of kind).0 ≡ name.now → result ≡ Ok kind }
-    ensures refused { IfErr result (λ error. (own : Error → Option (Refusal N))
+    ensures rejected { IfErr result (λ error. (own : Error → Option (Rejection N))
         → Reports own (UnknownName name.now) error) }
 {
     match kind_of(all, name) {

@@ -1,7 +1,7 @@
 //! The qualitative severity ratings (v3.1 specification, section 5; v4.0 specification, section 6).
 
 ghost use Rattle.std.specs.Prelude.{◌≡◌, IfOk, IfErr, IfSome, Some};
-ghost use Rattle.cvss_base.specs.Rating.{rating_of_score};
+ghost use Rattle.cvss_base.specs.SeverityScale.{severity_of_score};
 ghost use Rattle.cvss_base.specs.SeverityText.{text_of, lowered};
 ghost use Rattle.cvss_base.specs.Reported.{ReportsNoSeverity};
 
@@ -51,7 +51,7 @@ impl Severity {
         ensures named { IfOk result (λ severity. text_of severity ≡ lowered text.now) }
         ensures read { (severity : Severity) → text_of severity ≡ lowered text.now
             → result ≡ Ok severity }
-        ensures refused { IfErr result (ReportsNoSeverity text.now) }
+        ensures rejected { IfErr result (ReportsNoSeverity text.now) }
     {
         match Severity::read(text) {
             Some(severity) => Ok(severity),
@@ -85,7 +85,7 @@ impl fmt::Display for Severity {
 /// The rating of a count of 10^-24 of a score point: none below 0.1, low below 4.0, medium below
 /// 7.0, high below 9.0, and critical from there.
 pub fn severity_of_score(count: i128) -> Severity
-    ensures { result ≡ rating_of_score count }
+    ensures { result ≡ severity_of_score count }
 {
     if count < TENTH {
         Severity::None

@@ -2,7 +2,7 @@
 
 ghost use Rattle.std.specs.Prelude.{◌≡◌, IfOk, IfErr, Ok, Some};
 ghost use Rattle.std.proofs.Common.{rules};
-ghost use Rattle.cvss_base.specs.Refusal.{UnknownName};
+ghost use Rattle.cvss_base.specs.Rejection.{UnknownName};
 ghost use Rattle.cvss_base.specs.Reported.{Reports};
 ghost use Rattle.cvss_base.specs.V4Types.{v4_reason, row_of, name_of, description_of, group_of, words_of, declared};
 
@@ -125,7 +125,7 @@ impl MetricType {
     pub fn from_str(alloc: Global, text: &str) -> Result<MetricType, Error>
         ensures named { IfOk result (λ kind. name_of kind ≡ text.now) }
         ensures read { (kind : MetricType) → name_of kind ≡ text.now → result ≡ Ok kind }
-        ensures refused { IfErr result (Reports v4_reason (UnknownName text.now)) }
+        ensures rejected { IfErr result (Reports v4_reason (UnknownName text.now)) }
     {
         from_name(alloc, &ALL, text)
     }

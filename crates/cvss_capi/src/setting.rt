@@ -1,6 +1,6 @@
 //! Vectors that C makes of another by setting metrics or leaving some out, or of metrics alone.
 
-ghost use Rattle.cvss_ffi.specs.Calls.{IsAnswerTo, Tells};
+ghost use Rattle.cvss_ffi.specs.Calls.{IsAnswerTo, Returns};
 ghost use Rattle.cvss_ffi.specs.Defined.{IsTextWithout};
 ghost use Rattle.cvss_ffi.specs.Setting.{MakesVector, SetsMetrics};
 
@@ -19,7 +19,7 @@ pub extern "C" fn cvss_with_metrics(
     error: &mut CvssError,
     buffer: &mut [u8],
 ) -> usize
-    ensures { Tells (SetsMetrics flags text.now metrics.now) error.old error.new
+    ensures { Returns (SetsMetrics flags text.now metrics.now) error.old error.new
         buffer.old buffer.new result }
 {
     with_metrics(text, metrics, flags, error, buffer)
@@ -35,7 +35,7 @@ pub extern "C" fn cvss_from_metrics(
     error: &mut CvssError,
     buffer: &mut [u8],
 ) -> usize
-    ensures { Tells (MakesVector flags version metrics.now) error.old error.new
+    ensures { Returns (MakesVector flags version metrics.now) error.old error.new
         buffer.old buffer.new result }
 {
     from_metrics(version, metrics, flags, error, buffer)
@@ -50,7 +50,7 @@ pub extern "C" fn cvss_without_not_defined(
     error: &mut CvssError,
     buffer: &mut [u8],
 ) -> usize
-    ensures { Tells (IsAnswerTo flags text.now IsTextWithout) error.old error.new
+    ensures { Returns (IsAnswerTo flags text.now IsTextWithout) error.old error.new
         buffer.old buffer.new result }
 {
     without_not_defined(text, flags, error, buffer)

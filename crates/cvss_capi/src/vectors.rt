@@ -8,9 +8,9 @@ ghost use Rattle.cvss_vector.specs.Evaluation.{IsOverallScore};
 ghost use Rattle.cvss_vector.specs.declared.vector.Cvss.{Cvss};
 ghost use Rattle.cvss_ffi.specs.Accepted.{Answers, IsVectorOf, WritesOf};
 ghost use Rattle.cvss_ffi.specs.Buffer.{IsFilled, IsWritten, PutsFilled};
-ghost use Rattle.cvss_ffi.specs.Calls.{IsAnswerTo, Tells};
+ghost use Rattle.cvss_ffi.specs.Calls.{IsAnswerTo, Returns};
 ghost use Rattle.cvss_ffi.specs.Metrics.{metrics_in_order};
-ghost use Rattle.cvss_ffi.specs.Scores.{IsScoreInTenths, IsSeverityNumber, IsToldOf, nothing, vector_size};
+ghost use Rattle.cvss_ffi.specs.Scores.{IsScoreInTenths, IsSeverityNumber, IsReportOf, nothing, vector_size};
 ghost use Rattle.cvss_ffi.specs.Values.{AreValuesIn, values_size};
 
 use cvss_ffi::{
@@ -27,10 +27,10 @@ pub extern "C" fn cvss_parse(
     error: &mut CvssError,
     buffer: &mut [u8],
 ) -> usize
-    ensures told { Tells (IsAnswerTo flags text.now (λ cvss canonical. canonical ≡ text_of cvss))
+    ensures reported { Returns (IsAnswerTo flags text.now (λ cvss canonical. canonical ≡ text_of cvss))
         error.old error.new buffer.old buffer.new result }
     ensures vector { Answers flags text.now (λ cvss. IsFilled vector_size vector.old.size
-        (IsToldOf vector.old.size cvss) vector.old vector.new) (vector.new ≡ vector.old) }
+        (IsReportOf vector.old.size cvss) vector.old vector.new) (vector.new ≡ vector.old) }
     ensures length { (cvss : Cvss) → IsVectorOf flags text.now cvss → result ≡ length text.now }
 {
     vector::parse(text, flags, vector, error, buffer)
@@ -75,7 +75,7 @@ pub extern "C" fn cvss_record(
     error: &mut CvssError,
     buffer: &mut [u8],
 ) -> usize
-    ensures { Tells (IsAnswerTo flags text.now IsRecordText) error.old error.new
+    ensures { Returns (IsAnswerTo flags text.now IsRecordText) error.old error.new
         buffer.old buffer.new result }
 {
     objects::record(text, flags, error, buffer)
@@ -89,7 +89,7 @@ pub extern "C" fn cvss_explain(
     error: &mut CvssError,
     buffer: &mut [u8],
 ) -> usize
-    ensures { Tells (IsAnswerTo flags text.now (IsExplanationText None)) error.old error.new
+    ensures { Returns (IsAnswerTo flags text.now (IsExplanationText None)) error.old error.new
         buffer.old buffer.new result }
 {
     objects::explain(text, flags, error, buffer)

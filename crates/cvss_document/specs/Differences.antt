@@ -2,7 +2,7 @@
 use Rattle.std.specs.Prelude.{◌≡◌, ℕ, Bool, true, false, not, ◌&&◌, List, [], ◌∷◌, ◌++◌, codes, bytes_eq, if◌then◌else◌, is_some, Option, Some, None, option_and_then}
 use Rattle.std.specs.List.{filter_map}
 use Rattle.std.specs.Option.{option_to_list}
-use Rattle.cvss_vector.specs.Answers.{rating_by, score_of_tenths}
+use Rattle.cvss_vector.specs.Answers.{severity_by, score_of_tenths}
 use Rattle.cvss_vector.specs.declared.vector.Cvss.{Cvss}
 use Rattle.cvss_vector.specs.declared.vector.Cvss.TheVariants.{CvssV20, CvssV30, CvssV31, CvssV40}
 use Rattle.cvss_base.specs.SeverityText.{text_of as severity_text}
@@ -75,7 +75,7 @@ differences_at name claim object =
 
 -- the severity of so many tenths, in lower case
 abbrev pub severity_text_of : Cvss → ℕ → List ℕ
-severity_text_of cvss count = severity_text (rating_by cvss (score_of_tenths count))
+severity_text_of cvss count = severity_text (severity_by cvss (score_of_tenths count))
 
 -- the type that OSV gives the score of the vector
 abbrev pub osv_type : Cvss → List ℕ
@@ -170,7 +170,7 @@ has_severities (CvssV40 _) = true
 abbrev pub severity_differences : Cvss → ℕ → Around → List Difference
 severity_differences cvss count around =
     if not (has_severities cvss) && bytes_eq (codes "cvssData") around.0
-    then differences_at (codes "baseSeverity") (word (severity_word (rating_by cvss (score_of_tenths count)))) around.1
+    then differences_at (codes "baseSeverity") (word (severity_word (severity_by cvss (score_of_tenths count)))) around.1
     else []
 
 -- NVD says the sub-scores of a vector beside the member `cvssData` that holds it

@@ -6,7 +6,7 @@ use Rattle.std.proofs.lemmas.List.{length-map}
 use Rattle.std.proofs.lemmas.Result.{err_from_is_err_and}
 use Rattle.std.proofs.lemmas.List.Sorted.{length_permutation}
 use Rattle.cvss.specs.Answers.{text_of}
-use Rattle.cvss.specs.Dispatch.{DenotesCvss, DenotesV3, IsFirstRefusalCvss, cvss_reason}
+use Rattle.cvss.specs.Dispatch.{DenotesCvss, DenotesV3, IsFirstRejectionCvss, cvss_reason}
 use Rattle.cvss.specs.ErrorType.{Error}
 use Rattle.cvss.specs.ErrorType.TheVariants.{OutOfMemory}
 use Rattle.cvss.specs.Json.{StandsFor, ReportsWhy, reported_as}
@@ -90,28 +90,28 @@ read_as text value read is stands =
     subst (λ each. DenotesCvss each read) (one_string (sym stands.is_string ∙ is)) stands.holds
 
 reports_no_text : (text : List ℕ) (value : Data) → value ≡ string text → (error : JsonError)
-    → ReportsWhy (λ each. ReportsFirst cvss_reason (IsFirstRefusalCvss each)) value error → error ≢ Invalid OutOfMemory → ReportsNoText text error
+    → ReportsWhy (λ each. ReportsFirst cvss_reason (IsFirstRejectionCvss each)) value error → error ≢ Invalid OutOfMemory → ReportsNoText text error
 reports_no_text text value is NotAString why reported = why text is
 reports_no_text text value is (Invalid error) why reported = (
-  subst (λ each. ReportsFirst cvss_reason (IsFirstRefusalCvss each) error) (one_string (sym why.is_string ∙ is)) why.holds,
+  subst (λ each. ReportsFirst cvss_reason (IsFirstRejectionCvss each) error) (one_string (sym why.is_string ∙ is)) why.holds,
   λ lacks. reported (ap Invalid lacks),
 )
 reports_no_text text value is NoMemory why reported = tt
 
 -- why the string of a text stands for nothing is why the text denotes nothing
-pub refused_as : (result : Result Cvss JsonError) (text : List ℕ) (value : Data) → value ≡ string text
-    → IfErr result (ReportsWhy (λ each. ReportsFirst cvss_reason (IsFirstRefusalCvss each)) value)
+pub rejected_as : (result : Result Cvss JsonError) (text : List ℕ) (value : Data) → value ≡ string text
+    → IfErr result (ReportsWhy (λ each. ReportsFirst cvss_reason (IsFirstRejectionCvss each)) value)
     → IfErr result (λ error. error ≢ Invalid OutOfMemory) → IfErr result (ReportsNoText text)
-refused_as (Ok read) text value is why reported = tt
-refused_as (Err error) text value is why reported = reports_no_text text value is error why reported
+rejected_as (Ok read) text value is why reported = tt
+rejected_as (Err error) text value is why reported = reports_no_text text value is error why reported
 
-reported_as_reports : (text : List ℕ) (error : Error) → ReportsFirst cvss_reason (IsFirstRefusalCvss text) error → ReportsNoText text (reported_as error)
+reported_as_reports : (text : List ℕ) (error : Error) → ReportsFirst cvss_reason (IsFirstRejectionCvss text) error → ReportsNoText text (reported_as error)
 reported_as_reports text OutOfMemory first = tt
 reported_as_reports text error first = (first, λ lacks. absurd cc)
 
--- the first reason why a text is refused is reported
-pub refusal_reported : {T : Type 0} (result : Result T JsonError) (text : List ℕ) (error : Error) → IsErrAnd result (λ reported. reported ≡ reported_as error)
-    → ReportsFirst cvss_reason (IsFirstRefusalCvss text) error → IfErr result (ReportsNoText text)
-refusal_reported result text error exit first =
+-- the first reason why a text is rejected is reported
+pub rejection_reported : {T : Type 0} (result : Result T JsonError) (text : List ℕ) (error : Error) → IsErrAnd result (λ reported. reported ≡ reported_as error)
+    → ReportsFirst cvss_reason (IsFirstRejectionCvss text) error → IfErr result (ReportsNoText text)
+rejection_reported result text error exit first =
     let reported = err_from_is_err_and result exit in
     rw (reported.1, reported.2) (reported_as_reports text error first)

@@ -1,7 +1,7 @@
 -- What an advisory says of a text.
 use Rattle.std.specs.Prelude.{◌≡◌, ◌⊎◌, ◌++◌, ℕ, List, codes}
-use Rattle.cvss.specs.Answers.{text_of, IsScoreOf, rating_by, score_of_tenths}
-use Rattle.cvss.specs.Dispatch.{DenotesCvss, IsFirstRefusalCvss, cvss_reason}
+use Rattle.cvss.specs.Answers.{text_of, IsScoreOf, severity_by, score_of_tenths}
+use Rattle.cvss.specs.Dispatch.{DenotesCvss, IsFirstRejectionCvss, cvss_reason}
 use Rattle.cvss.specs.ErrorText.{error_text}
 use Rattle.cvss.specs.ErrorType.{Error}
 use Rattle.cvss.specs.SeverityText as severity
@@ -13,7 +13,7 @@ use Rattle.cvss.specs.CvssType.{Cvss}
 abbrev pub advisory_text : Cvss → ℕ → List ℕ
 advisory_text vector tenths =
     text_of vector ++ codes ": " ++ tenths_text tenths
-    ++ codes " (" ++ severity.text_of (rating_by vector (score_of_tenths tenths)) ++ codes ")"
+    ++ codes " (" ++ severity.text_of (severity_by vector (score_of_tenths tenths)) ++ codes ")"
 
 -- what is reported of the vector, with its score
 pub record IsVectorAdvisory (vector : Cvss) (reported : List ℕ) : Type 0 where
@@ -30,7 +30,7 @@ pub record ReportsVector (text reported : List ℕ) : Type 0 where
 -- the first reason why the text denotes no vector
 pub record ReportsReason (text reported : List ℕ) : Type 0 where
   pub error : Error
-  pub first : ReportsFirst cvss_reason (IsFirstRefusalCvss text) error
+  pub first : ReportsFirst cvss_reason (IsFirstRejectionCvss text) error
   pub is : reported ≡ codes "no vector: " ++ error_text error
 
 -- the vector is reported, or why there is none

@@ -3,7 +3,7 @@
 use Rattle.std.specs.Prelude.{◌≡◌, ◌⊎◌, ℕ, List, Option}
 use Rattle.cvss.specs.ErrorType.{Error}
 use Rattle.cvss.specs.ErrorType.TheVariants.{OutOfMemory}
-use Rattle.cvss.specs.Refusal.{Refusal}
+use Rattle.cvss.specs.Rejection.{Rejection}
 use Rattle.cvss.specs.Reported.{ReportsFirst}
 use Rattle.cvss.specs.Version.{Version, canonical_text, Denotes}
 
@@ -14,6 +14,6 @@ pub record IsCanonicalTextOf {V K : Type 0} (version : Version V K) (IsVector : 
   pub is_vector : IsVector vector
   pub is : printed ≡ canonical_text version vector
 
--- the error says the first reason for a refusal; or there was no memory
-abbrev pub ReportsRefusal : {K : Type 0} → (Error → Option (Refusal K)) → (Refusal K → Type 0) → Error → Type 0
-ReportsRefusal own IsFirst error = ReportsFirst own IsFirst error ⊎ (error ≡ OutOfMemory)
+-- the error says the first reason for a rejection; or there was no memory
+abbrev pub ReportsRejection : {K : Type 0} → (Error → Option (Rejection K)) → (Rejection K → Type 0) → Error → Type 0
+ReportsRejection own IsFirst error = ReportsFirst own IsFirst error ⊎ (error ≡ OutOfMemory)

@@ -1,7 +1,7 @@
 -- Texts of vectors, and the JSON values that stand for them.
 use Rattle.std.specs.Prelude.{◌≡◌, ◌≢◌, ℕ, List, ⊤}
 use Rattle.cvss.specs.Answers.{text_of}
-use Rattle.cvss.specs.Dispatch.{DenotesCvss, IsFirstRefusalCvss, cvss_reason}
+use Rattle.cvss.specs.Dispatch.{DenotesCvss, IsFirstRejectionCvss, cvss_reason}
 use Rattle.cvss.specs.ErrorType.TheVariants.{OutOfMemory as LacksMemory}
 use Rattle.cvss.specs.Json.{IsNoString, IsStringOf, StandsFor}
 use Rattle.cvss.specs.Reported.{ReportsFirst}
@@ -31,7 +31,7 @@ pub record IsCanonicalText (text other : List ℕ) : Type 0 where
 -- the error says the first reason why the text denotes no vector; or there was no memory
 abbrev pub ReportsNoText : List ℕ → JsonError → Type 0
 ReportsNoText text NotAString = ⊥
-ReportsNoText text (Invalid error) = ReportsFirst cvss_reason (IsFirstRefusalCvss text) error × (error ≢ LacksMemory)
+ReportsNoText text (Invalid error) = ReportsFirst cvss_reason (IsFirstRejectionCvss text) error × (error ≢ LacksMemory)
 ReportsNoText text OutOfMemory = ⊤
 
 -- the error says that the value is no string, or the first reason why its text denotes no vector; or there
@@ -39,5 +39,5 @@ ReportsNoText text OutOfMemory = ⊤
 abbrev pub ReportsNoValue : Data → JsonError → Type 0
 ReportsNoValue value NotAString = IsNoString value
 ReportsNoValue value (Invalid error) =
-    IsStringOf (λ text. ReportsFirst cvss_reason (IsFirstRefusalCvss text) error) value × (error ≢ LacksMemory)
+    IsStringOf (λ text. ReportsFirst cvss_reason (IsFirstRejectionCvss text) error) value × (error ≢ LacksMemory)
 ReportsNoValue value OutOfMemory = ⊤

@@ -1,6 +1,6 @@
 -- Texts of vectors by their severity: v3.1 specification, section 5; v4.0 specification, section 6.
 use Rattle.std.specs.Prelude.{◌≤◌, ℕ, List, ℤ}
-use Rattle.cvss.specs.Answers.{IsScoreOf, rating_by}
+use Rattle.cvss.specs.Answers.{IsScoreOf, severity_by}
 use Rattle.cvss.specs.Dispatch.{DenotesCvss}
 use Rattle.cvss.specs.SeverityType.{Severity}
 use Rattle.cvss.specs.SeverityType.TheVariants.{None, Low, Medium, High, Critical}
@@ -18,7 +18,7 @@ rank Critical = 4
 pub record IsAtOrAbove (level : Severity) (vector : Cvss) : Type 0 where
   pub score : ℤ
   pub scored : IsScoreOf vector score
-  pub rated : rank level ≤ rank (rating_by vector score)
+  pub rated : rank level ≤ rank (severity_by vector score)
 
 -- the text denotes a vector that is rated at the level or above
 pub record IsFinding (level : Severity) (text : List ℕ) : Type 0 where

@@ -13,7 +13,7 @@ pub struct Audit {
     /// The texts of vectors that are rated at or above the level.
     pub findings: usize,
     /// The texts that are no vectors. They are no findings.
-    pub refused: usize,
+    pub rejected: usize,
 }
 
 /// Counts the texts of vectors that are rated at or above a level, and the texts that are no
@@ -21,18 +21,18 @@ pub struct Audit {
 pub fn count_findings(texts: &[&str], level: Severity) -> Audit
     ensures findings { IsCountOf (IsFinding level) (map (λ text. text.now) texts.now)
         result.findings }
-    ensures refused { IsCountOf IsNoVector (map (λ text. text.now) texts.now) result.refused }
+    ensures rejected { IsCountOf IsNoVector (map (λ text. text.now) texts.now) result.rejected }
 {
     let mut findings = 0;
-    let mut refused = 0;
+    let mut rejected = 0;
     for text in texts {
         match Cvss::read_bytes(text.as_bytes()) {
             Some(cvss) if is_rated(&cvss, level) => findings += 1,
             Some(_) => {}
-            None => refused += 1,
+            None => rejected += 1,
         }
     }
-    Audit { findings, refused }
+    Audit { findings, rejected }
 }
 
 /// Whether a vector is rated at or above a level.

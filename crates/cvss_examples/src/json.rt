@@ -18,8 +18,8 @@ use std::alloc::Global;
 /// The JSON value of a text's vector.
 pub fn value_of(alloc: Global, text: &str) -> Result<Value, JsonError>
     ensures value { IfOk result (λ value. IsValueOf text.now (view value)) }
-    // Refused: for the first reason, and no vector's text for another than out of memory.
-    ensures refused { IfErr result (ReportsNoText text.now) }
+    // Rejected: for the first reason, and no vector's text for another than out of memory.
+    ensures rejected { IfErr result (ReportsNoText text.now) }
     ensures accepts { (cvss : Cvss) → DenotesCvss text.now cvss
         → IfErr result (λ error. error ≡ OutOfMemory) }
 {
@@ -29,8 +29,8 @@ pub fn value_of(alloc: Global, text: &str) -> Result<Value, JsonError>
 /// The canonical text of a JSON value's vector.
 pub fn text_of(alloc: Global, value: &Value) -> Result<String, JsonError>
     ensures text { IfOk result (λ text. IsTextOf (view value.now) (string_bytes text)) }
-    // Refused: for the reason, and no vector's value for another than out of memory.
-    ensures refused { IfErr result (ReportsNoValue (view value.now)) }
+    // Rejected: for the reason, and no vector's value for another than out of memory.
+    ensures rejected { IfErr result (ReportsNoValue (view value.now)) }
     ensures accepts { (cvss : Cvss) → StandsFor DenotesCvss (view value.now) cvss
         → IfErr result (λ error. error ≡ OutOfMemory) }
 {
@@ -41,7 +41,7 @@ pub fn text_of(alloc: Global, value: &Value) -> Result<String, JsonError>
 /// vector that the text denotes.
 pub fn converted_and_back(alloc: Global, text: &str) -> Result<String, JsonError>
     ensures back { IfOk result (λ back. IsCanonicalText text.now (string_bytes back)) }
-    ensures refused { IfErr result (ReportsNoText text.now) }
+    ensures rejected { IfErr result (ReportsNoText text.now) }
     ensures accepts { (cvss : Cvss) → DenotesCvss text.now cvss
         → IfErr result (λ error. error ≡ OutOfMemory) }
 {
@@ -56,7 +56,7 @@ pub fn written_and_read(alloc: Global, cvss: &Cvss) -> Result<Cvss, JsonError>
     ensures given_back { IsGivenBack cvss.now
         → (result ≡ Ok cvss.now) ⊎ (result ≡ Err OutOfMemory) }
     ensures read { IfOk result (λ read. DenotesCvss (text_of cvss.now) read) }
-    ensures refused { IfErr result (ReportsNoText (text_of cvss.now)) }
+    ensures rejected { IfErr result (ReportsNoText (text_of cvss.now)) }
 {
     laws::texts_denote_one_vector();
     let value = cvss.to_value(alloc)?;

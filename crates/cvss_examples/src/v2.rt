@@ -3,7 +3,7 @@
 ghost use Rattle.std.specs.Prelude.{◌≡◌, ◌⊎◌, IfOk, IfErr, IsTrue, Ok, Err, string_bytes};
 ghost use Rattle.cvss.specs.ErrorType.TheVariants.{OutOfMemory};
 ghost use Rattle.cvss.specs.Exact.{IsWithinLimit};
-ghost use Rattle.cvss.specs.Refusal.{IsFirstRefusal};
+ghost use Rattle.cvss.specs.Rejection.{IsFirstRejection};
 ghost use Rattle.cvss.specs.laws.ScoreLawsV2.{DefineTheSame};
 ghost use Rattle.cvss.specs.ScoresV2.{IsBaseScore, IsTemporalScore, IsEnvironmentalScore};
 ghost use Rattle.cvss.specs.TypesV2.{v2_reason};
@@ -12,7 +12,7 @@ ghost use Rattle.cvss.specs.VectorV2.{v2};
 ghost use Rattle.cvss.specs.Version.{Denotes, IsComplete};
 ghost use Rattle.cvss.specs.WeightsV2.{weights_of};
 ghost use Rattle.cvss_examples.specs.Adjusted.{IsAdjustedTemporal};
-ghost use Rattle.cvss_examples.specs.Canonical.{IsCanonicalTextOf, ReportsRefusal};
+ghost use Rattle.cvss_examples.specs.Canonical.{IsCanonicalTextOf, ReportsRejection};
 
 use cvss::Error;
 use cvss::v2::{Score, Vector, laws};
@@ -32,8 +32,8 @@ pub fn printed_and_read(alloc: Global, vector: &Vector) -> Result<Vector, Error>
 pub fn read_and_printed(alloc: Global, text: &str) -> Result<String, Error>
     ensures canonical { IfOk result (λ printed.
         IsCanonicalTextOf v2 (IsComplete v2) text.now (string_bytes printed)) }
-    // Refused: for the first reason, and no vector's text for another than out of memory.
-    ensures refused { IfErr result (ReportsRefusal v2_reason (IsFirstRefusal v2 text.now)) }
+    // Rejected: for the first reason, and no vector's text for another than out of memory.
+    ensures rejected { IfErr result (ReportsRejection v2_reason (IsFirstRejection v2 text.now)) }
     ensures accepts { (vector : Vector) → Denotes v2 text.now vector → IsComplete v2 vector
         → IfErr result (λ error. error ≡ OutOfMemory) }
 {
@@ -44,8 +44,8 @@ pub fn read_and_printed(alloc: Global, text: &str) -> Result<String, Error>
 /// Whether to read and print a text twice is to read and print it once, which it is.
 pub fn twice_is_once(alloc: Global, text: &str) -> Result<bool, Error>
     ensures same { IfOk result (λ same. IsTrue same) }
-    // Refused: for the first reason, and no vector's text for another than out of memory.
-    ensures refused { IfErr result (ReportsRefusal v2_reason (IsFirstRefusal v2 text.now)) }
+    // Rejected: for the first reason, and no vector's text for another than out of memory.
+    ensures rejected { IfErr result (ReportsRejection v2_reason (IsFirstRejection v2 text.now)) }
     ensures accepts { (vector : Vector) → Denotes v2 text.now vector → IsComplete v2 vector
         → IfErr result (λ error. error ≡ OutOfMemory) }
 {

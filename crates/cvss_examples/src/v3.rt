@@ -2,7 +2,7 @@
 
 ghost use Rattle.std.specs.Prelude.{◌≡◌, ◌⊎◌, IfOk, IfErr, IsTrue, Ok, Err, string_bytes};
 ghost use Rattle.cvss.specs.ErrorType.TheVariants.{OutOfMemory};
-ghost use Rattle.cvss.specs.Refusal.{IsFirstRefusalAfter};
+ghost use Rattle.cvss.specs.Rejection.{IsFirstRejectionAfter};
 ghost use Rattle.cvss.specs.laws.ScoreLawsV3.{DefineTheSame, with_modified_as_base};
 ghost use Rattle.cvss.specs.ScoresV3.{IsBaseScore, IsTemporalScore, IsEnvironmentalScore};
 ghost use Rattle.cvss.specs.TypesV3.{v3_reason};
@@ -10,7 +10,7 @@ ghost use Rattle.cvss.specs.VectorTypeV3.{Vector};
 ghost use Rattle.cvss.specs.VectorV3.{v3};
 ghost use Rattle.cvss.specs.Version.{Denotes, IsWellFormed};
 ghost use Rattle.cvss.specs.WeightsV3.{weights_of};
-ghost use Rattle.cvss_examples.specs.Canonical.{IsCanonicalTextOf, ReportsRefusal};
+ghost use Rattle.cvss_examples.specs.Canonical.{IsCanonicalTextOf, ReportsRejection};
 
 use cvss::Error;
 use cvss::v3::{Score, Vector, laws};
@@ -30,8 +30,8 @@ pub fn printed_and_read(alloc: Global, vector: &Vector) -> Result<Vector, Error>
 pub fn read_and_printed(alloc: Global, text: &str) -> Result<String, Error>
     ensures canonical { IfOk result (λ printed.
         IsCanonicalTextOf v3 (IsWellFormed v3) text.now (string_bytes printed)) }
-    // Refused: for the first reason, and no vector's text for another than out of memory.
-    ensures refused { IfErr result (ReportsRefusal v3_reason (IsFirstRefusalAfter v3 text.now)) }
+    // Rejected: for the first reason, and no vector's text for another than out of memory.
+    ensures rejected { IfErr result (ReportsRejection v3_reason (IsFirstRejectionAfter v3 text.now)) }
     ensures accepts { (vector : Vector) → Denotes v3 text.now vector → IsWellFormed v3 vector
         → IfErr result (λ error. error ≡ OutOfMemory) }
 {
@@ -42,8 +42,8 @@ pub fn read_and_printed(alloc: Global, text: &str) -> Result<String, Error>
 /// Whether to read and print a text twice is to read and print it once, which it is.
 pub fn twice_is_once(alloc: Global, text: &str) -> Result<bool, Error>
     ensures same { IfOk result (λ same. IsTrue same) }
-    // Refused: for the first reason, and no vector's text for another than out of memory.
-    ensures refused { IfErr result (ReportsRefusal v3_reason (IsFirstRefusalAfter v3 text.now)) }
+    // Rejected: for the first reason, and no vector's text for another than out of memory.
+    ensures rejected { IfErr result (ReportsRejection v3_reason (IsFirstRejectionAfter v3 text.now)) }
     ensures accepts { (vector : Vector) → Denotes v3 text.now vector → IsWellFormed v3 vector
         → IfErr result (λ error. error ≡ OutOfMemory) }
 {

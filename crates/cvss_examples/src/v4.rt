@@ -2,7 +2,7 @@
 
 ghost use Rattle.std.specs.Prelude.{◌≡◌, ◌⊎◌, IfOk, IfErr, IsTrue, Ok, Err, string_bytes};
 ghost use Rattle.cvss.specs.ErrorType.TheVariants.{OutOfMemory};
-ghost use Rattle.cvss.specs.Refusal.{IsFirstRefusalAfter};
+ghost use Rattle.cvss.specs.Rejection.{IsFirstRejectionAfter};
 ghost use Rattle.cvss.specs.laws.MergingLawsV4.{HasModifiedAsBase, DifferInSupplemental};
 ghost use Rattle.cvss.specs.MergingV4.{effective_of, letter_at};
 ghost use Rattle.cvss.specs.MetricTypeV4.{MetricType};
@@ -13,7 +13,7 @@ ghost use Rattle.cvss.specs.TypesV4.{v4_reason};
 ghost use Rattle.cvss.specs.VectorTypeV4.{Vector};
 ghost use Rattle.cvss.specs.VectorV4.{v4};
 ghost use Rattle.cvss.specs.Version.{Denotes, IsComplete, IsWellFormed};
-ghost use Rattle.cvss_examples.specs.Canonical.{IsCanonicalTextOf, ReportsRefusal};
+ghost use Rattle.cvss_examples.specs.Canonical.{IsCanonicalTextOf, ReportsRejection};
 
 use cvss::Error;
 use cvss::v4::{Nomenclature, Vector, laws};
@@ -33,8 +33,8 @@ pub fn printed_and_read(alloc: Global, vector: &Vector) -> Result<Vector, Error>
 pub fn read_and_printed(alloc: Global, text: &str) -> Result<String, Error>
     ensures canonical { IfOk result (λ printed.
         IsCanonicalTextOf v4 (IsWellFormed v4) text.now (string_bytes printed)) }
-    // Refused: for the first reason, and no vector's text for another than out of memory.
-    ensures refused { IfErr result (ReportsRefusal v4_reason (IsFirstRefusalAfter v4 text.now)) }
+    // Rejected: for the first reason, and no vector's text for another than out of memory.
+    ensures rejected { IfErr result (ReportsRejection v4_reason (IsFirstRejectionAfter v4 text.now)) }
     ensures accepts { (vector : Vector) → Denotes v4 text.now vector → IsWellFormed v4 vector
         → IfErr result (λ error. error ≡ OutOfMemory) }
 {
@@ -45,8 +45,8 @@ pub fn read_and_printed(alloc: Global, text: &str) -> Result<String, Error>
 /// Whether to read and print a text twice is to read and print it once, which it is.
 pub fn twice_is_once(alloc: Global, text: &str) -> Result<bool, Error>
     ensures same { IfOk result (λ same. IsTrue same) }
-    // Refused: for the first reason, and no vector's text for another than out of memory.
-    ensures refused { IfErr result (ReportsRefusal v4_reason (IsFirstRefusalAfter v4 text.now)) }
+    // Rejected: for the first reason, and no vector's text for another than out of memory.
+    ensures rejected { IfErr result (ReportsRejection v4_reason (IsFirstRejectionAfter v4 text.now)) }
     ensures accepts { (vector : Vector) → Denotes v4 text.now vector → IsWellFormed v4 vector
         → IfErr result (λ error. error ≡ OutOfMemory) }
 {

@@ -2,7 +2,7 @@
 use Rattle.std.specs.Prelude.{ℕ, List, [], ◌∷◌, ◌++◌, codes, Option, option_map}
 use Rattle.std.specs.List.{cons_option}
 use Rattle.std.specs.Fmt.{decimal}
-use Rattle.cvss_vector.specs.Answers.{rating_by, score_of_tenths, text_of}
+use Rattle.cvss_vector.specs.Answers.{severity_by, score_of_tenths, text_of}
 use Rattle.cvss_vector.specs.declared.vector.Cvss.{Cvss}
 use Rattle.cvss_base.specs.SeverityText.{text_of as severity_text}
 use Rattle.cvss_json_write.specs.Json.{Member, object_text, string_text, tenths_text}
@@ -16,7 +16,7 @@ abbrev pub score_member : ℕ → Member
 score_member tenths = (codes "score", tenths_text tenths)
 
 abbrev pub severity_member : Cvss → ℕ → Member
-severity_member cvss tenths = (codes "severity", string_text (severity_text (rating_by cvss (score_of_tenths tenths))))
+severity_member cvss tenths = (codes "severity", string_text (severity_text (severity_by cvss (score_of_tenths tenths))))
 
 -- the vector's canonical text
 abbrev pub vector_member : Cvss → Member

@@ -1,7 +1,7 @@
 //! The members of explanations.
 
 ghost use Rattle.std.specs.Prelude.{◌≡◌, ◌+◌, ◌≤◌, ◌++◌, [], length, unwrap_or};
-ghost use Rattle.cvss_vector.specs.Answers.{rating_by, score_of_tenths};
+ghost use Rattle.cvss_vector.specs.Answers.{severity_by, score_of_tenths};
 ghost use Rattle.cvss_base.specs.SeverityText.{text_of as severity_text};
 ghost use Rattle.cvss_explain.specs.private.Values.{members_view, part_member, part_room, value_room, value_text};
 ghost use Rattle.cvss_json_write.specs.Json.{object_text};
@@ -127,7 +127,7 @@ fn put_scalars(page: &mut Page, members: &[Member<'_>])
 #[inline(never)]
 #[tactic(auto, using(crate::proofs::ShortLemmas::severity_short))]
 pub(crate) fn severity(cvss: &Cvss, tenths: u8) -> &'static str
-    ensures text { result.now ≡ severity_text (rating_by cvss.now (score_of_tenths tenths)) }
+    ensures text { result.now ≡ severity_text (severity_by cvss.now (score_of_tenths tenths)) }
     ensures short { length result.now ≤ 8 }
 {
     cvss.severity_of(i128::from(tenths) * TENTH).as_str()

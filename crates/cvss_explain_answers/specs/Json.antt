@@ -8,7 +8,7 @@ use Rattle.cvss_vector.specs.Reasons.{reason_text}
 use Rattle.cvss_vector.specs.declared.bytes_error.BytesError.{BytesError}
 use Rattle.cvss_vector.specs.declared.metric_type.MetricType.{MetricType}
 use Rattle.cvss_vector.specs.declared.vector.Cvss.{Cvss}
-use Rattle.cvss_base.specs.Refusal.{Missing}
+use Rattle.cvss_base.specs.Rejection.{Missing}
 use Rattle.cvss_explain.specs.Explanation.{IsExplanationText}
 use Rattle.cvss_lines.specs.Answers.{Rule, by_one_text}
 use Rattle.cvss_json_tree.specs.Texts.{IsTextOf}
@@ -25,8 +25,8 @@ abbrev pub given_members : List ℕ → List Member
 given_members line = if is_utf8 line then (codes "given", string line) ∷ [] else []
 
 -- the object for a line that is rejected: the line, its number, and the reason
-abbrev pub refusal_value : ℕ → List ℕ → List ℕ → Data
-refusal_value number line reason =
+abbrev pub rejection_value : ℕ → List ℕ → List ℕ → Data
+rejection_value number line reason =
     object_of (given_members line ++ (line_member number ∷ (codes "error", string reason) ∷ []))
 
 -- the line is a text that denotes a vector, which lacks no base metric unless it may, and the answer explains its score
@@ -38,10 +38,10 @@ pub record IsAcceptance (allow_incomplete : Bool) (number : ℕ) (line text : Li
   pub explains : IsExplanationText (Some number) cvss text
 
 -- the line is no text, or a text that is no vector, and the object says the first reason
-pub record IsRefusal (number : ℕ) (line text : List ℕ) : Type 0 where
+pub record IsRejection (number : ℕ) (line text : List ℕ) : Type 0 where
   pub error : BytesError
   pub reported : ReportsWhyNot line error
-  pub is_text : IsTextOf (refusal_value number line (bytes_error_text error)) text
+  pub is_text : IsTextOf (rejection_value number line (bytes_error_text error)) text
 
 -- the line is a text that denotes a vector which lacks base metrics, and the object says the first of them
 pub record IsIncomplete (allow_incomplete : Bool) (number : ℕ) (line text : List ℕ) : Type 0 where
@@ -50,7 +50,7 @@ pub record IsIncomplete (allow_incomplete : Bool) (number : ℕ) (line text : Li
   pub denoted : DenotesCvss line cvss
   pub metric : MetricType
   pub missing : missing_by allow_incomplete cvss ≡ Some metric
-  pub is_text : IsTextOf (refusal_value number line (reason_text (Missing metric))) text
+  pub is_text : IsTextOf (rejection_value number line (reason_text (Missing metric))) text
 
 -- the text of an object, with the file as its first member where answers have a prefix
 abbrev pub in_file : List ℕ → List ℕ → List ℕ
@@ -68,4 +68,4 @@ pub record IsInFile (prefix : List ℕ) (IsOwn : List ℕ → Type 0) (text : Li
 abbrev pub IsAnswer : Bool → List ℕ → Rule
 IsAnswer allow_incomplete prefix =
     by_one_text (λ number line. IsInFile prefix (IsAcceptance allow_incomplete number line))
-    (λ number line. IsInFile prefix (λ own. IsRefusal number line own ⊎ IsIncomplete allow_incomplete number line own))
+    (λ number line. IsInFile prefix (λ own. IsRejection number line own ⊎ IsIncomplete allow_incomplete number line own))

@@ -2,7 +2,7 @@
 use Rattle.std.specs.Prelude.{◌≡◌, ◌*◌, ℕ, List, [], ◌∷◌, ◌++◌, codes, flat_map, pos}
 use Rattle.std.specs.Option.{option_map_or}
 use Rattle.cvss_vector.specs.Answers.{score_of_tenths}
-use Rattle.cvss_base.specs.Rating.{rating_of_score}
+use Rattle.cvss_base.specs.SeverityScale.{severity_of_score}
 use Rattle.cvss_base.specs.V3Types.{description_of}
 use Rattle.cvss_base.specs.declared.v3.MetricType.{MetricType}
 use Rattle.cvss_explain.specs.NumbersV3.{AreBaseNumbers, AreEnvironmentalNumbers, AreTemporalNumbers}
@@ -29,7 +29,7 @@ weight_text vector kind = option_map_or (λ weight. decimal_text (pos (weight * 
 abbrev pub scored_rows : List ℕ → Scored → List Row
 scored_rows title scored =
     (codes "Before rounding", decimal_text scored.number)
-    ∷ (title, rated_text scored.score (rating_of_score (score_of_tenths scored.score)))
+    ∷ (title, rated_text scored.score (severity_of_score (score_of_tenths scored.score)))
     ∷ []
 
 abbrev pub base_rows : BaseNumbers → List Row

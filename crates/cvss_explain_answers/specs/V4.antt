@@ -3,7 +3,7 @@ use Rattle.std.specs.Prelude.{◌≡◌, ◌-◌, ◌==◌, ◌&&◌, ◌||◌, 
 use Rattle.std.specs.Fmt.{decimal}
 use Rattle.std.specs.Option.{option_map_or}
 use Rattle.cvss_vector.specs.Answers.{score_of_tenths}
-use Rattle.cvss_base.specs.Rating.{rating_of_score}
+use Rattle.cvss_base.specs.SeverityScale.{severity_of_score}
 use Rattle.cvss_base.specs.V4Types.{description_of, name_of}
 use Rattle.cvss_base.specs.Version.{held}
 use Rattle.cvss_base.specs.declared.v4.MetricType.{MetricType}
@@ -107,7 +107,7 @@ group_rows explanation (Some groups) =
 -- the row of a score by a nomenclature
 abbrev pub score_row : Nomenclature → ℕ → Row
 score_row nomenclature tenths =
-    (nomenclature_text nomenclature ++ codes " score", rated_text tenths (rating_of_score (score_of_tenths tenths)))
+    (nomenclature_text nomenclature ++ codes " score", rated_text tenths (severity_of_score (score_of_tenths tenths)))
 
 -- the way from the value of the class to the score
 abbrev pub numbers_rows : Vector → Explanation → ℕ → List Row

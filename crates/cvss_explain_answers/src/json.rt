@@ -4,9 +4,9 @@ ghost use Rattle.std.specs.Prelude.{◌≡◌, ◌++◌, IfOk, OnOk, Some, drop}
 ghost use Rattle.std.specs.String.{string_bytes};
 ghost use Rattle.cvss_vector.specs.Answers.{HasScore};
 ghost use Rattle.cvss_vector.specs.Reasons.{reason_text};
-ghost use Rattle.cvss_base.specs.Refusal.{Missing};
+ghost use Rattle.cvss_base.specs.Rejection.{Missing};
 ghost use Rattle.cvss_explain.specs.Explanation.{IsExplanationText};
-ghost use Rattle.cvss_explain_answers.specs.Json.{IsAnswer, IsInFile, given_members, in_file, refusal_value};
+ghost use Rattle.cvss_explain_answers.specs.Json.{IsAnswer, IsInFile, given_members, in_file, rejection_value};
 ghost use Rattle.cvss_explain_answers.specs.private.Writing.{WritesLine};
 ghost use Rattle.cvss_json_tree.specs.Objects.{with_members};
 ghost use Rattle.cvss_json_tree.specs.Texts.{IsTextOf};
@@ -51,13 +51,13 @@ impl Answering for Explaining<'_> {
                 }
                 Some(metric) => {
                     let missing = missing_text(alloc, metric)?;
-                    write_refusal(alloc, self.prefix, number, line, missing, answers)?;
+                    write_rejection(alloc, self.prefix, number, line, missing, answers)?;
                     Ok(false)
                 }
             },
             Err(error) => {
                 let reason = error.to_string(alloc)?;
-                write_refusal(alloc, self.prefix, number, line, reason, answers)?;
+                write_rejection(alloc, self.prefix, number, line, reason, answers)?;
                 Ok(false)
             }
         }
@@ -121,7 +121,7 @@ fn missing_text(alloc: Global, metric: MetricType) -> Result<String, AllocError>
 }
 
 /// Writes why a line is rejected, with the file, and a byte 10.
-fn write_refusal(
+fn write_rejection(
     alloc: Global,
     prefix: &[u8],
     number: u64,
@@ -130,7 +130,7 @@ fn write_refusal(
     answers: &mut OutputBuffer,
 ) -> Result<(), AllocError>
     ensures { OnOk result (WritesLine
-        (IsInFile prefix.now (IsTextOf (refusal_value number line.now (string_bytes reason))))
+        (IsInFile prefix.now (IsTextOf (rejection_value number line.now (string_bytes reason))))
         answers.old.bytes.items answers.new.bytes.items) }
 {
     let mut members = Map::new(alloc);

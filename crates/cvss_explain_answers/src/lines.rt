@@ -2,7 +2,7 @@
 
 ghost use Rattle.std.specs.Prelude.{◌≡◌, ◌-◌, ◌≤◌, ◌++◌, OnOk, if◌then◌else◌, [], codes, length, map, take};
 ghost use Rattle.cvss_vector.specs.Answers.{score_of_tenths};
-ghost use Rattle.cvss_base.specs.Rating.{rating_of_score};
+ghost use Rattle.cvss_base.specs.SeverityScale.{severity_of_score};
 ghost use Rattle.cvss_base.specs.Text.{component};
 ghost use Rattle.cvss_explain.specs.V4.{digits};
 ghost use Rattle.cvss_explain_answers.specs.Lines.{blanks, padded, row_line, rows_text, spoken, spoken_byte, ways_text};
@@ -205,7 +205,7 @@ fn write_levels(name: &str, levels: &[u8], answers: &mut OutputBuffer) -> Result
 
 /// A score of so many tenths with its severity, since CVSS v3.
 pub(crate) fn rated(tenths: u8) -> Amount<'static>
-    ensures { result ≡ Rated tenths (rating_of_score (score_of_tenths tenths)) }
+    ensures { result ≡ Rated tenths (severity_of_score (score_of_tenths tenths)) }
 {
     Amount::Rated(tenths, severity_of_score(i128::from(tenths) * TENTH))
 }

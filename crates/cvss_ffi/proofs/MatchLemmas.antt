@@ -1,11 +1,11 @@
 -- What a loop of calls finds.
 use Rattle.std.proofs.Common.{ℕ, List, [], ◌∷◌}
-use Rattle.cvss_scan.specs.Mentions.{AreFound, Placed}
-use Rattle.cvss_scan.specs.MentionsLeft.{mentions_after}
+use Rattle.cvss_scan.specs.Matches.{AreFound, Placed}
+use Rattle.cvss_scan.specs.CandidatesLeft.{candidates_after}
 use Rattle.cvss_scan.proofs.FoundLemmas.{AreFound-first, AreFound-none}
 use Rattle.cvss_ffi.specs.Matches.{AreFoundInTurn}
 
-pub found_in_turn : (text : List ℕ) (from : ℕ) (found : List Placed) → AreFoundInTurn text from found → AreFound (mentions_after text from) found
-found_in_turn text from [] none = AreFound-none (mentions_after text from) none
+pub found_in_turn : (text : List ℕ) (from : ℕ) (found : List Placed) → AreFoundInTurn text from found → AreFound (candidates_after text from) found
+found_in_turn text from [] none = AreFound-none (candidates_after text from) none
 found_in_turn text from (one ∷ more) (next, first, rest) =
-    AreFound-first (mentions_after text from) (mentions_after text next) one more first (found_in_turn text next more rest)
+    AreFound-first (candidates_after text from) (candidates_after text next) one more first (found_in_turn text next more rest)

@@ -1,4 +1,4 @@
--- What is told of a text: something of the vector that it denotes, or that it is rejected.
+-- What is reported of a text: something of the vector that it denotes, or that it is rejected.
 use Rattle.std.specs.Prelude.{◌≡◌, ◌⊎◌, ℕ, Bool, bit_and, List, nat_eq, None, not}
 use Rattle.cvss_vector.specs.Complete.{missing_by}
 use Rattle.cvss_vector.specs.Dispatch.{DenotesCvss}

@@ -1,7 +1,7 @@
--- How a rejection is told: its message, and in a struct the number of its kind, the index of the metric that is rejected,
+-- How a rejection is reported: its message, and in a struct the number of its kind, the index of the metric that is rejected,
 -- the abbreviation of the metric that the message names, and where the message quotes a part of the text.
 use Rattle.std.specs.Prelude.{ℕ, ℤ, pos, List, [], ◌++◌, codes, length, Option, None, Some}
-use Rattle.cvss_base.specs.Refusal.{Refusal, BadComponent, WrongPrefix, WrongVersion, UnknownName, BadValue, Repeated, Missing}
+use Rattle.cvss_base.specs.Rejection.{Rejection, BadComponent, WrongPrefix, WrongVersion, UnknownName, BadValue, Repeated, Missing}
 use Rattle.cvss_vector.specs.MetricTypes.{name_of, words_of}
 use Rattle.cvss_vector.specs.Reasons.{not_utf8_text, reason_text}
 use Rattle.cvss_vector.specs.declared.metric_type.MetricType.{MetricType}
@@ -10,7 +10,7 @@ use Rattle.cvss_ffi.specs.Scores.{nothing}
 use Rattle.cvss_ffi.specs.declared.error.CvssError.{CvssError}
 
 -- the number of a reason's kind
-abbrev pub kind_number : Refusal MetricType → ℤ
+abbrev pub kind_number : Rejection MetricType → ℤ
 kind_number (BadComponent _) = pos 1
 kind_number (WrongPrefix _) = pos 2
 kind_number (WrongVersion _) = pos 3
@@ -20,14 +20,14 @@ kind_number (Repeated _) = pos 6
 kind_number (Missing _) = pos 7
 
 -- the abbreviation of the metric that a message names, if it names one
-abbrev pub named_metric : Refusal MetricType → List ℕ
+abbrev pub named_metric : Rejection MetricType → List ℕ
 named_metric (BadValue metric _) = name_of metric
 named_metric (Repeated metric) = name_of metric
 named_metric (Missing metric) = name_of metric
 named_metric _ = []
 
 -- the part of a text that a message quotes, if it quotes one
-abbrev pub quoted_part : Refusal MetricType → List ℕ
+abbrev pub quoted_part : Rejection MetricType → List ℕ
 quoted_part (BadComponent component) = component
 quoted_part (WrongPrefix prefix) = prefix
 quoted_part (WrongVersion version) = version
@@ -36,7 +36,7 @@ quoted_part (BadValue _ value) = value
 quoted_part _ = []
 
 -- what stands in a message before the part that it quotes; nothing, where it quotes none
-abbrev pub before_quoted : Refusal MetricType → List ℕ
+abbrev pub before_quoted : Rejection MetricType → List ℕ
 before_quoted (BadComponent _) = codes "invalid CVSS metric group component: `"
 before_quoted (WrongPrefix _) = codes "invalid CVSS string prefix: `"
 before_quoted (WrongVersion _) = codes "unsupported CVSS version: "
@@ -44,8 +44,8 @@ before_quoted (UnknownName _) = codes "unknown CVSS metric name: `"
 before_quoted (BadValue metric _) = codes "invalid " ++ (words_of metric ++ codes ": `")
 before_quoted _ = []
 
--- a rejection as it is told
-pub record Told : Type 0 where
+-- a rejection as it is reported
+pub record Report : Type 0 where
   pub kind : ℤ
   pub index : ℤ
   pub metric : List ℕ
@@ -59,8 +59,8 @@ index_number None = nothing
 index_number (Some index) = pos index
 
 -- a rejection for a reason, with such an index
-abbrev pub told_at : ℤ → Refusal MetricType → Told
-told_at index reason = record {
+abbrev pub report_at : ℤ → Rejection MetricType → Report
+report_at index reason = record {
   kind = kind_number reason;
   index = index;
   metric = named_metric reason;
@@ -70,35 +70,35 @@ told_at index reason = record {
 }
 
 -- the same; of metrics, with the index of the one that is rejected
-abbrev pub told_of : Option ℕ → Refusal MetricType → Told
-told_of index reason = told_at (index_number index) reason
+abbrev pub report_of : Option ℕ → Rejection MetricType → Report
+report_of index reason = report_at (index_number index) reason
 
 -- a rejection whose message names no metric and quotes nothing
-abbrev pub told_plainly : ℤ → List ℕ → Told
-told_plainly kind message = record { kind = kind; index = nothing; metric = []; message = message; quoted_start = 0; quoted = [] }
+abbrev pub reported_plainly : ℤ → List ℕ → Report
+reported_plainly kind message = record { kind = kind; index = nothing; metric = []; message = message; quoted_start = 0; quoted = [] }
 
 -- that of a text, or of metrics, that are not UTF-8
-abbrev pub not_utf8 : Told
-not_utf8 = told_plainly (pos 8) not_utf8_text
+abbrev pub not_utf8 : Report
+not_utf8 = reported_plainly (pos 8) not_utf8_text
 
 -- that of a number that is none of a version
-abbrev pub no_version : Told
-no_version = told_plainly (pos 3) (codes "unsupported CVSS version")
+abbrev pub no_version : Report
+no_version = reported_plainly (pos 3) (codes "unsupported CVSS version")
 
 -- how many bytes an error has
 abbrev pub error_size : ℕ
 error_size = 40
 
 -- a rejection, and that there is none, in a struct of such a size
-abbrev pub error_of : ℕ → Told → CvssError
-error_of size told = record {
+abbrev pub error_of : ℕ → Report → CvssError
+error_of size reported = record {
   size = size;
-  kind = told.kind;
-  index = told.index;
+  kind = reported.kind;
+  index = reported.index;
   reserved = pos 0;
-  metric = padded told.metric;
-  quoted_start = told.quoted_start;
-  quoted_length = length told.quoted;
+  metric = padded reported.metric;
+  quoted_start = reported.quoted_start;
+  quoted_length = length reported.quoted;
 }
 
 abbrev pub no_error : ℕ → CvssError

@@ -1,13 +1,13 @@
 -- The scores of a vector as C sees them: whole tenths, and numbers for versions, severities and nomenclatures.
 use Rattle.std.specs.Prelude.{◌≡◌, ◌≢◌, ◌⊎◌, ◌*ℤ◌, ◌^◌, ℕ, ℤ, pos, negsuc, List, [], ◌∷◌, None}
-use Rattle.cvss_base.specs.Rating.{rating_of_score}
+use Rattle.cvss_base.specs.SeverityScale.{severity_of_score}
 use Rattle.cvss_base.specs.Tenths.{IsFromZeroToTen}
 use Rattle.cvss_base.specs.declared.severity.Severity.{Severity}
 use Rattle.cvss_base.specs.declared.severity.Severity.TheVariants as severity
 use Rattle.cvss_score.specs.declared.v4.nomenclature.Nomenclature.{Nomenclature}
 use Rattle.cvss_score.specs.declared.v4.nomenclature.Nomenclature.TheVariants.{CvssB, CvssBE, CvssBT, CvssBTE}
-use Rattle.cvss_score.specs.v2.Rating.{rating_of}
-use Rattle.cvss_vector.specs.Answers.{rating_by}
+use Rattle.cvss_score.specs.v2.SeverityScale.{severity_of}
+use Rattle.cvss_vector.specs.Answers.{severity_by}
 use Rattle.cvss_vector.specs.Complete.{first_missing}
 use Rattle.cvss_vector.specs.Evaluation.{IsGroupScore, IsOverallScore}
 use Rattle.cvss_vector.specs.declared.group.Group.{Group}
@@ -68,7 +68,7 @@ IsReportedScore cvss group tenths = IsScoreInTenths (IsGroupScore cvss group) te
 -- so many tenths are a score of the vector, and this is the number of its severity
 pub record IsRatedScore (cvss : Cvss) (IsCount : ℤ → Type 0) (tenths severity : ℤ) : Type 0 where
   pub score : IsScoreInTenths IsCount tenths
-  pub severity_is : severity ≡ severity_number (rating_by cvss (count_of tenths))
+  pub severity_is : severity ≡ severity_number (severity_by cvss (count_of tenths))
 
 -- the same of the score of a group of metrics; nothing, where the version has none
 abbrev pub IsRatedGroup : Cvss → Group → ℤ → ℤ → Type 0
@@ -97,21 +97,21 @@ AreScoresByOf cvss scores = scores ≡ nothing ∷ nothing ∷ nothing ∷ nothi
 abbrev pub IsFlag : ℤ → Type 0 → Type 0
 IsFlag flag Holds = ((flag ≡ pos 1) × Holds) ⊎ ((flag ≡ pos 0) × ¬ Holds)
 
--- how many bytes what is told of a vector has
+-- how many bytes what is reported of a vector has
 abbrev pub vector_size : ℕ
 vector_size = 64
 
--- all that is told of a vector, in a struct of such a size
-pub record IsToldOf (size : ℕ) (cvss : Cvss) (told : CvssVector) : Type 0 where
-  pub size_is : told.size ≡ size
-  pub version_is : told.version ≡ version_number cvss
-  pub overall : IsRatedScore cvss (IsOverallScore cvss) told.score told.severity
-  pub base : IsRatedGroup cvss Base told.base told.base_severity
-  pub temporal : IsRatedGroup cvss Temporal told.temporal told.temporal_severity
-  pub environmental : IsRatedGroup cvss Environmental told.environmental told.environmental_severity
-  pub nomenclature_is : told.nomenclature ≡ nomenclature_of_any cvss
-  pub by_nomenclature : AreScoresByOf cvss told.by_nomenclature
-  pub is_complete : IsFlag told.is_complete (first_missing cvss ≡ None)
+-- all that is reported of a vector, in a struct of such a size
+pub record IsReportOf (size : ℕ) (cvss : Cvss) (reported : CvssVector) : Type 0 where
+  pub size_is : reported.size ≡ size
+  pub version_is : reported.version ≡ version_number cvss
+  pub overall : IsRatedScore cvss (IsOverallScore cvss) reported.score reported.severity
+  pub base : IsRatedGroup cvss Base reported.base reported.base_severity
+  pub temporal : IsRatedGroup cvss Temporal reported.temporal reported.temporal_severity
+  pub environmental : IsRatedGroup cvss Environmental reported.environmental reported.environmental_severity
+  pub nomenclature_is : reported.nomenclature ≡ nomenclature_of_any cvss
+  pub by_nomenclature : AreScoresByOf cvss reported.by_nomenclature
+  pub is_complete : IsFlag reported.is_complete (first_missing cvss ≡ None)
 
 -- the version is 3.0, 3.1 or 4.0
 abbrev pub IsSinceV3 : ℤ → Type 0
@@ -119,7 +119,7 @@ IsSinceV3 version = (version ≡ pos 30) ⊎ ((version ≡ pos 31) ⊎ (version 
 
 -- the number of the severity of so many tenths by the bounds of a version; nothing of another version, or of other tenths
 pub record IsSeverityNumber (version tenths number : ℤ) : Type 0 where
-  pub of_v2 : version ≡ pos 20 → IsFromZeroToTen tenths → number ≡ severity_number (rating_of (count_of tenths))
-  pub since_v3 : IsSinceV3 version → IsFromZeroToTen tenths → number ≡ severity_number (rating_of_score (count_of tenths))
+  pub of_v2 : version ≡ pos 20 → IsFromZeroToTen tenths → number ≡ severity_number (severity_of (count_of tenths))
+  pub since_v3 : IsSinceV3 version → IsFromZeroToTen tenths → number ≡ severity_number (severity_of_score (count_of tenths))
   pub no_version : version ≢ pos 20 → ¬ (IsSinceV3 version) → number ≡ nothing
   pub no_score : ¬ (IsFromZeroToTen tenths) → number ≡ nothing

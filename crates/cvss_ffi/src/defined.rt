@@ -3,11 +3,11 @@
 ghost use Rattle.std.specs.Prelude.{◌≡◌, ◌↔◌, IsTrue};
 ghost use Rattle.std.specs.Option.{option_copied};
 ghost use Rattle.cvss_ffi.specs.Defined.{HasNoneDefined, IsTextWithout, IsWithout, IsWithoutNotDefined, defined_in};
-ghost use Rattle.cvss_ffi.specs.Calls.{IsAnswerTo, Tells};
+ghost use Rattle.cvss_ffi.specs.Calls.{IsAnswerTo, Returns};
 
 use crate::error::CvssError;
 use crate::reading::read;
-use crate::rejection::{Rejection, reject, write_vector};
+use crate::rejection::{NoVector, reject, write_vector};
 use cvss_json_record::spelled;
 use cvss_text::print::Printed;
 use cvss_text::setting::completed;
@@ -21,12 +21,12 @@ pub fn without_not_defined(
     error: &mut CvssError,
     buffer: &mut [u8],
 ) -> usize
-    ensures { Tells (IsAnswerTo flags text.now IsTextWithout) error.old error.new
+    ensures { Returns (IsAnswerTo flags text.now IsTextWithout) error.old error.new
         buffer.old buffer.new result }
 {
     match read(text, flags) {
         Ok(cvss) => write_vector(&without(&cvss), error, buffer),
-        Err(why) => reject(Rejection::Text(why), error, buffer),
+        Err(why) => reject(NoVector::Text(why), error, buffer),
     }
 }
 

@@ -2,7 +2,7 @@
 
 ghost use Rattle.std.specs.Prelude.{◌≡◌, ◌≤◌, ◌<◌, ◌+◌, ◌^◌, [], ◌∷◌, length, pos, Ok};
 ghost use Rattle.cvss_ffi.specs.Buffer.{IsFilled, IsWritten};
-ghost use Rattle.cvss_ffi.specs.Calls.{IsTold};
+ghost use Rattle.cvss_ffi.specs.Calls.{IsReturned};
 ghost use Rattle.cvss_ffi.specs.Errors.{error_size, no_error};
 
 use crate::buffer::write;
@@ -58,7 +58,7 @@ pub(crate) fn accept(error: &mut CvssError)
 
 /// Writes a result, and that there is one.
 pub(crate) fn write_result(text: &[u8], error: &mut CvssError, buffer: &mut [u8]) -> usize
-    ensures { IsTold (Ok text.now) error.old error.new buffer.old buffer.new result }
+    ensures { IsReturned (Ok text.now) error.old error.new buffer.old buffer.new result }
 {
     accept(error);
     write(text, buffer)

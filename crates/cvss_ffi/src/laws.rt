@@ -1,8 +1,8 @@
 //! Laws of the calls, each the contract of a function that does nothing.
 
 ghost use Rattle.std.specs.Prelude.{◌≡◌, ℕ, List, codes, drop, length, take};
-ghost use Rattle.cvss_base.specs.Refusal.{Refusal};
-ghost use Rattle.cvss_scan.specs.Mentions.{AreFound, Placed, mentions_of};
+ghost use Rattle.cvss_base.specs.Rejection.{Rejection};
+ghost use Rattle.cvss_scan.specs.Matches.{AreFound, Placed, candidates_of};
 ghost use Rattle.cvss_vector.specs.Reasons.{reason_text};
 ghost use Rattle.cvss_vector.specs.declared.metric_type.MetricType.{MetricType};
 ghost use Rattle.cvss_vector.specs.v4.Merging.{effective_of};
@@ -24,7 +24,7 @@ use crate::CvssMetric;
 /// Where an error says that a message quotes a part of the text, the message has that part.
 #[tactic(auto, using(crate::proofs::MessageLemmas::quoted_in))]
 pub fn quoted_parts_are_in_messages()
-    ensures { (reason : Refusal MetricType)
+    ensures { (reason : Rejection MetricType)
         → take (length (quoted_part reason)) (drop (length (before_quoted reason)) (reason_text reason))
         ≡ quoted_part reason }
 {}
@@ -33,7 +33,7 @@ pub fn quoted_parts_are_in_messages()
 #[tactic(auto, using(crate::proofs::MatchLemmas::found_in_turn))]
 pub fn calls_find_each_match()
     ensures { (text : List ℕ) (found : List Placed) → AreFoundInTurn text 0 found
-        → AreFound (mentions_of text) found }
+        → AreFound (candidates_of text) found }
 {}
 
 /// A vector that has the defined metrics of another, and no others, has the other's weights, and in CVSS

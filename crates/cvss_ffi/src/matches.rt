@@ -5,7 +5,7 @@ ghost use Rattle.cvss_ffi.specs.Buffer.{PutsFilled};
 ghost use Rattle.cvss_ffi.specs.Matches.{IsMatchFrom, match_size};
 
 use crate::buffer::put;
-use cvss_scan::Mentions;
+use cvss_scan::Matches;
 
 /// A match of a vector in a text, and the state of a loop of calls that finds each.
 #[derive(Drop)]
@@ -42,11 +42,11 @@ pub fn find(text: &[u8], found: &mut CvssMatch) -> bool
 fn first_match(text: &[u8], from: usize, size: u32) -> Option<CvssMatch>
     ensures { IsMatchFrom text.now from size result }
 {
-    let (mention, next) = Mentions::first_after(text, from)?;
+    let (found, next) = Matches::first_after(text, from)?;
     Some(CvssMatch {
         size,
         next,
-        offset: mention.place,
-        length: mention.text.len(),
+        offset: found.place,
+        length: found.text.len(),
     })
 }

@@ -1,7 +1,7 @@
 //! Numbers for versions, severities and nomenclatures.
 
 ghost use Rattle.std.specs.Prelude.{◌≡◌, ◌≤◌, pos};
-ghost use Rattle.cvss_score.specs.v2.Rating.{rating_of};
+ghost use Rattle.cvss_score.specs.v2.SeverityScale.{severity_of};
 ghost use Rattle.cvss_ffi.specs.Scores.{IsSeverityNumber, nomenclature_of_any, severity_number as number_of_severity, version_number as number_of_version};
 
 use cvss_base::{Severity, TENTH, severity_of_score};
@@ -47,7 +47,7 @@ fn severity_of_tenths(version: i32, tenths: u8) -> i32
 }
 
 fn severity_of_v2(score: i128) -> Severity
-    ensures { result ≡ rating_of score }
+    ensures { result ≡ severity_of score }
 {
     v2::Score::new(score).severity()
 }

@@ -5,10 +5,10 @@ ghost use Rattle.cvss_vector.specs.Answers.{HasScore};
 ghost use Rattle.cvss_vector.specs.Complete.{IsReadErrorBy};
 ghost use Rattle.cvss_ffi.specs.Accepted.{IsRejected, IsVectorOf, may_lack};
 ghost use Rattle.cvss_ffi.specs.Calls.{IsWhy};
-ghost use Rattle.cvss_ffi.specs.declared.rejection.Rejection.TheVariants.{Text};
-ghost use Rattle.cvss_ffi.specs.private.Rejection.{told};
+ghost use Rattle.cvss_ffi.specs.declared.rejection.NoVector.TheVariants.{Text};
+ghost use Rattle.cvss_ffi.specs.private.Rejection.{reported};
 
-use cvss_vector::{Cvss, ReadError, Refusal};
+use cvss_vector::{Cvss, ReadError, Rejection};
 
 /// Whether vectors of CVSS v3 may lack base metrics.
 #[inline(always)]
@@ -26,11 +26,11 @@ pub(crate) fn read(text: &[u8], flags: u32) -> Result<Cvss, ReadError<'_>>
     ensures utf8 { OnOk result (IsUtf8 text.now) }
     ensures rejected { IfErr result (λ _. IsRejected flags text.now) }
     ensures error { IfErr result (IsReadErrorBy (may_lack flags) text.now) }
-    ensures why { IfErr result (λ error. IsWhy flags text.now (told (Text error))) }
+    ensures why { IfErr result (λ error. IsWhy flags text.now (reported (Text error))) }
 {
     let cvss = Cvss::read(text)?;
     match cvss.missing_by(may_lack(flags)) {
-        Some(metric) => Err(ReadError::Invalid(Refusal::Missing(metric))),
+        Some(metric) => Err(ReadError::Invalid(Rejection::Missing(metric))),
         None => Ok(cvss),
     }
 }

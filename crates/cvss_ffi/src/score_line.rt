@@ -2,7 +2,7 @@
 
 ghost use Rattle.std.specs.Prelude.{◌≡◌, ◌≤◌, ◌<◌, ◌^◌, ◌++◌, ℕ, List, length};
 ghost use Rattle.cvss_base.specs.SeverityText.{text_of as severity_text};
-ghost use Rattle.cvss_vector.specs.Answers.{HasScore, rating_by, score_of_tenths, text_of as canonical_text, vector_answer};
+ghost use Rattle.cvss_vector.specs.Answers.{HasScore, severity_by, score_of_tenths, text_of as canonical_text, vector_answer};
 ghost use Rattle.cvss_vector.specs.Evaluation.{IsOverallScore};
 ghost use Rattle.cvss_ffi.specs.Buffer.{IsWritten, Writes};
 ghost use Rattle.cvss_ffi.specs.ScoreLines.{IsScoreLine};
@@ -61,7 +61,7 @@ fn write_line_of(cvss: &Cvss, text_length: usize, end: &[u8], buffer: &mut [u8])
 /// The severity of a score of so many tenths, by the version of the vector.
 fn severity_of(cvss: &Cvss, tenths: u8) -> &'static str
     requires { tenths ≤ 100 }
-    ensures { result.now ≡ severity_text (rating_by cvss.now (score_of_tenths tenths)) }
+    ensures { result.now ≡ severity_text (severity_by cvss.now (score_of_tenths tenths)) }
 {
     cvss.severity_of(i128::from(tenths) * TENTH).as_str()
 }

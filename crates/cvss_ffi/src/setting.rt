@@ -1,22 +1,22 @@
 //! Metrics that are set in a vector, and vectors that are made of metrics. It takes no memory.
 
 ghost use Rattle.std.specs.Prelude.{◌≡◌, ◌≤◌, IfErr, IfNone, IfOk, IfSome, None, Some};
-ghost use Rattle.cvss_base.specs.Refusal as spec;
+ghost use Rattle.cvss_base.specs.Rejection as spec;
 ghost use Rattle.cvss_base.specs.V4Types.{most_metrics};
 ghost use Rattle.cvss_vector.specs.Complete.{missing_by as lacks_by};
-ghost use Rattle.cvss_vector.specs.Refusals.{refusal_of};
+ghost use Rattle.cvss_vector.specs.Rejections.{rejection_of};
 ghost use Rattle.cvss_vector.specs.declared.metric_type.MetricType.{MetricType};
 ghost use Rattle.cvss_vector.specs.declared.setting.Version as version;
 ghost use Rattle.cvss_ffi.specs.Accepted.{may_lack as is_allowed};
-ghost use Rattle.cvss_ffi.specs.Calls.{Tells};
-ghost use Rattle.cvss_ffi.specs.Errors.{told_of};
+ghost use Rattle.cvss_ffi.specs.Calls.{Returns};
+ghost use Rattle.cvss_ffi.specs.Errors.{report_of};
 ghost use Rattle.cvss_ffi.specs.Setting.{MakesVector, SetsMetrics, number_of};
-ghost use Rattle.cvss_ffi.specs.private.Rejection.{answered, told};
+ghost use Rattle.cvss_ffi.specs.private.Rejection.{answered, reported};
 
 use crate::error::CvssError;
 use crate::reading::may_lack;
-use crate::rejection::{Rejection, write_new};
-use cvss_vector::{Cvss, ReadError, Refusal, SetError, Version};
+use crate::rejection::{NoVector, write_new};
+use cvss_vector::{Cvss, ReadError, Rejection, SetError, Version};
 
 /// Writes the canonical text of the vector that a text denotes with metrics set, or why there is none.
 pub fn with_metrics(
@@ -26,7 +26,7 @@ pub fn with_metrics(
     error: &mut CvssError,
     buffer: &mut [u8],
 ) -> usize
-    ensures { Tells (SetsMetrics flags text.now metrics.now) error.old error.new
+    ensures { Returns (SetsMetrics flags text.now metrics.now) error.old error.new
         buffer.old buffer.new result }
 {
     write_new(vector_with(text, metrics, flags), error, buffer)
@@ -40,7 +40,7 @@ pub fn from_metrics(
     error: &mut CvssError,
     buffer: &mut [u8],
 ) -> usize
-    ensures { Tells (MakesVector flags version metrics.now) error.old error.new
+    ensures { Returns (MakesVector flags version metrics.now) error.old error.new
         buffer.old buffer.new result }
 {
     write_new(vector_of(version, metrics, flags), error, buffer)
@@ -48,15 +48,15 @@ pub fn from_metrics(
 
 /// The vector that a text denotes with metrics set, or why there is none. Only the new vector has to be
 /// complete.
-fn vector_with<'a>(text: &'a [u8], metrics: &'a [u8], flags: u32) -> Result<Cvss, Rejection<'a>>
+fn vector_with<'a>(text: &'a [u8], metrics: &'a [u8], flags: u32) -> Result<Cvss, NoVector<'a>>
     ensures { SetsMetrics flags text.now metrics.now (answered result) }
 {
     let cvss = match Cvss::read(text) {
         Ok(cvss) => cvss,
-        Err(error) => return Err(Rejection::Text(error)),
+        Err(error) => return Err(NoVector::Text(error)),
     };
     let Ok(metrics) = str::from_utf8(metrics) else {
-        return Err(Rejection::Text(ReadError::NotUtf8));
+        return Err(NoVector::Text(ReadError::NotUtf8));
     };
     match cvss.with_metrics(metrics) {
         Ok(new) => completed(new, flags),
@@ -65,14 +65,14 @@ fn vector_with<'a>(text: &'a [u8], metrics: &'a [u8], flags: u32) -> Result<Cvss
 }
 
 /// The vector of a version that metrics make, or why they make none.
-fn vector_of(version: i32, metrics: &[u8], flags: u32) -> Result<Cvss, Rejection<'_>>
+fn vector_of(version: i32, metrics: &[u8], flags: u32) -> Result<Cvss, NoVector<'_>>
     ensures { MakesVector flags version metrics.now (answered result) }
 {
     let Some(version) = version_of(version) else {
-        return Err(Rejection::NoVersion);
+        return Err(NoVector::NoVersion);
     };
     let Ok(metrics) = str::from_utf8(metrics) else {
-        return Err(Rejection::Text(ReadError::NotUtf8));
+        return Err(NoVector::Text(ReadError::NotUtf8));
     };
     match Cvss::build(version, metrics) {
         Ok(new) => completed(new, flags),
@@ -81,26 +81,26 @@ fn vector_of(version: i32, metrics: &[u8], flags: u32) -> Result<Cvss, Rejection
 }
 
 /// The vector, unless it lacks base metrics and may not.
-fn completed<'a>(cvss: Cvss, flags: u32) -> Result<Cvss, Rejection<'a>>
+fn completed<'a>(cvss: Cvss, flags: u32) -> Result<Cvss, NoVector<'a>>
     ensures accepted { IfOk result (λ new. (new ≡ cvss) × (lacks_by (is_allowed flags) cvss ≡ None)) }
     ensures rejected { IfErr result (λ rejection. (metric : MetricType)
         × (lacks_by (is_allowed flags) cvss ≡ Some metric)
-        × (told rejection ≡ told_of None (spec.Missing metric))) }
+        × (reported rejection ≡ report_of None (spec.Missing metric))) }
 {
     match cvss.missing_by(may_lack(flags)) {
-        Some(metric) => Err(Rejection::Metrics(None, Refusal::Missing(metric))),
+        Some(metric) => Err(NoVector::Metrics(None, Rejection::Missing(metric))),
         None => Ok(cvss),
     }
 }
 
 /// Why metrics are rejected.
-fn rejection_of(error: SetError<'_>) -> Rejection<'_>
+fn rejection_of(error: SetError<'_>) -> NoVector<'_>
     requires { IfSome error.index (λ index. index ≤ most_metrics) }
-    ensures { told result ≡ told_of error.entry.index (refusal_of error.entry.reason) }
+    ensures { reported result ≡ report_of error.entry.index (rejection_of error.entry.reason) }
 {
     match error.index {
-        Some(index) => Rejection::Metrics(Some(index as u8), error.reason),
-        None => Rejection::Metrics(None, error.reason),
+        Some(index) => NoVector::Metrics(Some(index as u8), error.reason),
+        None => NoVector::Metrics(None, error.reason),
     }
 }
 

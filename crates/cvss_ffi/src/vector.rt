@@ -1,4 +1,4 @@
-//! All that is told of a vector, as C sees it.
+//! All that is reported of a vector, as C sees it.
 
 ghost use Rattle.std.specs.Prelude.{◌≡◌, ◌≤◌, length};
 ghost use Rattle.cvss_vector.specs.Answers.{HasScore, score_of_tenths, text_of};
@@ -6,14 +6,14 @@ ghost use Rattle.cvss_vector.specs.Evaluation.{IsOverallScore};
 ghost use Rattle.cvss_vector.specs.declared.vector.Cvss.{Cvss};
 ghost use Rattle.cvss_ffi.specs.Accepted.{Answers, IsVectorOf};
 ghost use Rattle.cvss_ffi.specs.Buffer.{IsFilled};
-ghost use Rattle.cvss_ffi.specs.Calls.{IsAnswerTo, Tells};
-ghost use Rattle.cvss_ffi.specs.Scores.{AreScoresByOf, IsToldOf, nomenclature_of_any, vector_size};
+ghost use Rattle.cvss_ffi.specs.Calls.{IsAnswerTo, Returns};
+ghost use Rattle.cvss_ffi.specs.Scores.{AreScoresByOf, IsReportOf, nomenclature_of_any, vector_size};
 ghost use Rattle.cvss_ffi.specs.private.Rated.{AreNumbersIf, AreNumbersOf};
 
 use crate::error::CvssError;
 use crate::numbers::{NOTHING, nomenclature_of, severity_number, version_number};
 use crate::reading::read;
-use crate::rejection::{Rejection, reject, write_vector};
+use crate::rejection::{NoVector, reject, write_vector};
 use cvss_score::v4::Nomenclature;
 use cvss_vector::{Cvss, Evaluation, Rated};
 
@@ -51,12 +51,12 @@ pub struct CvssVector {
     pub is_complete: i32,
 }
 
-/// The number of bytes of what is told of a vector.
+/// The number of bytes of what is reported of a vector.
 const VECTOR_SIZE: u32 = 64;
 
 const _: () = prove!(size_of::<CvssVector>() == 64);
 
-/// Reads a text: writes its vector's canonical text, which is as long, and all that is told of the
+/// Reads a text: writes its vector's canonical text, which is as long, and all that is reported of the
 /// vector, or why there is none.
 pub fn parse(
     text: &[u8],
@@ -65,25 +65,25 @@ pub fn parse(
     error: &mut CvssError,
     buffer: &mut [u8],
 ) -> usize
-    ensures told { Tells (IsAnswerTo flags text.now (λ cvss canonical. canonical ≡ text_of cvss))
+    ensures reported { Returns (IsAnswerTo flags text.now (λ cvss canonical. canonical ≡ text_of cvss))
         error.old error.new buffer.old buffer.new result }
     ensures vector { Answers flags text.now (λ cvss. IsFilled vector_size vector.old.size
-        (IsToldOf vector.old.size cvss) vector.old vector.new) (vector.new ≡ vector.old) }
+        (IsReportOf vector.old.size cvss) vector.old vector.new) (vector.new ≡ vector.old) }
     ensures length { (cvss : Cvss) → IsVectorOf flags text.now cvss → result ≡ length text.now }
 {
     let cvss = match read(text, flags) {
         Ok(cvss) => cvss,
-        Err(why) => return reject(Rejection::Text(why), error, buffer),
+        Err(why) => return reject(NoVector::Text(why), error, buffer),
     };
     fill(vector, &cvss);
     write_vector(&cvss, error, buffer)
 }
 
-/// Writes what is told of a vector that has a score, if the struct is large enough.
+/// Writes what is reported of a vector that has a score, if the struct is large enough.
 #[inline(always)]
 fn fill(vector: &mut CvssVector, cvss: &Cvss)
     requires { HasScore cvss.now }
-    ensures { IsFilled vector_size vector.old.size (IsToldOf vector.old.size cvss.now)
+    ensures { IsFilled vector_size vector.old.size (IsReportOf vector.old.size cvss.now)
         vector.old vector.new }
 {
     if vector.size >= VECTOR_SIZE {
@@ -92,12 +92,12 @@ fn fill(vector: &mut CvssVector, cvss: &Cvss)
 }
 
 impl CvssVector {
-    /// What is told of a vector that has a score, in a struct of this size.
+    /// What is reported of a vector that has a score, in a struct of this size.
     // Inlined, the numbers are written to where they belong, not copied there.
     #[inline(always)]
     fn of(cvss: &Cvss, size: u32) -> CvssVector
         requires { HasScore cvss.now }
-        ensures { IsToldOf size cvss.now result }
+        ensures { IsReportOf size cvss.now result }
     {
         let found = Evaluation::of(cvss);
         let (score, severity) = numbers_of(found.overall);

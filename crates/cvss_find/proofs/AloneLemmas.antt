@@ -3,13 +3,13 @@ use Rattle.std.proofs.Common.{◌≡◌, ℕ, Bool, true, false, cond, List, [],
 use Rattle.std.proofs.Math.Bool.{and-true}
 use Rattle.cvss_vector.specs.Lines.{score_rule}
 use Rattle.cvss_vector.specs.declared.scoring.Scoring.{Scoring}
-use Rattle.cvss_lines.specs.Answers.{Answer, Accepted, Refused, is_accepted, texts_of}
-use Rattle.cvss_scan.specs.Mentions.{AreFound, IsAccepted, Placed, mentions_of}
+use Rattle.cvss_lines.specs.Answers.{Answer, Accepted, Rejected, is_accepted, texts_of}
+use Rattle.cvss_scan.specs.Matches.{AreFound, IsAccepted, Placed, candidates_of}
 use Rattle.cvss_find.specs.Answers.{AreReported, IsAnswerTo, Reported, all_accepted, answer_with, reported_texts}
 use Rattle.cvss_find.specs.laws.Alone.{ReportsOfAll}
 use Rattle.cvss_find.proofs.ReportingLemmas.{answered_whole, located, reported_answer}
 
-texts_of_either : (b : Bool) (texts : List (List ℕ)) → texts_of (cond b (Accepted texts) (Refused texts)) ≡ texts
+texts_of_either : (b : Bool) (texts : List (List ℕ)) → texts_of (cond b (Accepted texts) (Rejected texts)) ≡ texts
 texts_of_either true texts = refl
 texts_of_either false texts = refl
 
@@ -33,9 +33,9 @@ found_alone line (one ∷ []) accepted (inl (is, same, none)) = rw same refl
 found_alone line (one ∷ other ∷ more) accepted (inl (is, same, none)) = absurd none
 found_alone line (one ∷ more) accepted (inr (not_found, are)) = absurd (not_found (inl accepted))
 
-pub answered_alone : (prefix : List ℕ) (scoring : Scoring) (allow : Bool) (number : ℕ) (line : List ℕ) (answer : Answer) → (mentions_of line ≡ record { place = 0; text = line } ∷ []) → IsAccepted line
+pub answered_alone : (prefix : List ℕ) (scoring : Scoring) (allow : Bool) (number : ℕ) (line : List ℕ) (answer : Answer) → (candidates_of line ≡ record { place = 0; text = line } ∷ []) → IsAccepted line
     → IsAnswerTo (located prefix scoring allow number line) answer → ReportsOfAll scoring allow prefix number line answer
 answered_alone prefix scoring allow number line answer one accepted answers =
-    let found = found_alone line answers.shown accepted (subst (λ mentions. AreFound mentions answers.shown) one answers.are_shown) in
+    let found = found_alone line answers.shown accepted (subst (λ candidates. AreFound candidates answers.shown) one answers.are_shown) in
     reported_alone prefix scoring allow number line answers.reported answer accepted
-    (subst (λ mentions. AreReported (located prefix scoring allow number line) mentions answers.reported) found answers.are_reported) answers.is
+    (subst (λ candidates. AreReported (located prefix scoring allow number line) candidates answers.reported) found answers.are_reported) answers.is

@@ -1,4 +1,4 @@
--- How the mentions of a line are reported of one after another.
+-- How the candidates of a line are reported of one after another.
 use Rattle.std.proofs.Common.{◌≡◌, ℕ, Bool, true, false, ◌&&◌, cond, not, List, [], ◌∷◌, ◌++◌, drop, flat_map, length, inl, refl, sym, ap, ap₂, ◌∙◌, subst, append_assoc, append-nil, arith, codes, decimal}
 use Rattle.std.proofs.Math.Bool.{and-true}
 use Rattle.std.proofs.lemmas.Fmt.{decimal_digit}
@@ -10,7 +10,7 @@ use Rattle.cvss_vector.specs.Complete.{IsPublishedOfComplete}
 use Rattle.cvss_vector.specs.declared.published.Published.{Published}
 use Rattle.cvss_vector.specs.Lines.{score_rule}
 use Rattle.cvss_vector.specs.declared.scoring.Scoring.{Scoring}
-use Rattle.cvss_lines.specs.Answers.{Accepted, Refused, WritesAnswer, is_accepted, written_answer, written_text}
+use Rattle.cvss_lines.specs.Answers.{Accepted, Rejected, WritesAnswer, is_accepted, written_answer, written_text}
 use Rattle.cvss_lines.specs.Prefixed.{AnswersByOneText, is_one_text}
 use Rattle.cvss_find.specs.Answers.{AreReported, Asked, IsReported, Reported, all_accepted, answer_with, answered_bytes, answers_as, before_answer, place_text, reported_texts, shows_all, texts_for}
 use Rattle.cvss_find.specs.Decoding.{decoded}
@@ -18,8 +18,8 @@ use Rattle.cvss_find.specs.declared.form.Form.{Form}
 use Rattle.cvss_find.specs.declared.form.Form.TheVariants.{Annotated, Located, Object}
 use Rattle.cvss_find.specs.private.Reporting.{AnswersLine, Reports, WritesReported, WritesShown, closing, opening, written_as}
 use Rattle.cvss_scan.proofs.AcceptedLemmas.{accepted_alone, accepted_whole}
-use Rattle.cvss_scan.specs.Mentions.{AreFound, IsAccepted, IsFound, Placed, mentions_of}
-use Rattle.cvss_scan.specs.MentionsLeft.{IsFirstFound, NoneFound}
+use Rattle.cvss_scan.specs.Matches.{AreFound, IsAccepted, IsFound, Placed, candidates_of}
+use Rattle.cvss_scan.specs.CandidatesLeft.{IsFirstFound, NoneFound}
 use Rattle.cvss_find.proofs.DecodingLemmas.{written_decoded}
 use Rattle.cvss_scan.proofs.FoundLemmas.{AreFound-first, AreFound-none}
 
@@ -28,14 +28,14 @@ one_text Located scoring allow = is_one_text _ _
 one_text Object scoring allow = is_one_text _ _
 one_text (Annotated all) scoring allow = is_one_text _ _
 
--- a mention is reported of, once its answer is written after what is before it, and the byte 10 stays or is taken off
-pub WritesReported-answer : (asked : Asked) (mention : Placed) (old middle full new : List ℕ) (accepted : Bool) → middle ≡ old ++ before_answer asked.form asked mention
-    → WritesAnswer (answers_as asked.form asked.scoring asked.allow_incomplete) asked.number (decoded (answered_bytes asked mention)) middle full accepted
+-- a candidate is reported of, once its answer is written after what is before it, and the byte 10 stays or is taken off
+pub WritesReported-answer : (asked : Asked) (candidate : Placed) (old middle full new : List ℕ) (accepted : Bool) → middle ≡ old ++ before_answer asked.form asked candidate
+    → WritesAnswer (answers_as asked.form asked.scoring asked.allow_incomplete) asked.number (decoded (answered_bytes asked candidate)) middle full accepted
     → ((before text : List ℕ) → full ≡ before ++ written_text text → new ≡ before ++ written_as asked.form text)
-    → WritesReported asked mention old new accepted
-WritesReported-answer asked mention old middle full new accepted placed written ended =
-    let one = one_text asked.form asked.scoring asked.allow_incomplete asked.number (decoded (answered_bytes asked mention)) written.answer written.answers in
-    let before = before_answer asked.form asked mention in
+    → WritesReported asked candidate old new accepted
+WritesReported-answer asked candidate old middle full new accepted placed written ended =
+    let one = one_text asked.form asked.scoring asked.allow_incomplete asked.number (decoded (answered_bytes asked candidate)) written.answer written.answers in
+    let before = before_answer asked.form asked candidate in
     record {
       reported = record { text = before ++ one.0; accepts = is_accepted written.answer };
       is_reported = record {
@@ -56,12 +56,12 @@ WritesReported-answer asked mention old middle full new accepted placed written 
           ∙ ap (λ bytes. old ++ bytes) (sym (append_assoc before one.0 (10 ∷ []))));
     }
 
-AreReported-push : (asked : Asked) (mentions : List Placed) (reported : List Reported) (mention : Placed) (last : Reported)
-    → AreReported asked mentions reported → IsReported asked mention last → AreReported asked (mentions ++ mention ∷ []) (reported ++ last ∷ [])
-AreReported-push asked [] [] mention last are is = (is, tt)
-AreReported-push asked [] (each ∷ more) mention last are is = absurd are
-AreReported-push asked (each ∷ more) [] mention last are is = absurd are
-AreReported-push asked (first ∷ mentions) (each ∷ more) mention last are is = (are.0, AreReported-push asked mentions more mention last are.1 is)
+AreReported-push : (asked : Asked) (candidates : List Placed) (reported : List Reported) (candidate : Placed) (last : Reported)
+    → AreReported asked candidates reported → IsReported asked candidate last → AreReported asked (candidates ++ candidate ∷ []) (reported ++ last ∷ [])
+AreReported-push asked [] [] candidate last are is = (is, tt)
+AreReported-push asked [] (each ∷ more) candidate last are is = absurd are
+AreReported-push asked (each ∷ more) [] candidate last are is = absurd are
+AreReported-push asked (first ∷ candidates) (each ∷ more) candidate last are is = (are.0, AreReported-push asked candidates more candidate last are.1 is)
 
 all_accepted-push : (reported : List Reported) (last : Reported) → all_accepted (reported ++ last ∷ []) ≡ (all_accepted reported && last.accepts)
 all_accepted-push reported last =
@@ -74,11 +74,11 @@ written-push write reported last old middle new before next =
     next ∙ ap (λ bytes. bytes ++ write last.text) before ∙ flat_map_more write old (reported_texts reported) last.text
     ∙ ap (λ texts. old ++ flat_map write texts) (sym (map-append (λ (each : Reported). each.text) reported (last ∷ [])))
 
--- before the first mention
-pub Reports-start : (asked : Asked) (bytes : List ℕ) (left : List Placed) → left ≡ mentions_of asked.line → Reports asked left bytes bytes true
+-- before the first candidate
+pub Reports-start : (asked : Asked) (bytes : List ℕ) (left : List Placed) → left ≡ candidates_of asked.line → Reports asked left bytes bytes true
 Reports-start asked bytes left is = record {
   found = [];
-  are_found = λ more are. subst (λ mentions. AreFound mentions more) is are;
+  are_found = λ more are. subst (λ candidates. AreFound candidates more) is are;
   reported = [];
   are_reported = tt;
   accepts = refl;
@@ -86,14 +86,14 @@ Reports-start asked bytes left is = record {
 }
 
 -- after one more that is found
-pub Reports-next : (asked : Asked) (left after : List Placed) (mention : Placed) (old middle new : List ℕ) (all accepted : Bool)
-    → Reports asked left old middle all → IsFirstFound left mention after → WritesReported asked mention middle new accepted → Reports asked after old new (all && accepted)
-Reports-next asked left after mention old middle new all accepted before first next = record {
-  found = before.found ++ mention ∷ [];
-  are_found = λ more are. subst (AreFound (mentions_of asked.line)) (sym (append_assoc before.found (mention ∷ []) more))
-      (before.are_found (mention ∷ more) (AreFound-first left after mention more first are));
+pub Reports-next : (asked : Asked) (left after : List Placed) (candidate : Placed) (old middle new : List ℕ) (all accepted : Bool)
+    → Reports asked left old middle all → IsFirstFound left candidate after → WritesReported asked candidate middle new accepted → Reports asked after old new (all && accepted)
+Reports-next asked left after candidate old middle new all accepted before first next = record {
+  found = before.found ++ candidate ∷ [];
+  are_found = λ more are. subst (AreFound (candidates_of asked.line)) (sym (append_assoc before.found (candidate ∷ []) more))
+      (before.are_found (candidate ∷ more) (AreFound-first left after candidate more first are));
   reported = before.reported ++ next.reported ∷ [];
-  are_reported = AreReported-push asked before.found before.reported mention next.reported before.are_reported next.is_reported;
+  are_reported = AreReported-push asked before.found before.reported candidate next.reported before.are_reported next.is_reported;
   accepts = ap₂ (λ (a b : Bool). a && b) before.accepts next.accepts ∙ sym (all_accepted-push before.reported next.reported);
   written = written-push (written_as asked.form) before.reported next.reported old middle new before.written next.written;
 }
@@ -102,7 +102,7 @@ Reports-next asked left after mention old middle new all accepted before first n
 pub shown_all : (asked : Asked) (left : List Placed) (old new : List ℕ) (all : Bool) → Reports asked left old new all → NoneFound left → WritesShown true asked old new all
 shown_all asked left old new all reports none = record {
   shown = reports.found;
-  are_shown = subst (AreFound (mentions_of asked.line)) (append-nil reports.found) (reports.are_found [] (AreFound-none left none));
+  are_shown = subst (AreFound (candidates_of asked.line)) (append-nil reports.found) (reports.are_found [] (AreFound-none left none));
   reported = reports.reported;
   are_reported = reports.are_reported;
   accepts = reports.accepts;
@@ -110,10 +110,10 @@ shown_all asked left old new all reports none = record {
 }
 
 -- the first is shown
-pub shown_first : (asked : Asked) (mention : Placed) (left : List Placed) (old new : List ℕ) (accepted : Bool) → IsFirstFound (mentions_of asked.line) mention left
-    → WritesReported asked mention old new accepted → WritesShown false asked old new accepted
-shown_first asked mention left old new accepted first written = record {
-  shown = mention ∷ [];
+pub shown_first : (asked : Asked) (candidate : Placed) (left : List Placed) (old new : List ℕ) (accepted : Bool) → IsFirstFound (candidates_of asked.line) candidate left
+    → WritesReported asked candidate old new accepted → WritesShown false asked old new accepted
+shown_first asked candidate left old new accepted first written = record {
+  shown = candidate ∷ [];
   are_shown = (left, first);
   reported = written.reported ∷ [];
   are_reported = (written.is_reported, tt);
@@ -122,22 +122,22 @@ shown_first asked mention left old new accepted first written = record {
 }
 
 -- none is shown
-pub shown_none : (asked : Asked) (bytes : List ℕ) → NoneFound (mentions_of asked.line) → WritesShown false asked bytes bytes true
+pub shown_none : (asked : Asked) (bytes : List ℕ) → NoneFound (candidates_of asked.line) → WritesShown false asked bytes bytes true
 shown_none asked bytes none = record { shown = []; are_shown = none; reported = []; are_reported = tt; accepts = refl; written = sym (append-nil bytes) }
 
 pub reported_answer : (reported : List Reported) (texts : List (List ℕ)) → all_accepted reported ≡ is_accepted (answer_with reported texts)
 reported_answer reported texts = accepts (all_accepted reported) where
-  accepts : (b : Bool) → b ≡ is_accepted (cond b (Accepted texts) (Refused texts))
+  accepts : (b : Bool) → b ≡ is_accepted (cond b (Accepted texts) (Rejected texts))
   accepts true = refl
   accepts false = refl
 
 written_answer_with : (reported : List Reported) (texts : List (List ℕ)) → flat_map written_text texts ≡ written_answer (answer_with reported texts)
 written_answer_with reported texts = written (all_accepted reported) where
-  written : (b : Bool) → flat_map written_text texts ≡ written_answer (cond b (Accepted texts) (Refused texts))
+  written : (b : Bool) → flat_map written_text texts ≡ written_answer (cond b (Accepted texts) (Rejected texts))
   written true = refl
   written false = refl
 
--- what is written around the texts for the mentions makes the texts of the answer
+-- what is written around the texts for the candidates makes the texts of the answer
 written_around : (form : Form) (asked : Asked) (old : List ℕ) (texts : List (List ℕ))
     → ((old ++ opening form asked) ++ flat_map (written_as form) texts) ++ closing form ≡ old ++ flat_map written_text (texts_for form asked texts)
 written_around Located asked old texts = append-nil ((old ++ []) ++ flat_map written_text texts) ∙ ap (λ before. before ++ flat_map written_text texts) (append-nil old)
@@ -178,7 +178,7 @@ answered_whole asked accepted =
     ap decoded (cut_nowhere asked.allow_incomplete (drop (length asked.line) asked.line) asked.line (drop_all (length asked.line) asked.line (omega arith)))
     ∙ written_decoded asked.line (accepted_whole asked.line accepted).written
 
--- what is asked of a line whose mentions are reported with their places
+-- what is asked of a line whose candidates are reported with their places
 abbrev pub located : List ℕ → Scoring → Bool → ℕ → List ℕ → Asked
 located prefix scoring allow number line = record { form = Located; prefix = prefix; scoring = scoring; allow_incomplete = allow; number = number; line = line }
 
@@ -187,15 +187,15 @@ pub canonical_reported : (prefix : List ℕ) (scoring : Scoring) (allow : Bool) 
     → between ≡ old ++ prefix → middle ≡ between ++ place_text number 0 → WritesAnswer (score_rule scoring allow) number line middle new true → AnswersLine (located prefix scoring allow number line) old new true
 canonical_reported prefix scoring allow number line published old between middle new is first next written =
     let asked = located prefix scoring allow number line in
-    let mention : Placed = record { place = 0; text = line } in
+    let candidate : Placed = record { place = 0; text = line } in
     let accepted : IsAccepted line = record { cvss = is.of.cvss; denoted = is.of.denoted } in
     let none : NoneFound [] = All-nil (λ each. ¬ (IsFound each.text)) in
-    let found : IsFirstFound (mentions_of line) mention [] = record { passed = []; is = accepted_alone line accepted; none = none; found = inl accepted } in
+    let found : IsFirstFound (candidates_of line) candidate [] = record { passed = []; is = accepted_alone line accepted; none = none; found = inl accepted } in
     let own = subst (λ bytes. WritesAnswer (score_rule scoring allow) number bytes middle new true) (sym (answered_whole asked accepted)) written in
     let placed = next ∙ ap (λ bytes. bytes ++ place_text number 0) first ∙ append_assoc old prefix (place_text number 0) in
     answer_written asked old old new new true (sym (append-nil old))
     (shown_all asked [] old new true
-    (Reports-next asked (mentions_of line) [] mention old old new true true (Reports-start asked old (mentions_of line) refl) found
-    (WritesReported-answer asked mention old middle new new true placed own (λ before text is. is)))
+    (Reports-next asked (candidates_of line) [] candidate old old new true true (Reports-start asked old (candidates_of line) refl) found
+    (WritesReported-answer asked candidate old middle new new true placed own (λ before text is. is)))
     none)
     (sym (append-nil new))

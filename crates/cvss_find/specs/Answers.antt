@@ -7,12 +7,12 @@ use Rattle.cvss_vector.specs.declared.scoring.Scoring.{Scoring}
 use Rattle.cvss_find.specs.Decoding.{decoded}
 use Rattle.cvss_find.specs.declared.form.Form.{Form}
 use Rattle.cvss_find.specs.declared.form.Form.TheVariants.{Annotated, Located, Object}
-use Rattle.cvss_lines.specs.Answers.{Answer, Accepted, Refused, Rule, is_accepted, texts_of}
+use Rattle.cvss_lines.specs.Answers.{Answer, Accepted, Rejected, Rule, is_accepted, texts_of}
 use Rattle.cvss_rows.specs.Cells.{given_text, object_start}
 use Rattle.cvss_rows.specs.Rows.{cells_rule}
 use Rattle.cvss_rows.specs.declared.format.Format.TheVariants.{Json}
-use Rattle.cvss_scan.specs.Mentions.{AreFound, Placed, mentions_of}
-use Rattle.cvss_scan.specs.MentionsLeft.{IsFirstFound, NoneFound}
+use Rattle.cvss_scan.specs.Matches.{AreFound, Placed, candidates_of}
+use Rattle.cvss_scan.specs.CandidatesLeft.{IsFirstFound, NoneFound}
 
 -- what is asked: the form of the answer, what each text begins with, which score of a vector is printed, whether vectors of
 -- CVSS v3 may lack base metrics, a line's number, which counts from 1, and the line
@@ -24,20 +24,20 @@ pub record Asked : Type 0 where
   pub number : ℕ
   pub line : List ℕ
 
--- the line's number, and the place of a mention's first byte in it, which counts from 0 and is reported from 1
+-- the line's number, and the place of a candidate's first byte in it, which counts from 0 and is reported from 1
 abbrev pub place_text : ℕ → ℕ → List ℕ
 place_text number place = decimal number ++ (codes ":" ++ (decimal (place + 1) ++ codes " "))
 
--- after the mention the line has a slash and ends: the vector may go on in the next line
+-- after the candidate the line has a slash and ends: the vector may go on in the next line
 abbrev pub is_cut : List ℕ → Placed → Bool
-is_cut line mention = bytes_eq (drop (length mention.text) (drop mention.place line)) (codes "/")
+is_cut line candidate = bytes_eq (drop (length candidate.text) (drop candidate.place line)) (codes "/")
 
--- the bytes that are answered: the mention, with the slash that ends the line unless a vector may be incomplete
+-- the bytes that are answered: the candidate, with the slash that ends the line unless a vector may be incomplete
 abbrev pub answered_bytes : Asked → Placed → List ℕ
-answered_bytes asked mention =
-    if not asked.allow_incomplete && is_cut asked.line mention then drop mention.place asked.line else mention.text
+answered_bytes asked candidate =
+    if not asked.allow_incomplete && is_cut asked.line candidate then drop candidate.place asked.line else candidate.text
 
--- what is reported of a mention, and whether it is accepted
+-- what is reported of a candidate, and whether it is accepted
 pub record Reported : Type 0 where
   pub text : List ℕ
   pub accepts : Bool
@@ -45,16 +45,16 @@ pub record Reported : Type 0 where
 -- the members of an object before those of the answer: the file, where answers have a prefix, the line, the column, which
 -- counts from 1, and the bytes that are answered
 abbrev pub first_members : Asked → Placed → List ℕ
-first_members asked mention =
+first_members asked candidate =
     object_start asked.prefix
-    ++ (codes "\"line\":" ++ (decimal asked.number ++ (codes ",\"column\":" ++ (decimal (mention.place + 1)
-    ++ (codes ",\"text\":" ++ given_text Json (answered_bytes asked mention))))))
+    ++ (codes "\"line\":" ++ (decimal asked.number ++ (codes ",\"column\":" ++ (decimal (candidate.place + 1)
+    ++ (codes ",\"text\":" ++ given_text Json (answered_bytes asked candidate))))))
 
--- what is before the answer to a mention, by the form in which it is reported
+-- what is before the answer to a candidate, by the form in which it is reported
 abbrev pub before_answer : Form → Asked → Placed → List ℕ
-before_answer Located asked mention = asked.prefix ++ place_text asked.number mention.place
-before_answer Object asked mention = first_members asked mention
-before_answer (Annotated all) asked mention = codes "\t"
+before_answer Located asked candidate = asked.prefix ++ place_text asked.number candidate.place
+before_answer Object asked candidate = first_members asked candidate
+before_answer (Annotated all) asked candidate = codes "\t"
 
 -- which answers bytes have: what `cvss score` answers to them, or in an object, which has all scores, the members of
 -- `cvss score --json` after the given text
@@ -63,57 +63,57 @@ answers_as Located = score_rule
 answers_as Object = λ _. cells_rule Json
 answers_as (Annotated all) = score_rule
 
--- reported is an answer to the mention's bytes, decoded, as a line by themselves
-pub record IsReported (asked : Asked) (mention : Placed) (reported : Reported) : Type 0 where
+-- reported is an answer to the candidate's bytes, decoded, as a line by themselves
+pub record IsReported (asked : Asked) (candidate : Placed) (reported : Reported) : Type 0 where
   pub answer : Answer
   pub text : List ℕ
-  pub answers : answers_as asked.form asked.scoring asked.allow_incomplete asked.number (decoded (answered_bytes asked mention)) answer
+  pub answers : answers_as asked.form asked.scoring asked.allow_incomplete asked.number (decoded (answered_bytes asked candidate)) answer
   pub one_text : texts_of answer ≡ text ∷ []
-  pub is : reported.text ≡ before_answer asked.form asked mention ++ text
+  pub is : reported.text ≡ before_answer asked.form asked candidate ++ text
   pub accepted : reported.accepts ≡ is_accepted answer
 
--- these are reported of the mentions, in their order
+-- these are reported of the candidates, in their order
 abbrev pub AreReported : Asked → List Placed → List Reported → Type 0
 AreReported asked [] [] = ⊤
 AreReported asked [] (reported ∷ more) = ⊥
-AreReported asked (mention ∷ mentions) [] = ⊥
-AreReported asked (mention ∷ mentions) (reported ∷ more) = IsReported asked mention reported × AreReported asked mentions more
+AreReported asked (candidate ∷ candidates) [] = ⊥
+AreReported asked (candidate ∷ candidates) (reported ∷ more) = IsReported asked candidate reported × AreReported asked candidates more
 
--- these are the mentions whose answers are shown: all that are found, or the first of them
+-- these are the candidates whose answers are shown: all that are found, or the first of them
 abbrev pub AreShown : Bool → List Placed → List Placed → Type 0
-AreShown true mentions shown = AreFound mentions shown
-AreShown false mentions [] = NoneFound mentions
-AreShown false mentions (mention ∷ []) = (left : List Placed) × IsFirstFound mentions mention left
-AreShown false mentions (mention ∷ next ∷ more) = ⊥
+AreShown true candidates shown = AreFound candidates shown
+AreShown false candidates [] = NoneFound candidates
+AreShown false candidates (candidate ∷ []) = (left : List Placed) × IsFirstFound candidates candidate left
+AreShown false candidates (candidate ∷ next ∷ more) = ⊥
 
--- the form shows the answers to all mentions
+-- the form shows the answers to all candidates
 abbrev pub shows_all : Form → Bool
 shows_all Located = true
 shows_all Object = true
 shows_all (Annotated all) = all
 
--- the texts of an answer: those for the mentions, or the line after the prefix and then these
+-- the texts of an answer: those for the candidates, or the line after the prefix and then these
 abbrev pub texts_for : Form → Asked → List (List ℕ) → List (List ℕ)
 texts_for Located asked texts = texts
 texts_for Object asked texts = texts
 texts_for (Annotated all) asked texts = (asked.prefix ++ (asked.line ++ flat_map (λ text. text) texts)) ∷ []
 
--- each mention is accepted
+-- each candidate is accepted
 abbrev pub all_accepted : List Reported → Bool
 all_accepted reported = list_all (λ each. each.accepts) reported
 
--- the texts for the mentions
+-- the texts for the candidates
 abbrev pub reported_texts : List Reported → List (List ℕ)
 reported_texts reported = map (λ each. each.text) reported
 
--- the answer to a line with these texts, which is accepted if each mention is
+-- the answer to a line with these texts, which is accepted if each candidate is
 abbrev pub answer_with : List Reported → List (List ℕ) → Answer
-answer_with reported texts = if all_accepted reported then Accepted texts else Refused texts
+answer_with reported texts = if all_accepted reported then Accepted texts else Rejected texts
 
--- this is an answer to what is asked: what is reported of the mentions in the line that are shown
+-- this is an answer to what is asked: what is reported of the candidates in the line that are shown
 pub record IsAnswerTo (asked : Asked) (answer : Answer) : Type 0 where
   pub shown : List Placed
-  pub are_shown : AreShown (shows_all asked.form) (mentions_of asked.line) shown
+  pub are_shown : AreShown (shows_all asked.form) (candidates_of asked.line) shown
   pub reported : List Reported
   pub are_reported : AreReported asked shown reported
   pub is : answer ≡ answer_with reported (texts_for asked.form asked (reported_texts reported))

@@ -10,7 +10,7 @@ use cvss_lines::OutputBuffer;
 use std::alloc::AllocError;
 
 impl Line<'_> {
-    /// Writes what is before the mentions: the line, where it is repeated.
+    /// Writes what is before the matches: the line, where it is repeated.
     pub(crate) fn write_opening(self, answers: &mut OutputBuffer) -> Result<(), AllocError>
         ensures { OnOk result (answers.new.bytes.items
             ≡ answers.old.bytes.items ++ opening self.entry.form (asked_of self.entry)) }
@@ -37,7 +37,7 @@ impl Line<'_> {
         }
     }
 
-    /// Writes what is after the mentions: a byte 10, where the line is repeated.
+    /// Writes what is after the matches: a byte 10, where the line is repeated.
     pub(crate) fn write_closing(self, answers: &mut OutputBuffer) -> Result<(), AllocError>
         ensures { OnOk result (answers.new.bytes.items
             ≡ answers.old.bytes.items ++ closing self.entry.form) }

@@ -21,7 +21,7 @@ pub struct Finding<'a> {
     /// What each answer begins with. In objects it is the name of the file and a colon, where there
     /// are several files.
     pub prefix: &'a [u8],
-    /// Set where a mention is rejected whose prefix is written in another way than `CVSS:3.1/`.
+    /// Set where a match is rejected whose prefix is written in another way than `CVSS:3.1/`.
     pub loose_prefix: &'a Cell<bool>,
 }
 

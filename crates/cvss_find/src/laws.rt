@@ -6,7 +6,7 @@ ghost use Rattle.cvss_find.specs.declared.form.Form.{Form};
 ghost use Rattle.cvss_find.specs.declared.form.Form.TheVariants.{Located};
 ghost use Rattle.cvss_find.specs.laws.Alone.{ReportsOfAll};
 ghost use Rattle.cvss_lines.specs.Answers.{Answer};
-ghost use Rattle.cvss_scan.specs.Mentions.{IsAccepted};
+ghost use Rattle.cvss_scan.specs.Matches.{IsAccepted};
 ghost use Rattle.cvss_vector.specs.declared.scoring.Scoring.{Scoring};
 
 use crate::Form;
@@ -19,7 +19,7 @@ pub fn only_vectors_are_reported_as_they_are()
         → find_rule Located scoring allow_incomplete prefix number line answer
         → ReportsOfAll scoring allow_incomplete prefix number line answer }
 {
-    cvss_scan::laws::accepted_texts_are_mentions();
+    cvss_scan::laws::accepted_texts_are_matches();
 }
 
 /// A clone of a form is that value.

@@ -8,14 +8,14 @@ ghost use Rattle.cvss_find.specs.Decoding.{decoded};
 ghost use Rattle.cvss_find.specs.declared.form.Form.TheVariants.{Located};
 ghost use Rattle.cvss_find.specs.private.Reporting.{AnswersLine, WritesReported, WritesShown, asked_of};
 ghost use Rattle.cvss_lines.specs.Answers.{WritesAnswer};
-ghost use Rattle.cvss_scan.specs.MentionsLeft.{as_placed};
+ghost use Rattle.cvss_scan.specs.CandidatesLeft.{as_placed};
 
 use crate::decoding::decoded;
 use crate::form::Form;
 use crate::place::{write_first_place, write_place};
 use cvss_lines::OutputBuffer;
 use cvss_rows::{Format, write_cells};
-use cvss_scan::{Mention, Mentions, begins_with_prefix, has_percent};
+use cvss_scan::{Match, Matches, begins_with_prefix, has_percent};
 use cvss_vector::{Cvss, Published, Scoring, answer_score, write_canonical};
 use std::alloc::{AllocError, Global};
 use std::cell::Cell;
@@ -45,13 +45,13 @@ impl Line<'_> {
         match self.form {
             Form::Located => match Cvss::published_of_canonical(self.bytes, self.scoring) {
                 Some(published) => self.report_canonical(published, answers),
-                None => self.report_mentions(alloc, answers),
+                None => self.report_matches(alloc, answers),
             },
-            Form::Object | Form::Annotated { .. } => self.report_mentions(alloc, answers),
+            Form::Object | Form::Annotated { .. } => self.report_matches(alloc, answers),
         }
     }
 
-    /// The answer to a line that is a canonical vector with all base metrics, its only mention.
+    /// The answer to a line that is a canonical vector with all base metrics, its only match.
     fn report_canonical(
         self,
         published: Published,
@@ -68,8 +68,8 @@ impl Line<'_> {
         Ok(true)
     }
 
-    /// The answer to a line of any bytes, mention by mention.
-    fn report_mentions(self, alloc: Global, answers: &mut OutputBuffer) -> Result<bool, AllocError>
+    /// The answer to a line of any bytes, match by match.
+    fn report_matches(self, alloc: Global, answers: &mut OutputBuffer) -> Result<bool, AllocError>
         ensures { IfOk result (AnswersLine (asked_of self.entry)
             answers.old.bytes.items answers.new.bytes.items) }
     {
@@ -79,7 +79,7 @@ impl Line<'_> {
         Ok(accepted)
     }
 
-    /// Writes what is reported of all mentions, or of the first.
+    /// Writes what is reported of all matches, or of the first.
     fn write_shown(
         self,
         all: bool,
@@ -96,69 +96,65 @@ impl Line<'_> {
         }
     }
 
-    /// Writes what is reported of all mentions.
+    /// Writes what is reported of all matches.
     fn write_all(self, alloc: Global, answers: &mut OutputBuffer) -> Result<bool, AllocError>
         ensures { IfOk result (WritesShown true (asked_of self.entry)
             answers.old.bytes.items answers.new.bytes.items) }
     {
-        let mut mentions = Mentions::of(self.bytes);
+        let mut matches = Matches::of(self.bytes);
         let mut accepted = true;
-        while let Some(mention) = mentions.next() {
-            accepted &= self.report(alloc, mention, answers)?;
+        while let Some(found) = matches.next() {
+            accepted &= self.report(alloc, found, answers)?;
         }
         Ok(accepted)
     }
 
-    /// Writes what is reported of the first mention, if there is one.
+    /// Writes what is reported of the first match, if there is one.
     fn write_first(self, alloc: Global, answers: &mut OutputBuffer) -> Result<bool, AllocError>
         ensures { IfOk result (WritesShown false (asked_of self.entry)
             answers.old.bytes.items answers.new.bytes.items) }
     {
-        match Mentions::of(self.bytes).next() {
-            Some(mention) => self.report(alloc, mention, answers),
+        match Matches::of(self.bytes).next() {
+            Some(found) => self.report(alloc, found, answers),
             None => Ok(true),
         }
     }
 
-    /// Writes what is reported of a mention. Says whether the mention is accepted.
+    /// Writes what is reported of a match. Says whether the match is accepted.
     fn report(
         self,
         alloc: Global,
-        mention: Mention<'_>,
+        found: Match<'_>,
         answers: &mut OutputBuffer,
     ) -> Result<bool, AllocError>
         ensures { IfOk result (WritesReported (asked_of self.entry)
-            (as_placed mention.entry) answers.old.bytes.items answers.new.bytes.items) }
+            (as_placed found.entry) answers.old.bytes.items answers.new.bytes.items) }
     {
-        self.write_before(mention, answers)?;
-        let accepted = self.answer_bytes(alloc, self.answered_bytes(mention), answers)?;
+        self.write_before(found, answers)?;
+        let accepted = self.answer_bytes(alloc, self.answered_bytes(found), answers)?;
         self.end_text(answers);
-        self.note_prefix(accepted, mention.text);
+        self.note_prefix(accepted, found.text);
         Ok(accepted)
     }
 
-    /// Sets the cell if a mention is rejected whose prefix is not written as it should be.
+    /// Sets the cell if a match is rejected whose prefix is not written as it should be.
     fn note_prefix(self, accepted: bool, text: &[u8]) {
         if !accepted && has_loose_prefix(text) {
             self.loose_prefix.set(true);
         }
     }
 
-    /// Writes what is before the answer to a mention.
-    fn write_before(
-        self,
-        mention: Mention<'_>,
-        answers: &mut OutputBuffer,
-    ) -> Result<(), AllocError>
+    /// Writes what is before the answer to a match.
+    fn write_before(self, found: Match<'_>, answers: &mut OutputBuffer) -> Result<(), AllocError>
         ensures { OnOk result (answers.new.bytes.items ≡ answers.old.bytes.items
-            ++ before_answer self.entry.form (asked_of self.entry) (as_placed mention.entry)) }
+            ++ before_answer self.entry.form (asked_of self.entry) (as_placed found.entry)) }
     {
         match self.form {
             Form::Located => {
                 self.write_prefix(answers)?;
-                write_place(self.number, mention.place, answers)
+                write_place(self.number, found.place, answers)
             }
-            Form::Object => self.write_first_members(mention, answers),
+            Form::Object => self.write_first_members(found, answers),
             Form::Annotated { .. } => answers.push(b"\t"),
         }
     }
@@ -206,13 +202,13 @@ impl Line<'_> {
         }
     }
 
-    /// The bytes of a mention that are answered.
-    pub(crate) fn answered_bytes<'b>(&'b self, mention: Mention<'b>) -> &'b [u8]
-        ensures { result.now ≡ answered_bytes (asked_of self.now) (as_placed mention.entry) }
+    /// The bytes of a match that are answered.
+    pub(crate) fn answered_bytes<'b>(&'b self, found: Match<'b>) -> &'b [u8]
+        ensures { result.now ≡ answered_bytes (asked_of self.now) (as_placed found.entry) }
     {
-        match self.bytes.get(mention.place..) {
-            Some(rest) if !self.allow_incomplete && is_cut(rest, mention.text.len()) => rest,
-            _ => mention.text,
+        match self.bytes.get(found.place..) {
+            Some(rest) if !self.allow_incomplete && is_cut(rest, found.text.len()) => rest,
+            _ => found.text,
         }
     }
 
@@ -228,7 +224,7 @@ impl Line<'_> {
     }
 }
 
-/// Whether a mention begins with a prefix that is not written as it should be.
+/// Whether a match begins with a prefix that is not written as it should be.
 fn has_loose_prefix(text: &[u8]) -> bool
     ensures { result ≡ has_loose_prefix text.now }
 {

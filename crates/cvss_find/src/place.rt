@@ -1,4 +1,4 @@
-//! Where a mention is.
+//! Where a match is.
 
 ghost use Rattle.std.specs.Prelude.{◌≡◌, ◌++◌, OnOk};
 ghost use Rattle.cvss_find.specs.Answers.{place_text};
@@ -18,7 +18,7 @@ pub(crate) fn write_first_place(number: u64, answers: &mut OutputBuffer) -> Resu
     }
 }
 
-/// Writes the number of a line, a colon, the place of a mention in it, counted from 1, and a space.
+/// Writes the number of a line, a colon, the place of a match in it, counted from 1, and a space.
 pub(crate) fn write_place(
     number: u64,
     place: usize,

@@ -1,7 +1,7 @@
 -- The record of a vector: FIRST's JSON schemas of CVSS v2.0, v3.0, v3.1 and v4.0.
 use Rattle.std.specs.Prelude.{◌≡◌, ℕ, Bool, true, List, codes, Option, Some, None, option_map, option_and_then, unwrap_or, if◌then◌else◌}
 use Rattle.std.specs.List.{filter_map}
-use Rattle.cvss_vector.specs.Answers.{rating_by, score_of_tenths, text_of}
+use Rattle.cvss_vector.specs.Answers.{severity_by, score_of_tenths, text_of}
 use Rattle.cvss_vector.specs.declared.vector.Cvss.{Cvss}
 use Rattle.cvss_vector.specs.declared.vector.Cvss.TheVariants.{CvssV20, CvssV30, CvssV31, CvssV40}
 use Rattle.cvss_base.specs.Version.{held}
@@ -48,7 +48,7 @@ severity_word severity.Critical = codes "CRITICAL"
 
 -- the severity of a score of so many tenths
 abbrev pub severity_expected : Cvss → ℕ → Expected
-severity_expected cvss tenths = text (severity_word (rating_by cvss (score_of_tenths tenths)))
+severity_expected cvss tenths = text (severity_word (severity_by cvss (score_of_tenths tenths)))
 
 -- the word for how a metric's value is spelled, if the vector has one
 abbrev pub word_expected : List Row → Option (List ℕ) → Expected

@@ -1,7 +1,7 @@
 //! The scores of a vector, as a record says them.
 
 ghost use Rattle.std.specs.Prelude.{◌≡◌};
-ghost use Rattle.cvss_vector.specs.Answers.{HasScore, rating_by, score_of_tenths};
+ghost use Rattle.cvss_vector.specs.Answers.{HasScore, severity_by, score_of_tenths};
 ghost use Rattle.cvss_json_record.specs.Groups.{AreScoresOf, record_scores, tenths_at, tenths_of};
 ghost use Rattle.cvss_json_record.specs.Record.{severity_word};
 
@@ -66,7 +66,7 @@ fn tenths_of(found: Option<Rated>) -> Option<u8>
 
 /// The severity that the vector's version gives a score of so many tenths, as a record says it.
 pub fn severity_word(cvss: &Cvss, tenths: u8) -> &'static str
-    ensures { result.now ≡ severity_word (rating_by cvss.now (score_of_tenths tenths)) }
+    ensures { result.now ≡ severity_word (severity_by cvss.now (score_of_tenths tenths)) }
 {
     match cvss.severity_of(i128::from(tenths) * TENTH) {
         Severity::None => "NONE",

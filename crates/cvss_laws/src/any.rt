@@ -5,7 +5,7 @@ ghost use Rattle.std.specs.Prelude.{◌≡◌, ◌↔◌, ℕ, List, Some};
 ghost use Rattle.cvss_base.specs.declared.v2.MetricType as type_v2;
 ghost use Rattle.cvss_base.specs.declared.v3.MetricType as type_v3;
 ghost use Rattle.cvss_base.specs.declared.v4.MetricType as type_v4;
-ghost use Rattle.cvss_base.specs.Refusal.{Refusal, IsFirstRefusal, IsFirstRefusalAfter};
+ghost use Rattle.cvss_base.specs.Rejection.{Rejection, IsFirstRejection, IsFirstRejectionAfter};
 ghost use Rattle.cvss_base.specs.ErrorText.{error_text};
 ghost use Rattle.cvss_base.specs.Reported.{reason_reported};
 ghost use Rattle.cvss_base.specs.laws.Rounding.{IsOneCount};
@@ -13,7 +13,7 @@ ghost use Rattle.cvss_vector.specs.v2.Vector as of_v2;
 ghost use Rattle.cvss_vector.specs.v3.Vector as of_v3;
 ghost use Rattle.cvss_vector.specs.v4.Vector as of_v4;
 ghost use Rattle.cvss_vector.specs.Answers.{text_of, IsScoreOf};
-ghost use Rattle.cvss_vector.specs.Dispatch.{DenotesCvss, IsFirstRefusalCvss, cvss_reason};
+ghost use Rattle.cvss_vector.specs.Dispatch.{DenotesCvss, IsFirstRejectionCvss, cvss_reason};
 ghost use Rattle.cvss_vector.specs.Reasons.{reason_text};
 ghost use Rattle.cvss_laws.specs.any.GivenBack.{IsGivenBack};
 
@@ -29,23 +29,23 @@ pub fn texts_denote_one_vector()
         → DenotesCvss text left → DenotesCvss text right → left ≡ right }
 {}
 
-/// A text has at most one first refusal, by the rules of each version and of all.
-pub fn texts_have_one_first_refusal()
-    ensures v2 { (text : List ℕ) → (one other : Refusal type_v2.MetricType)
-        → IsFirstRefusal of_v2.v2 text one → IsFirstRefusal of_v2.v2 text other → one ≡ other }
-    ensures v3 { (text : List ℕ) → (one other : Refusal type_v3.MetricType)
-        → IsFirstRefusalAfter of_v3.v3 text one → IsFirstRefusalAfter of_v3.v3 text other
+/// A text has at most one first rejection, by the rules of each version and of all.
+pub fn texts_have_one_first_rejection()
+    ensures v2 { (text : List ℕ) → (one other : Rejection type_v2.MetricType)
+        → IsFirstRejection of_v2.v2 text one → IsFirstRejection of_v2.v2 text other → one ≡ other }
+    ensures v3 { (text : List ℕ) → (one other : Rejection type_v3.MetricType)
+        → IsFirstRejectionAfter of_v3.v3 text one → IsFirstRejectionAfter of_v3.v3 text other
         → one ≡ other }
-    ensures v4 { (text : List ℕ) → (one other : Refusal type_v4.MetricType)
-        → IsFirstRefusalAfter of_v4.v4 text one → IsFirstRefusalAfter of_v4.v4 text other
+    ensures v4 { (text : List ℕ) → (one other : Rejection type_v4.MetricType)
+        → IsFirstRejectionAfter of_v4.v4 text one → IsFirstRejectionAfter of_v4.v4 text other
         → one ≡ other }
-    ensures any { (text : List ℕ) → (one other : Refusal MetricType)
-        → IsFirstRefusalCvss text one → IsFirstRefusalCvss text other → one ≡ other }
+    ensures any { (text : List ℕ) → (one other : Rejection MetricType)
+        → IsFirstRejectionCvss text one → IsFirstRejectionCvss text other → one ≡ other }
 {}
 
 /// An error that has a reason prints the text of that reason.
 pub fn errors_print_their_reasons()
-    ensures { (error : Error) (reason : Refusal MetricType)
+    ensures { (error : Error) (reason : Rejection MetricType)
         → reason_reported cvss_reason error ≡ Some reason → error_text error ≡ reason_text reason }
 {}
 

@@ -24,7 +24,7 @@ pub use cvss_vector::v2::laws::vectors_are_their_values;
 use cvss_vector::v2::{Score, Vector};
 
 /// Scores compare as their counts, are equal exactly if these are, and are 0 by default; a clone is
-/// the score, and is never refused.
+/// the score, and is never rejected.
 pub fn scores_compare_as_counts()
     ensures order { (x y : ℤ) → ⟦<Score as Ord>⟧.cmp x y ≡ int_cmp x y }
     ensures partial_order { (x y : ℤ) → ⟦<Score as PartialOrd>⟧.partial_cmp x y

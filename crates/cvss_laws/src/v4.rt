@@ -45,7 +45,7 @@ pub use severity::{
 };
 
 /// Two places of values are equal exactly if they are one, and a clone is that place and takes no memory,
-/// so it is never refused.
+/// so it is never rejected.
 pub fn places_are_their_values<const NUMBER: usize>()
     ensures two { EqualsByValue ⟦<OneOfTwo<NUMBER> as PartialEq>⟧.eq }
     ensures three { EqualsByValue ⟦<OneOfThree<NUMBER> as PartialEq>⟧.eq }
@@ -97,7 +97,7 @@ pub fn clones_are_equal()
 }
 
 /// To clone a vector, a score, a nomenclature or an explanation of a score takes no memory, so it is
-/// never refused.
+/// never rejected.
 pub fn values_are_cloned_without_memory()
     ensures vector { ClonesAlways ⟦<Vector as Clone>⟧.is_infallible }
     ensures score { ClonesAlways ⟦<Score as Clone>⟧.is_infallible }

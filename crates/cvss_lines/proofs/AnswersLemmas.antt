@@ -2,7 +2,7 @@
 use Rattle.std.proofs.Common.{◌≡◌, ℕ, ◌+◌, ◌-◌, ◌^◌, Bool, true, false, cond, if◌then◌else◌, min, List, [], ◌∷◌, ◌++◌, refl, sym, ap, ◌∙◌, subst, append-nil, arith, count_by}
 use Rattle.std.proofs.lemmas.List.Sums.{sum_by-append}
 use Rattle.std.proofs.lemmas.Grind.{flat_map-append}
-use Rattle.cvss_lines.specs.Answers.{Answer, IsAnswers, Rule, is_accepted, is_refused, next_number, number_after, written_answer, written_answers}
+use Rattle.cvss_lines.specs.Answers.{Answer, IsAnswers, Rule, is_accepted, is_rejected, next_number, number_after, written_answer, written_answers}
 use Rattle.cvss_lines.specs.Runs.{saturating_count, summary_of}
 use Rattle.cvss_lines.specs.private.Steps.{Counts}
 use Rattle.cvss_lines.specs.declared.summary.Summary.{Summary}
@@ -41,4 +41,4 @@ pub summary_of-push : (old new : Summary) (xs : List Answer) (x : Answer) → ol
 summary_of-push old new xs x is counts =
     let one : Counts (summary_of xs) x new = subst (λ (s : Summary). Counts s x new) is counts in
     ap (λ n. record new { accepted = n }) (one.accepted ∙ sym (saturating_count-push is_accepted xs x))
-    ∙ ap (λ n. record (summary_of (xs ++ x ∷ [])) { refused = n }) (one.refused ∙ sym (saturating_count-push is_refused xs x))
+    ∙ ap (λ n. record (summary_of (xs ++ x ∷ [])) { rejected = n }) (one.rejected ∙ sym (saturating_count-push is_rejected xs x))

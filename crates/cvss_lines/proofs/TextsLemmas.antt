@@ -3,7 +3,7 @@ use Rattle.std.proofs.Common.{◌≡◌, ℕ, List, [], ◌∷◌, ◌++◌, OnO
 use Rattle.std.specs.Fmt.{WritesInCalls}
 use Rattle.std.proofs.lemmas.Fmt.{contents_after_writes}
 use Rattle.std.proofs.lemmas.Result.{on_ok_weaker}
-use Rattle.cvss_lines.specs.Answers.{Accepted, Refused, WritesAnswer, by_one_text, written_text}
+use Rattle.cvss_lines.specs.Answers.{Accepted, Rejected, WritesAnswer, by_one_text, written_text}
 use Rattle.cvss_lines.specs.declared.buffered.OutputBuffer.{OutputBuffer}
 
 -- a text that is written alone is that of the answer
@@ -11,16 +11,16 @@ pub one_text : (old text new : List ℕ) → new ≡ old ++ written_text text
     → new ≡ old ++ flat_map written_text (text ∷ [])
 one_text old text new is = is ∙ ap (λ bytes. old ++ bytes) (sym (append-nil (written_text text)))
 
-module _ (Accepts Refuses : ℕ → List ℕ → List ℕ → Type 0) (number : ℕ) (line text old new : List ℕ) (written : new ≡ old ++ written_text text) where
+module _ (Accepts Rejects : ℕ → List ℕ → List ℕ → Type 0) (number : ℕ) (line text old new : List ℕ) (written : new ≡ old ++ written_text text) where
   -- a text that accepts its line is written
-  pub accepted_by : Accepts number line text → WritesAnswer (by_one_text Accepts Refuses) number line old new true
+  pub accepted_by : Accepts number line text → WritesAnswer (by_one_text Accepts Rejects) number line old new true
   unfolding by_one_text
   accepted_by is = record { answer = Accepted (text ∷ []); answers = is; reported = refl; written = one_text old text new written }
 
-  -- a text that refuses its line is written
-  pub refused_by : Refuses number line text → WritesAnswer (by_one_text Accepts Refuses) number line old new false
+  -- a text that rejects its line is written
+  pub rejected_by : Rejects number line text → WritesAnswer (by_one_text Accepts Rejects) number line old new false
   unfolding by_one_text
-  refused_by is = record { answer = Refused (text ∷ []); answers = is; reported = refl; written = one_text old text new written }
+  rejected_by is = record { answer = Rejected (text ∷ []); answers = is; reported = refl; written = one_text old text new written }
 
 -- what is written in some calls follows what waited
 pub appended : {T E : Type 0} (result : Result T E) (old new : OutputBuffer) (bytes : List ℕ)

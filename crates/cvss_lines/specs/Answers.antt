@@ -3,32 +3,32 @@ use Rattle.std.specs.Prelude.{◌≡◌, ℕ, ◌+◌, ◌-◌, ◌^◌, min, Bo
 
 -- an answer to one line: its texts, each without the byte 10 that ends it
 pub data Answer : Type 0 where
-  Accepted Refused : List (List ℕ) → Answer
+  Accepted Rejected : List (List ℕ) → Answer
 
 -- the answer's texts
 abbrev pub texts_of : Answer → List (List ℕ)
 texts_of (Accepted texts) = texts
-texts_of (Refused texts) = texts
+texts_of (Rejected texts) = texts
 
 -- the line was accepted
 abbrev pub is_accepted : Answer → Bool
 is_accepted (Accepted texts) = true
-is_accepted (Refused texts) = false
+is_accepted (Rejected texts) = false
 
--- the line was refused
-abbrev pub is_refused : Answer → Bool
-is_refused (Accepted texts) = false
-is_refused (Refused texts) = true
+-- the line was rejected
+abbrev pub is_rejected : Answer → Bool
+is_rejected (Accepted texts) = false
+is_rejected (Rejected texts) = true
 
 -- a rule says which answers a line of some number has
 abbrev pub Rule : Type 1
 Rule = ℕ → List ℕ → Answer → Type 0
 
--- each answer is one text, which accepts its line or refuses it as is said here
+-- each answer is one text, which accepts its line or rejects it as is said here
 unfoldable pub by_one_text : (ℕ → List ℕ → List ℕ → Type 0) → (ℕ → List ℕ → List ℕ → Type 0) → Rule
-by_one_text Accepts Refuses number line (Accepted (text ∷ [])) = Accepts number line text
-by_one_text Accepts Refuses number line (Refused (text ∷ [])) = Refuses number line text
-by_one_text Accepts Refuses number line answer = ⊥
+by_one_text Accepts Rejects number line (Accepted (text ∷ [])) = Accepts number line text
+by_one_text Accepts Rejects number line (Rejected (text ∷ [])) = Rejects number line text
+by_one_text Accepts Rejects number line answer = ⊥
 
 -- the number of the next line, as a `u64` that stops at its maximum
 abbrev pub next_number : ℕ → ℕ

@@ -4,9 +4,9 @@ use Rattle.cvss_lines.specs.declared.summary.Summary.{Summary}
 use Rattle.cvss_lines.specs.declared.fault.RunFault.{RunFault}
 use Rattle.cvss_lines.specs.declared.fault.RunFault.TheVariants.{Read, Write, Memory}
 
--- 0 where no line was refused, 1 where some were, 2 after a fault
+-- 0 where no line was rejected, 1 where some were, 2 after a fault
 abbrev pub exit_status : {F : Type 0} → Result Summary F → ℕ
-exit_status (Ok summary) = if summary.refused == 0 then 0 else 1
+exit_status (Ok summary) = if summary.rejected == 0 then 0 else 1
 exit_status (Err fault) = 2
 
 -- the words for a fault

@@ -2,7 +2,7 @@
 -- has. Lines are numbered from 1.
 use Rattle.std.specs.Prelude.{◌≡◌, ℕ, ◌-◌, ◌^◌, ◌⊎◌, min, Bool, List, take, Option, count_by, Result, IfOk, IsErrOf}
 use Rattle.std.specs.Io.KnownBytes.{Consumes, Appends, IsAtEnd}
-use Rattle.cvss_lines.specs.Answers.{Answer, IsAnswers, Rule, is_accepted, is_refused, written_answers}
+use Rattle.cvss_lines.specs.Answers.{Answer, IsAnswers, Rule, is_accepted, is_rejected, written_answers}
 use Rattle.cvss_lines.specs.Lines.{lines, ended_lines}
 use Rattle.cvss_lines.specs.declared.fault.RunFault.{RunFault}
 use Rattle.cvss_lines.specs.declared.fault.RunFault.TheVariants.{Read, Write, Memory}
@@ -12,11 +12,11 @@ use Rattle.cvss_lines.specs.declared.summary.Summary.{Summary}
 abbrev pub saturating_count : (Answer → Bool) → List Answer → ℕ
 saturating_count test answers = min (count_by test answers) (2 ^ 64 - 1)
 
--- how many of the answers accept their line, and how many refuse it
+-- how many of the answers accept their line, and how many reject it
 abbrev pub summary_of : List Answer → Summary
 summary_of answers = record {
   accepted = saturating_count is_accepted answers;
-  refused = saturating_count is_refused answers;
+  rejected = saturating_count is_rejected answers;
 }
 
 -- all of the input is read, and exactly the answers of its lines are written and counted

@@ -8,7 +8,7 @@ use std::alloc::{AllocError, Global};
 use std::io::Write;
 
 /// A way to answer lines, which may depend on a value, as on the options of a command. Each answer is
-/// some texts, and accepts its line or refuses it.
+/// some texts, and accepts its line or rejects it.
 pub trait Answering {
     /// Which answers a line has.
     ghost rule: { Self → Rule };

@@ -9,7 +9,7 @@ use std::alloc::Global;
 use std::io::Write;
 
 /// A way to answer lines that may write the answers that wait in the midst of a long one. Each answer is
-/// some texts, and accepts its line or refuses it.
+/// some texts, and accepts its line or rejects it.
 pub trait Service {
     /// Which answers a line has.
     ghost rule: { Self → Rule };

@@ -1,15 +1,15 @@
 -- What is written of an answer after a prefix.
 use Rattle.std.proofs.Common.{◌≡◌, ℕ, Bool, List, [], ◌∷◌, ◌++◌, flat_map, map, refl, sym, ap, ◌∙◌, append_assoc, append-nil}
-use Rattle.cvss_lines.specs.Answers.{Answer, Accepted, Refused, Rule, WritesAnswer, is_accepted, texts_of, written_text}
+use Rattle.cvss_lines.specs.Answers.{Answer, Accepted, Rejected, Rule, WritesAnswer, is_accepted, texts_of, written_text}
 use Rattle.cvss_lines.specs.Prefixed.{AnswersByOneText, IsPrefixed, with_prefix}
 
 texts_prefixed : (prefix : List ℕ) (answer : Answer) → texts_of (with_prefix prefix answer) ≡ map (λ text. prefix ++ text) (texts_of answer)
 texts_prefixed prefix (Accepted texts) = refl
-texts_prefixed prefix (Refused texts) = refl
+texts_prefixed prefix (Rejected texts) = refl
 
 accepted_prefixed : (prefix : List ℕ) (answer : Answer) → is_accepted answer ≡ is_accepted (with_prefix prefix answer)
 accepted_prefixed prefix (Accepted texts) = refl
-accepted_prefixed prefix (Refused texts) = refl
+accepted_prefixed prefix (Rejected texts) = refl
 
 -- an answer after a prefix, once both are written
 pub WritesAnswer-prefixed : (rule : Rule) → AnswersByOneText rule → (prefix : List ℕ) (number : ℕ) (line old middle new : List ℕ) (accepted : Bool) → middle ≡ old ++ prefix

@@ -11,7 +11,7 @@ nothing_served = record { rejected = false; unread = false; stopped = None }
 
 -- what the command has come to after one more run; a source that cannot be read to its end stops nothing
 abbrev pub after : Served → Result Summary RunFault → Served
-after served (Ok summary) = record served { rejected = served.rejected || not (summary.refused == 0) }
+after served (Ok summary) = record served { rejected = served.rejected || not (summary.rejected == 0) }
 after served (Err Read) = record served { unread = true }
 after served (Err Write) = record served { stopped = Some Write }
 after served (Err Memory) = record served { stopped = Some Memory }

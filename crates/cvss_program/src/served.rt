@@ -34,7 +34,7 @@ impl Served {
     {
         match outcome {
             Ok(summary) => Served {
-                rejected: self.rejected || summary.refused != 0,
+                rejected: self.rejected || summary.rejected != 0,
                 ..self
             },
             Err(RunFault::Read) => Served {

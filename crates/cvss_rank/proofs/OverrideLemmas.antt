@@ -5,7 +5,7 @@ use Rattle.cvss_vector.specs.Setting.{IsWith, IsWithReason}
 use Rattle.cvss_vector.specs.declared.metric_type.MetricType.{MetricType}
 use Rattle.cvss_vector.specs.declared.vector.Cvss.{Cvss}
 use Rattle.cvss_vector.specs.declared.vector.Cvss.TheVariants.{CvssV20, CvssV30, CvssV31, CvssV40}
-use Rattle.cvss_base.specs.Refusal.{Refusal}
+use Rattle.cvss_base.specs.Rejection.{Rejection}
 use Rattle.cvss_rank.specs.Overrides.{HoldsFor, HoldsForNoneLike, HoldsForSome, HoldsIn, IsAfter, IsAfterAll, IsSetBy, family_of}
 use Rattle.cvss_rank.specs.declared.overrides.Family.{Family}
 use Rattle.cvss_rank.specs.declared.overrides.Family.TheVariants.{V2, V3, V4}
@@ -20,7 +20,7 @@ use Rattle.cvss_vector.specs.v4.Vector.{v4}
 use Rattle.cvss_vector.specs.v4.private.VectorLaws.{v4_laws}
 
 -- what is wrong with metrics for one vector is so for all of its family
-pub with_no_reason : (text : List ℕ) (cvss other new : Cvss) (index : Option ℕ) (reason : Refusal MetricType) → family_of other ≡ family_of cvss → IsWithReason cvss text index reason → IsWith other text new → ⊥
+pub with_no_reason : (text : List ℕ) (cvss other new : Cvss) (index : Option ℕ) (reason : Rejection MetricType) → family_of other ≡ family_of cvss → IsWithReason cvss text index reason → IsWith other text new → ⊥
 with_no_reason text (CvssV20 v) (CvssV20 w) new index reason same why is = set_no_reason v2 v2_laws w (components_in text) is.own index why.own is.holds why.first
 with_no_reason text (CvssV30 v) (CvssV30 w) new index reason same why is = set_no_reason v3 v3_laws w (components_in text) is.own index why.own is.holds why.first
 with_no_reason text (CvssV30 v) (CvssV31 w) new index reason same why is = set_no_reason v3 v3_laws w (components_in text) is.own index why.own is.holds why.first

@@ -2,16 +2,16 @@
 use Rattle.std.specs.Prelude.{◌≡◌, ℕ, Bool, List, [], ◌∷◌, ◌++◌, None}
 use Rattle.cvss_vector.specs.Complete.{IsReadErrorBy, missing_by}
 use Rattle.cvss_vector.specs.Dispatch.{DenotesCvss}
-use Rattle.cvss_vector.specs.declared.refusal.ReadError.{ReadError}
+use Rattle.cvss_vector.specs.declared.rejection.ReadError.{ReadError}
 use Rattle.cvss_vector.specs.declared.vector.Cvss.{Cvss}
-use Rattle.cvss_scan.specs.Mentions.{AreFound, IsFound, Placed, mentions_of}
+use Rattle.cvss_scan.specs.Matches.{AreFound, IsFound, Placed, candidates_of}
 use Rattle.cvss_rank.specs.declared.reading.Reason.{Reason}
 use Rattle.cvss_rank.specs.declared.reading.Reason.TheVariants.{NoVector, SeveralVectors, Rejected}
 
 -- the line has this match and no other
 pub record IsOnlyMatch (line text : List ℕ) : Type 0 where
   pub match : Placed
-  pub only : AreFound (mentions_of line) (match ∷ [])
+  pub only : AreFound (candidates_of line) (match ∷ [])
   pub is : text ≡ match.text
 
 -- two of the line's matches are found
@@ -21,7 +21,7 @@ pub record HasSeveral (line : List ℕ) : Type 0 where
   pub before : List Placed
   pub between : List Placed
   pub after : List Placed
-  pub are : mentions_of line ≡ before ++ first ∷ (between ++ second ∷ after)
+  pub are : candidates_of line ≡ before ++ first ∷ (between ++ second ∷ after)
   pub first_found : IsFound first.text
   pub second_found : IsFound second.text
 
@@ -40,6 +40,6 @@ pub record IsRejected (allow_incomplete : Bool) (line : List ℕ) (error : ReadE
 
 -- why the line has no vector
 abbrev pub IsReason : Bool → List ℕ → Reason → Type 0
-IsReason allow_incomplete line NoVector = AreFound (mentions_of line) []
+IsReason allow_incomplete line NoVector = AreFound (candidates_of line) []
 IsReason allow_incomplete line SeveralVectors = HasSeveral line
 IsReason allow_incomplete line (Rejected error) = IsRejected allow_incomplete line error

@@ -4,7 +4,7 @@ ghost use Rattle.std.specs.Prelude.{Bool, IfErr, IfOk};
 ghost use Rattle.cvss_vector.specs.Answers.{HasScore};
 ghost use Rattle.cvss_rank.specs.Reading.{IsOnlyMatch, IsReason, IsVectorOf};
 
-use cvss_scan::Mentions;
+use cvss_scan::Matches;
 use cvss_vector::{Cvss, ReadError};
 
 /// Why a line has no vector.
@@ -41,7 +41,7 @@ fn only_match(line: &[u8]) -> Result<&[u8], Reason<'_>>
     ensures reason { IfErr result (λ reason. (allow_incomplete : Bool)
         → IsReason allow_incomplete line.now reason) }
 {
-    let mut matches = Mentions::of(line);
+    let mut matches = Matches::of(line);
     let Some(only) = matches.next() else {
         return Err(Reason::NoVector);
     };

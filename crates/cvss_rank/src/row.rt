@@ -1,7 +1,7 @@
 //! What is ranked of a line.
 
 ghost use Rattle.std.specs.Prelude.{◌≡◌, pos};
-ghost use Rattle.cvss_vector.specs.Answers.{rating_by, score_of_tenths};
+ghost use Rattle.cvss_vector.specs.Answers.{severity_by, score_of_tenths};
 
 use cvss_base::{Severity, TENTH};
 use cvss_score::ranking::Ranked;
@@ -19,7 +19,7 @@ pub struct Row<'a> {
 impl Row<'_> {
     /// The severity that the vector's version gives the score.
     pub fn severity(&self) -> Severity
-        ensures { result ≡ rating_by self.now.vector (score_of_tenths self.now.tenths) }
+        ensures { result ≡ severity_by self.now.vector (score_of_tenths self.now.tenths) }
     {
         self.vector.severity_of(i128::from(self.tenths) * TENTH)
     }

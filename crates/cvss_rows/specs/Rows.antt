@@ -8,7 +8,7 @@ use Rattle.cvss_vector.specs.Evaluation.{IsEvaluation, version_text}
 use Rattle.cvss_vector.specs.Reasons.{error_message}
 use Rattle.cvss_vector.specs.declared.evaluation.Evaluation.{Evaluation}
 use Rattle.cvss_vector.specs.declared.evaluation.Rated.{Rated}
-use Rattle.cvss_vector.specs.declared.refusal.ReadError.{ReadError}
+use Rattle.cvss_vector.specs.declared.rejection.ReadError.{ReadError}
 use Rattle.cvss_vector.specs.declared.vector.Cvss.{Cvss}
 use Rattle.cvss_vector.specs.declared.vector.Cvss.TheVariants.{CvssV20, CvssV30, CvssV31, CvssV40}
 use Rattle.cvss_base.specs.SeverityText.{text_of as severity_text}

@@ -10,7 +10,7 @@ use Rattle.cvss_base.specs.Text.{component, has, joined, read_as, slash}
 use Rattle.cvss_base.specs.Version.{AreComponentsOf, Version, numeral, read, version_piece}
 use Rattle.cvss_vector.specs.declared.vector.Cvss.{Cvss}
 use Rattle.cvss_vector.specs.declared.vector.Cvss.TheVariants.{CvssV20, CvssV30, CvssV31, CvssV40}
-use Rattle.cvss_base.specs.Refusal.{piece_at}
+use Rattle.cvss_base.specs.Rejection.{piece_at}
 use Rattle.cvss_base.specs.declared.v2.MetricType.{MetricType as KindV2}
 use Rattle.cvss_base.specs.declared.v2.MetricType.TheVariants as kind_v2
 use Rattle.cvss_base.specs.declared.v3.MetricType.{MetricType as KindV3}
@@ -29,12 +29,12 @@ use Rattle.cvss_vector.specs.v4.Vector.{v4}
 use Rattle.cvss_vector.specs.v4.private.VectorLaws.{v4_laws}
 use Rattle.cvss_vector.specs.declared.v4.vector.Vector as vector_v4
 use Rattle.cvss_vector.proofs.ReadLemmas.{only_one, v2_parts, v3_parts, v4_parts}
-use Rattle.cvss_scan.specs.Mentions.{IsAccepted, mentions_of}
+use Rattle.cvss_scan.specs.Matches.{IsAccepted, candidates_of}
 use Rattle.cvss_scan.specs.Parts.{begins_with_prefix, is_vector_byte, label_length}
-use Rattle.cvss_scan.specs.laws.Whole.{IsMentionedBetween, IsWhole}
+use Rattle.cvss_scan.specs.laws.Whole.{IsMatchedBetween, IsWhole}
 use Rattle.cvss_scan.proofs.LabelLemmas.{free_at, free_joined, unlabelled}
 use Rattle.cvss_scan.proofs.PlainLemmas.{IsPlain-joined, IsWhole-plain, at_each, ends_after, ends_whole, is_plain, plain_at, plain_read, plain_with_slash}
-use Rattle.cvss_scan.proofs.WholeLemmas.{mentioned_alone, mentioned_between}
+use Rattle.cvss_scan.proofs.WholeLemmas.{matched_alone, matched_between}
 
 -- the component of a value, as it is read
 abbrev component_read : {V K : Type 0} → (version : Version V K) → (kind : K) → version.Value kind → List ℕ
@@ -127,8 +127,8 @@ denoted_whole text (CvssV40 vector) denotes = whole_v4 text vector denotes
 pub accepted_whole : (text : List ℕ) → IsAccepted text → IsWhole text
 accepted_whole text accepted = denoted_whole text accepted.cvss accepted.denoted
 
-pub accepted_between : (before text after : List ℕ) → IsAccepted text → IsMentionedBetween before text after
-accepted_between before text after accepted = mentioned_between before text after (accepted_whole text accepted)
+pub accepted_between : (before text after : List ℕ) → IsAccepted text → IsMatchedBetween before text after
+accepted_between before text after accepted = matched_between before text after (accepted_whole text accepted)
 
-pub accepted_alone : (text : List ℕ) → IsAccepted text → mentions_of text ≡ record { place = 0; text = text } ∷ []
-accepted_alone text accepted = mentioned_alone text (accepted_whole text accepted)
+pub accepted_alone : (text : List ℕ) → IsAccepted text → candidates_of text ≡ record { place = 0; text = text } ∷ []
+accepted_alone text accepted = matched_alone text (accepted_whole text accepted)

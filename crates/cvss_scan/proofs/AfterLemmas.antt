@@ -1,4 +1,4 @@
--- The parts and mentions after a text that ends with a byte of no run.
+-- The parts and candidates after a text that ends with a byte of no run.
 use Rattle.std.proofs.Common.{◌≡◌, ◌≢◌, ℕ, ◌+◌, Bool, true, false, cond, not, eqb, ◌||◌, ◌&&◌, ◌⊎◌, inl, inr, List, [], ◌∷◌, ◌++◌, codes, length, refl, reverse, sym, ap, ap₂, ◌∙◌, subst, append_assoc, arith, length-append}
 use Rattle.std.specs.Char.{is_ascii_digit, to_ascii_uppercase}
 use Rattle.std.specs.List.{concat, list_all, list_any, onto_first, prefix_len}
@@ -9,7 +9,7 @@ use Rattle.std.proofs.lemmas.List.Elements.{All-weaker}
 use Rattle.std.proofs.lemmas.List.Folds.{list_any_none}
 use Rattle.std.proofs.lemmas.List.Sums.{AllPass-from_list_all}
 use Rattle.cvss_scan.specs.Parts.{begins_like, begins_part, begins_with_prefix, is_like, is_run_byte, loose_prefixes, parts_of}
-use Rattle.cvss_scan.specs.Mentions.{mention_of, placed_from}
+use Rattle.cvss_scan.specs.Matches.{candidate_of, placed_from}
 use Rattle.cvss_scan.specs.laws.Whole.{EndsOutside}
 use Rattle.cvss_scan.proofs.PartLemmas.{concat-parts, parts_alone}
 use Rattle.cvss_scan.proofs.PrefixLemmas.{starts_before}
@@ -96,6 +96,6 @@ parts_after before rest outside = elim (either_apart before (reverse before) (sy
 pub placed_after : (place : ℕ) (parts after : List (List ℕ)) → placed_from place (parts ++ after) ≡ placed_from place parts ++ placed_from (place + length (concat parts)) after
 placed_after place [] after = ap (λ at. placed_from at after) (omega arith)
 placed_after place (part ∷ parts) after =
-    ap (λ more. mention_of place part ∷ more)
+    ap (λ more. candidate_of place part ∷ more)
     (placed_after (place + length part) parts after
     ∙ ap (λ at. placed_from (place + length part) parts ++ placed_from at after) (omega (arith, length-append part (concat parts))))

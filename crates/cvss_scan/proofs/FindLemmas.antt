@@ -1,9 +1,9 @@
--- When the mention of a part is found.
+-- When the candidate of a part is found.
 use Rattle.std.proofs.Common.{◌≡◌, ℕ, ◌+◌, true, ◌||◌, ◌&&◌, eqb, inl, inr, List, ◌∷◌, [], drop, sym, ap, ◌∙◌, subst}
 use Rattle.std.specs.Prelude.{unwrap_or}
 use Rattle.std.proofs.lemmas.Bool.{and_parts, cond-true, or_cases, or_left, or_right}
 use Rattle.cvss_base.specs.Text.{has, slash}
-use Rattle.cvss_scan.specs.Mentions.{IsFound, Placed, label_of, without_label}
+use Rattle.cvss_scan.specs.Matches.{IsFound, Placed, label_of, without_label}
 use Rattle.cvss_scan.specs.Parts.{begins_exactly, begins_loosely, begins_with_prefix, label_length, percent}
 use Rattle.cvss_scan.specs.private.Passing.{has_mark}
 use Rattle.cvss_scan.proofs.AcceptedLemmas.{accepted_whole}
@@ -35,11 +35,11 @@ found_unlabelled text (inr meant) =
       | inr loosely ↦ or_right (begins_exactly text) (begins_loosely text) loosely
     ])
 
-pub found_by : (given mention : Placed) → given ≡ mention → IsFound given.text → (given ≡ mention) × IsFound mention.text
-found_by given mention same found = (same, subst (λ (each : Placed). IsFound each.text) same found)
+pub found_by : (given candidate : Placed) → given ≡ candidate → IsFound given.text → (given ≡ candidate) × IsFound candidate.text
+found_by given candidate same found = (same, subst (λ (each : Placed). IsFound each.text) same found)
 
-pub not_found_by : (given mention : Placed) → given ≡ mention → ¬ (IsFound given.text) → ¬ (IsFound mention.text)
-not_found_by given mention same not_found found = not_found (subst (λ (each : Placed). IsFound each.text) (sym same) found)
+pub not_found_by : (given candidate : Placed) → given ≡ candidate → ¬ (IsFound given.text) → ¬ (IsFound candidate.text)
+not_found_by given candidate same not_found found = not_found (subst (λ (each : Placed). IsFound each.text) (sym same) found)
 
 pub found_whole : (place : ℕ) (text : List ℕ) → IsFound text → (record { place = place; text = text } ≡ without_label place text) × IsFound (without_label place text).text
 found_whole place text found = found_by (record { place = place; text = text }) (without_label place text) (sym (without_no_label place text (found_unlabelled text found))) found

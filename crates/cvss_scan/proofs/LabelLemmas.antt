@@ -6,7 +6,7 @@ use Rattle.std.specs.List.{All, starts_with}
 use Rattle.std.specs.Option.{option_map}
 use Rattle.std.proofs.lemmas.Bool.{and_parts, cond-false}
 use Rattle.cvss_base.specs.Text.{colon, joined, slash}
-use Rattle.cvss_scan.specs.Mentions.{label_of}
+use Rattle.cvss_scan.specs.Matches.{label_of}
 use Rattle.cvss_scan.specs.Parts.{begins_with_prefix, ends_label, label_length}
 use Rattle.cvss_scan.proofs.PlainLemmas.{IsLocal, at_each, each_with_slash, joined_holds}
 use Rattle.cvss_scan.proofs.PrefixLemmas.{starts_before}

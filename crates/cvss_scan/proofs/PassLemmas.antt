@@ -9,13 +9,13 @@ use Rattle.std.proofs.lemmas.List.Folds.{list_any-append, list_any_at, list_any_
 use Rattle.cvss_base.specs.Text.{has, slash}
 use Rattle.cvss_lines.specs.Search.{IsFirstOf}
 use Rattle.cvss_scan.specs.Parts.{parts_of, percent}
-use Rattle.cvss_scan.specs.Mentions.{IsFound, Placed, mention_of, placed_from}
-use Rattle.cvss_scan.specs.MentionsLeft.{NoneFound}
+use Rattle.cvss_scan.specs.Matches.{IsFound, Placed, candidate_of, placed_from}
+use Rattle.cvss_scan.specs.CandidatesLeft.{NoneFound}
 use Rattle.cvss_scan.specs.private.Passing.{Passes, has_mark, is_mark}
 use Rattle.cvss_scan.proofs.AfterLemmas.{placed_after}
 use Rattle.cvss_scan.proofs.FindLemmas.{found_with_mark}
 use Rattle.cvss_scan.proofs.PartLemmas.{concat-parts}
-use Rattle.cvss_scan.proofs.PlaceLemmas.{IsInside, mention_inside}
+use Rattle.cvss_scan.proofs.PlaceLemmas.{IsInside, match_inside}
 
 -- no byte passes a test before a place, where none does before a later one
 none_before : (test : ℕ → Bool) (text : List ℕ) (end place : ℕ) → ((k : ℕ) → k < end → test (get_or text k 0) ≡ false) → place ≤ end → end ≤ length text → list_any test (take place text) ≡ false
@@ -41,18 +41,18 @@ has_by_first byte text place first = elim (leb_tells (suc place) (length text)) 
 ]
 
 -- what is inside an unmarked part is not found
-unmarked_inside : (place : ℕ) (part : List ℕ) (mention : Placed) → IsInside place part mention → has_mark part ≡ false → has_mark mention.text ≡ false
-unmarked_inside place part mention inside none =
-    let after = (or_parts (has_mark inside.front) (has_mark (mention.text ++ inside.back))
-    (sym (list_any-append is_mark inside.front (mention.text ++ inside.back)) ∙ sym (ap has_mark inside.is) ∙ none)).1 in
-    (or_parts (has_mark mention.text) (has_mark inside.back) (sym (list_any-append is_mark mention.text inside.back) ∙ after)).0
+unmarked_inside : (place : ℕ) (part : List ℕ) (candidate : Placed) → IsInside place part candidate → has_mark part ≡ false → has_mark candidate.text ≡ false
+unmarked_inside place part candidate inside none =
+    let after = (or_parts (has_mark inside.front) (has_mark (candidate.text ++ inside.back))
+    (sym (list_any-append is_mark inside.front (candidate.text ++ inside.back)) ∙ sym (ap has_mark inside.is) ∙ none)).1 in
+    (or_parts (has_mark candidate.text) (has_mark inside.back) (sym (list_any-append is_mark candidate.text inside.back) ∙ after)).0
 
 none_found : (place : ℕ) (parts : List (List ℕ)) → has_mark (concat parts) ≡ false → NoneFound (placed_from place parts)
-none_found place [] none = All-nil (λ mention. ¬ (IsFound mention.text))
+none_found place [] none = All-nil (λ candidate. ¬ (IsFound candidate.text))
 none_found place (part ∷ parts) none =
     let both = or_parts (has_mark part) (has_mark (concat parts)) (sym (list_any-append is_mark part (concat parts)) ∙ none) in
-    All-cons (λ mention. ¬ (IsFound mention.text)) (mention_of place part) _
-    (λ found. both_ways _ (unmarked_inside place part (mention_of place part) (mention_inside place part) both.0) (found_with_mark _ found))
+    All-cons (λ candidate. ¬ (IsFound candidate.text)) (candidate_of place part) _
+    (λ found. both_ways _ (unmarked_inside place part (candidate_of place part) (match_inside place part) both.0) (found_with_mark _ found))
     (none_found (place + length part) parts both.1)
 
 -- the first bytes of what is left of a text, which have no mark and after which it is cut

@@ -1,4 +1,4 @@
--- Where the mentions of a text are.
+-- Where the candidates of a text are.
 use Rattle.std.proofs.Common.{◌≡◌, ℕ, ◌+◌, ◌-◌, ◌≤◌, Bool, true, false, cond, List, [], ◌∷◌, ◌++◌, length, take, drop, sym, ap, ◌∙◌, append-nil, append_assoc, arith, length-append, length-take-le, take-append-drop, take_at, drop_at}
 use Rattle.std.specs.Prelude.{unwrap_or}
 use Rattle.std.specs.List.{All, concat, suffix_len}
@@ -6,7 +6,7 @@ use Rattle.std.proofs.lemmas.Bool.{cond_both}
 use Rattle.std.proofs.lemmas.List.Elements.{All-nil, All-cons}
 use Rattle.cvss_base.specs.Text.{has, slash}
 use Rattle.cvss_scan.specs.Parts.{before_percent, begins_with_prefix, is_divider, label_length, without_dividers, parts_of, unencoded}
-use Rattle.cvss_scan.specs.Mentions.{Placed, label_of, mention_of, mentions_of, placed_from}
+use Rattle.cvss_scan.specs.Matches.{Placed, label_of, candidate_of, candidates_of, placed_from}
 use Rattle.cvss_scan.specs.laws.Places.{AreInOrder, StandsIn}
 use Rattle.cvss_scan.proofs.LabelLemmas.{label_bound}
 use Rattle.cvss_scan.proofs.PartLemmas.{concat-parts}
@@ -15,7 +15,7 @@ begins_either : (encoded : Bool) (part : List ℕ) (count : ℕ) → (off : List
 begins_either true part count = (drop count part, sym (take-append-drop count part))
 begins_either false part count = ([], sym (append-nil part))
 
--- a part begins with the bytes in which its mention is
+-- a part begins with the bytes in which its candidate is
 begins : (part : List ℕ) → (off : List ℕ) × (part ≡ without_dividers (unencoded part) ++ off)
 begins part =
     let text = unencoded part in
@@ -29,15 +29,15 @@ shorter_bytes part = let first = begins part in omega (arith, ap length first.1,
 pub label_within : (text : List ℕ) → label_of text ≤ length text
 label_within text = cond_both (begins_with_prefix text) 0 (unwrap_or (label_length text) 0) (λ count. count ≤ length text) (λ prefixed. omega arith) (λ other. label_bound text)
 
--- the mention's bytes are in the part that begins at this place, between others
-pub record IsInside (place : ℕ) (part : List ℕ) (mention : Placed) : Type 0 where
+-- the candidate's bytes are in the part that begins at this place, between others
+pub record IsInside (place : ℕ) (part : List ℕ) (candidate : Placed) : Type 0 where
   pub front : List ℕ
   pub back : List ℕ
-  pub is : part ≡ front ++ (mention.text ++ back)
-  pub at : mention.place ≡ place + length front
+  pub is : part ≡ front ++ (candidate.text ++ back)
+  pub at : candidate.place ≡ place + length front
 
-pub mention_inside : (place : ℕ) (part : List ℕ) → IsInside place part (mention_of place part)
-mention_inside place part =
+pub match_inside : (place : ℕ) (part : List ℕ) → IsInside place part (candidate_of place part)
+match_inside place part =
     let first = begins part in
     let bytes = without_dividers (unencoded part) in
     let label = label_of bytes in
@@ -48,43 +48,43 @@ mention_inside place part =
       at = omega (arith, length-take-le label bytes (label_within bytes));
     }
 
--- the mention of a part ends within it
-ends_inside : (place : ℕ) (part : List ℕ) (mention : Placed) → IsInside place part mention → mention.place + length mention.text ≤ place + length part
-ends_inside place part mention inside =
-    omega (arith, inside.at, ap length inside.is, length-append inside.front (mention.text ++ inside.back), length-append mention.text inside.back)
+-- the candidate of a part ends within it
+ends_inside : (place : ℕ) (part : List ℕ) (candidate : Placed) → IsInside place part candidate → candidate.place + length candidate.text ≤ place + length part
+ends_inside place part candidate inside =
+    omega (arith, inside.at, ap length inside.is, length-append inside.front (candidate.text ++ inside.back), length-append candidate.text inside.back)
 
-stands : (text before part after : List ℕ) (mention : Placed) → text ≡ before ++ (part ++ after) → IsInside (length before) part mention → StandsIn text mention
-stands text before part after mention is inside =
+stands : (text before part after : List ℕ) (candidate : Placed) → text ≡ before ++ (part ++ after) → IsInside (length before) part candidate → StandsIn text candidate
+stands text before part after candidate is inside =
     let front = before ++ inside.front in
     let rest = inside.back ++ after in
-    let all : text ≡ front ++ (mention.text ++ rest) =
+    let all : text ≡ front ++ (candidate.text ++ rest) =
     is ∙ ap (λ it. before ++ (it ++ after)) inside.is
-    ∙ ap (λ it. before ++ it) (append_assoc inside.front (mention.text ++ inside.back) after ∙ ap (λ it. inside.front ++ it) (append_assoc mention.text inside.back after))
-    ∙ sym (append_assoc before inside.front (mention.text ++ rest)) in
-    let at : length front ≡ mention.place = omega (arith, inside.at, length-append before inside.front) in
+    ∙ ap (λ it. before ++ it) (append_assoc inside.front (candidate.text ++ inside.back) after ∙ ap (λ it. inside.front ++ it) (append_assoc candidate.text inside.back after))
+    ∙ sym (append_assoc before inside.front (candidate.text ++ rest)) in
+    let at : length front ≡ candidate.place = omega (arith, inside.at, length-append before inside.front) in
     record {
-      within = omega (arith, at, ap length all, length-append front (mention.text ++ rest), length-append mention.text rest);
-      is = ap (λ bytes. take (length mention.text) (drop mention.place bytes)) all
-          ∙ ap (take (length mention.text)) (drop_at front (mention.text ++ rest) mention.place at) ∙ take_at mention.text rest (length mention.text) (omega arith);
+      within = omega (arith, at, ap length all, length-append front (candidate.text ++ rest), length-append candidate.text rest);
+      is = ap (λ bytes. take (length candidate.text) (drop candidate.place bytes)) all
+          ∙ ap (take (length candidate.text)) (drop_at front (candidate.text ++ rest) candidate.place at) ∙ take_at candidate.text rest (length candidate.text) (omega arith);
     }
 
 all_stand : (text before : List ℕ) (place : ℕ) (parts : List (List ℕ)) → place ≡ length before → text ≡ before ++ concat parts → All (StandsIn text) (placed_from place parts)
 all_stand text before place [] place_is is = All-nil (StandsIn text)
 all_stand text before place (part ∷ parts) place_is is =
     All-cons (StandsIn text) _ _
-    (rw place_is (stands text before part (concat parts) _ is (mention_inside (length before) part)))
+    (rw place_is (stands text before part (concat parts) _ is (match_inside (length before) part)))
     (all_stand text (before ++ part) (place + length part) parts (omega (arith, place_is, length-append before part)) (is ∙ sym (append_assoc before part (concat parts))))
 
-pub mentions_stand : (text : List ℕ) → All (StandsIn text) (mentions_of text)
-mentions_stand text = all_stand text [] 0 (parts_of text) (omega arith) (sym (concat-parts text))
+pub matches_are_at : (text : List ℕ) → All (StandsIn text) (candidates_of text)
+matches_are_at text = all_stand text [] 0 (parts_of text) (omega arith) (sym (concat-parts text))
 
 ordered_from : (place : ℕ) (parts : List (List ℕ)) → AreInOrder (placed_from place parts)
 ordered_from place [] = tt
 ordered_from place (part ∷ []) = tt
 ordered_from place (part ∷ next ∷ parts) =
-    let this = ends_inside place part (mention_of place part) (mention_inside place part) in
-    let following = mention_inside (place + length part) next in
+    let this = ends_inside place part (candidate_of place part) (match_inside place part) in
+    let following = match_inside (place + length part) next in
     (omega (arith, this, following.at), ordered_from (place + length part) (next ∷ parts))
 
-pub mentions_ordered : (text : List ℕ) → AreInOrder (mentions_of text)
-mentions_ordered text = ordered_from 0 (parts_of text)
+pub matches_ordered : (text : List ℕ) → AreInOrder (candidates_of text)
+matches_ordered text = ordered_from 0 (parts_of text)

@@ -8,7 +8,7 @@ use Rattle.std.proofs.lemmas.List.{get_or-append-add, get_or-map, length-map, ta
 use Rattle.std.proofs.lemmas.List.Elements.{All-head, All-tail}
 use Rattle.std.proofs.lemmas.List.Sums.{suffix_len_is}
 use Rattle.cvss_base.specs.Text.{colon, has, joined, read_as, slash, uppercased}
-use Rattle.cvss_scan.specs.Mentions.{label_of}
+use Rattle.cvss_scan.specs.Matches.{label_of}
 use Rattle.cvss_scan.specs.Parts.{begins_like, is_divider, is_like, is_vector_byte, without_dividers}
 use Rattle.cvss_scan.specs.laws.Whole.{IsWhole, has_second_prefix}
 use Rattle.cvss_scan.proofs.PrefixLemmas.{starts_before}

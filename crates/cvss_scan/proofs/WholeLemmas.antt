@@ -1,4 +1,4 @@
--- Texts that are mentions as a whole, wherever they are.
+-- Texts that are candidates as a whole, wherever they are.
 use Rattle.std.proofs.Common.{◌≡◌, ℕ, suc, ◌+◌, true, false, cond, not, eqb, ◌||◌, List, [], ◌∷◌, ◌++◌, codes, drop, length, take, refl, sym, ap, ap₂, ◌∙◌, subst, append-nil, arith, drop_at, drop-drop}
 use Rattle.std.specs.List.{Contains, concat, list_all, list_any}
 use Rattle.std.proofs.Math.Seq.{take-append-add}
@@ -8,8 +8,8 @@ use Rattle.std.proofs.lemmas.List.Elements.{Contains-append_right}
 use Rattle.std.proofs.lemmas.List.Sums.{take_while-cons}
 use Rattle.cvss_base.specs.Text.{has, slash}
 use Rattle.cvss_scan.specs.Parts.{before_percent, begins_like, begins_with_prefix, is_like, is_run_byte, is_vector_byte, parts_of, percent, unencoded, without_dividers}
-use Rattle.cvss_scan.specs.Mentions.{Placed, label_of, mention_of, mentions_of, placed_from, without_label}
-use Rattle.cvss_scan.specs.laws.Whole.{IsMentionedBetween, IsWhole, has_second_prefix, is_other}
+use Rattle.cvss_scan.specs.Matches.{Placed, label_of, candidate_of, candidates_of, placed_from, without_label}
+use Rattle.cvss_scan.specs.laws.Whole.{IsMatchedBetween, IsWhole, has_second_prefix, is_other}
 use Rattle.cvss_scan.specs.private.Passing.{uncut_length}
 use Rattle.cvss_scan.proofs.AfterLemmas.{parts_after, placed_after}
 use Rattle.cvss_scan.proofs.PartLemmas.{concat-parts, parts_run, run_of_uncut, uncut_more}
@@ -76,27 +76,27 @@ pub without_no_label : (place : ℕ) (text : List ℕ) → label_of text ≡ 0 �
 without_no_label place text none =
     ap (λ count. record { place = place + count; text = drop count text }) none ∙ ap (λ at. record { place = at; text = text }) (omega arith)
 
-whole_mention : (place : ℕ) (text tail : List ℕ) → IsWhole text → before_percent tail ≡ [] → mention_of place (text ++ tail) ≡ record { place = place; text = text }
-whole_mention place text tail whole none =
+whole_match : (place : ℕ) (text tail : List ℕ) → IsWhole text → before_percent tail ≡ [] → candidate_of place (text ++ tail) ≡ record { place = place; text = text }
+whole_match place text tail whole none =
     ap (λ part. without_label place (without_dividers part)) (whole_unencoded text tail whole none) ∙ ap (without_label place) whole.ended
     ∙ without_no_label place text whole.unlabelled
 
-pub mentioned_between : (before text after : List ℕ) → IsWhole text → IsMentionedBetween before text after
-mentioned_between before text after whole is_before is_after =
+pub matched_between : (before text after : List ℕ) → IsWhole text → IsMatchedBetween before text after
+matched_between before text after whole is_before is_after =
     let count = uncut_length after in
     let part = text ++ take count after in
     let more = parts_of (drop count after) in
-    let mention : Placed = record { place = length before; text = text } in
+    let candidate : Placed = record { place = length before; text = text } in
     let rest = placed_from (length before + length part) more in
-    let first : placed_from (0 + length (concat (parts_of before))) (part ∷ more) ≡ mention ∷ rest =
+    let first : placed_from (0 + length (concat (parts_of before))) (part ∷ more) ≡ candidate ∷ rest =
     ap (λ place. placed_from place (part ∷ more)) (omega (arith, ap length (concat-parts before)))
-    ∙ ap (λ each. each ∷ rest) (whole_mention (length before) text (take count after) whole (tail_encoded after is_after)) in
-    subst (λ mentions. Contains mentions mention)
+    ∙ ap (λ each. each ∷ rest) (whole_match (length before) text (take count after) whole (tail_encoded after is_after)) in
+    subst (λ candidates. Contains candidates candidate)
     (sym (ap (placed_from 0) (parts_after before (text ++ after) is_before ∙ ap (λ parts. parts_of before ++ parts) (whole_first text after whole is_after))
     ∙ placed_after 0 (parts_of before) (part ∷ more) ∙ ap (λ after_it. placed_from 0 (parts_of before) ++ after_it) first))
-    (Contains-append_right (placed_from 0 (parts_of before)) (mention ∷ rest) mention (0, omega arith, refl))
+    (Contains-append_right (placed_from 0 (parts_of before)) (candidate ∷ rest) candidate (0, omega arith, refl))
 
-pub mentioned_alone : (text : List ℕ) → IsWhole text → mentions_of text ≡ record { place = 0; text = text } ∷ []
-mentioned_alone text whole =
-    ap mentions_of (sym (append-nil text)) ∙ ap (placed_from 0) (whole_first text [] whole refl)
-    ∙ ap (λ mention. mention ∷ []) (whole_mention 0 text [] whole refl)
+pub matched_alone : (text : List ℕ) → IsWhole text → candidates_of text ≡ record { place = 0; text = text } ∷ []
+matched_alone text whole =
+    ap candidates_of (sym (append-nil text)) ∙ ap (placed_from 0) (whole_first text [] whole refl)
+    ∙ ap (λ candidate. candidate ∷ []) (whole_match 0 text [] whole refl)

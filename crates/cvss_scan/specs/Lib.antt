@@ -1,5 +1,5 @@
-pub mod Mentions
-pub mod MentionsLeft
+pub mod Matches
+pub mod CandidatesLeft
 pub mod Parts
 pub mod laws
 pub mod private

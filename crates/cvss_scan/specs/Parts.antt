@@ -9,7 +9,7 @@ use Rattle.cvss_base.specs.Text.{colon, dot, has, slash}
 abbrev pub percent : ℕ
 percent = 37
 
--- a byte with which no mention of a vector ends: `.`, `/` or `:`
+-- a byte with which no candidate of a vector ends: `.`, `/` or `:`
 abbrev pub is_divider : ℕ → Bool
 is_divider byte = (byte == dot) || ((byte == slash) || (byte == colon))
 

@@ -2,13 +2,13 @@
 #![tactic(auto)]
 
 pub mod laws;
-mod mention;
-mod mentions;
+mod matches;
+mod matching;
 mod part;
 mod passing;
 mod prefix;
 
-pub use mention::Mention;
-pub use mentions::Mentions;
+pub use matches::Matches;
+pub use matching::Match;
 pub use part::{first_part, has_percent, is_vector_byte};
 pub use prefix::begins_with_prefix;

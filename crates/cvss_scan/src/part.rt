@@ -95,7 +95,7 @@ pub(crate) fn is_run_byte(byte: u8) -> bool
     is_vector_byte(byte) || byte == b'%'
 }
 
-/// Whether no mention ends with a byte: `.`, `/` or `:`.
+/// Whether no match ends with a byte: `.`, `/` or `:`.
 fn is_divider(byte: u8) -> bool
     ensures { result ≡ is_divider byte }
 {

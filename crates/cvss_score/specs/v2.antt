@@ -1,3 +1,3 @@
 pub mod Bounds
-pub mod Rating
+pub mod SeverityScale
 pub mod Scores

@@ -3,13 +3,13 @@ use Rattle.std.specs.Prelude.{◌≡◌, ◌⊎◌, ℕ, Bool, List, None, Optio
 use Rattle.std.specs.Str.{IsUtf8}
 use Rattle.cvss_vector.specs.Complete.{missing_by}
 use Rattle.cvss_vector.specs.Dispatch.{DenotesCvss}
-use Rattle.cvss_vector.specs.Refusals.{IsReadError, refusal_of}
+use Rattle.cvss_vector.specs.Rejections.{IsReadError, rejection_of}
 use Rattle.cvss_vector.specs.Setting.{IsWith, IsWithReason}
 use Rattle.cvss_vector.specs.declared.metric_type.MetricType.{MetricType}
-use Rattle.cvss_vector.specs.declared.refusal.ReadError.{ReadError}
-use Rattle.cvss_vector.specs.declared.refusal.ReadError.TheVariants.{Invalid}
-use Rattle.cvss_vector.specs.declared.refusal.Refusal.{Refusal}
-use Rattle.cvss_vector.specs.declared.refusal.Refusal.TheVariants.{Missing}
+use Rattle.cvss_vector.specs.declared.rejection.ReadError.{ReadError}
+use Rattle.cvss_vector.specs.declared.rejection.ReadError.TheVariants.{Invalid}
+use Rattle.cvss_vector.specs.declared.rejection.Rejection.{Rejection}
+use Rattle.cvss_vector.specs.declared.rejection.Rejection.TheVariants.{Missing}
 use Rattle.cvss_vector.specs.declared.vector.Cvss.{Cvss}
 use Rattle.cvss_vector.specs.Lines.{vector_rule}
 use Rattle.cvss_vector.specs.declared.scoring.Scoring.{Scoring}
@@ -32,9 +32,9 @@ pub record IsNotSet (metrics line : List ℕ) (error : ReadError) : Type 0 where
   pub vector : Cvss
   pub denoted : DenotesCvss line vector
   pub index : Option ℕ
-  pub refusal : Refusal
-  pub first : IsWithReason vector metrics index (refusal_of refusal)
-  pub is : error ≡ Invalid refusal
+  pub rejection : Rejection
+  pub first : IsWithReason vector metrics index (rejection_of rejection)
+  pub is : error ≡ Invalid rejection
 
 -- the vector with the metrics set lacks base metrics and may not, and the error is the first of them
 pub record IsSetIncomplete (allow_incomplete : Bool) (metrics line : List ℕ) (error : ReadError) : Type 0 where

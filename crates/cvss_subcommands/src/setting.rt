@@ -7,7 +7,7 @@ ghost use Rattle.cvss_lines.specs.Prefixed.{is_one_text};
 
 use cvss_lines::{Answering, OutputBuffer};
 use cvss_program::LineAnswer;
-use cvss_vector::{Cvss, ReadError, Refusal, Scoring, write_error, write_vector};
+use cvss_vector::{Cvss, ReadError, Rejection, Scoring, write_error, write_vector};
 use std::alloc::{AllocError, Global};
 
 /// Sets metrics in the vector, and scores it. A new vector of CVSS v3 that lacks base metrics and may not
@@ -67,6 +67,6 @@ fn vector_with<'a>(
     };
     match new.missing_by(allow_incomplete) {
         None => Ok(new),
-        Some(metric) => Err(ReadError::Invalid(Refusal::Missing(metric))),
+        Some(metric) => Err(ReadError::Invalid(Rejection::Missing(metric))),
     }
 }

@@ -11,7 +11,7 @@ use serde_json::Value;
 use std::alloc::Global;
 use std::process::Abort;
 
-/// What is audited: two of the texts are refused.
+/// What is audited: two of the texts are rejected.
 const AUDITED: [&str; 8] = [
     "CVSS:3.1/AV:N/AC:L/PR:N/UI:N/S:U/C:H/I:H/A:H",
     "CVSS:4.0/AV:N/AC:L/AT:N/PR:L/UI:N/VC:H/VI:H/VA:H/SC:N/SI:N/SA:N",
@@ -36,7 +36,7 @@ const FINDINGS: [(Severity, usize); 5] = [
 fn audits_texts_of_all_versions(rt: HostRuntime) {
     for (level, findings) in &FINDINGS {
         let audit = count_findings(&AUDITED, *level);
-        assert!(rt; audit.findings == *findings && audit.refused == 2);
+        assert!(rt; audit.findings == *findings && audit.rejected == 2);
     }
 }
 

@@ -1,6 +1,6 @@
 //! Tests of what no stored line shows: types and their traits, values that no text denotes, JSON
 //! values that are no strings, runs over readers and writers that no file is, and callers. Texts,
-//! scores and refusals are lines of `test_vectors`.
+//! scores and rejections are lines of `test_vectors`.
 #![tactic(auto)]
 
 #[cfg(test)]

@@ -182,7 +182,7 @@ fn traits_give_the_types_of_metrics(rt: HostRuntime) {
 }
 
 #[test]
-fn refused_values_are_reported_under_base_metrics(rt: HostRuntime) {
+fn rejected_values_are_reported_under_base_metrics(rt: HostRuntime) {
     use cvss::v3::{Metric, MetricType};
     use v3::metric::base::AttackVector;
     use v3::metric::temporal::RemediationLevel;

@@ -6,9 +6,9 @@ use cvss::{Cvss, Error, Metrics, ONE, PREFIX, Severity, v2, v3, v4};
 use serde_json::Value;
 
 #[test]
-fn refusals_of_the_root(rt: HostRuntime) {
-    let refused: Result<Cvss, Error> = Cvss::from_str(rt.alloc(), PREFIX);
-    assert!(rt; matches!(&refused, Err(Error::InvalidComponent { .. })));
+fn rejections_of_the_root(rt: HostRuntime) {
+    let rejected: Result<Cvss, Error> = Cvss::from_str(rt.alloc(), PREFIX);
+    assert!(rt; matches!(&rejected, Err(Error::InvalidComponent { .. })));
 }
 
 #[test]

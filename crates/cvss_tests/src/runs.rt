@@ -13,7 +13,7 @@ use std::process::Abort;
 use std::test::Fail;
 use streams::{Narrow, Steps};
 
-/// The input of some lines, what is written for them, how many are accepted and refused, and the
+/// The input of some lines, what is written for them, how many are accepted and rejected, and the
 /// status.
 type Row<'a> = (&'a [u8], &'a [u8], u64, u64, u8);
 
@@ -77,9 +77,9 @@ fn answers_lines_that_reads_cut(rt: HostRuntime) {
 
 /// Answers lines, and compares what a writer has taken.
 fn is_answered(rt: &impl Abort, alloc: Global, row: &Row<'_>, step: usize) {
-    let (bytes, written, accepted, refused, status) = *row;
+    let (bytes, written, accepted, rejected, status) = *row;
     let ended = Ended {
-        outcome: Ok(Summary { accepted, refused }),
+        outcome: Ok(Summary { accepted, rejected }),
         status,
         written,
     };

@@ -1,4 +1,4 @@
-//! Tests of triage: how refusals are printed.
+//! Tests of triage: how rejections are printed.
 
 use crate::values::{Tried, are_printed};
 use cvss::Error;
@@ -11,7 +11,7 @@ const INCOMPLETE: Error = Error::MissingMandatoryMetricV4 {
 };
 
 #[test]
-fn refusals_of_triage_are_printed(rt: HostRuntime) -> Tried {
+fn rejections_of_triage_are_printed(rt: HostRuntime) -> Tried {
     let rows = [
         (
             "override 0: no environmental CVSSv4 metric",
@@ -41,7 +41,7 @@ fn refusals_of_triage_are_printed(rt: HostRuntime) -> Tried {
 }
 
 #[test]
-fn refusals_of_overrides_are_printed(rt: HostRuntime) -> Tried {
+fn rejections_of_overrides_are_printed(rt: HostRuntime) -> Tried {
     let rows = [
         (
             "override 0: no environmental CVSSv4 metric",
@@ -49,14 +49,14 @@ fn refusals_of_overrides_are_printed(rt: HostRuntime) -> Tried {
         ),
         (
             "override 0: missing mandatory CVSSv4 AC (Attack Complexity) metric",
-            OverrideError::Refused {
+            OverrideError::Rejected {
                 index: 0,
                 error: INCOMPLETE,
             },
         ),
         (
             "override 1: missing mandatory CVSSv4 AC (Attack Complexity) metric",
-            OverrideError::Refused {
+            OverrideError::Rejected {
                 index: 1,
                 error: INCOMPLETE,
             },

@@ -7,7 +7,7 @@ use Rattle.std.proofs.lemmas.List.Sorted.{IsPermutation-middle, IsPermutation-co
 use Rattle.std.proofs.lemmas.List.Splits.{slice_split_none, slice_split_at}
 use Rattle.std.proofs.lemmas.Str.{IsUtf8-nil, IsUtf8-append, IsUtf8-from_ascii}
 use Rattle.std.proofs.lemmas.Str.Ascii.{IsAscii-from_all}
-use Rattle.cvss_base.specs.Refusal.{IsNamedBefore, piece_at}
+use Rattle.cvss_base.specs.Rejection.{IsNamedBefore, piece_at}
 use Rattle.cvss_base.specs.Text.{IsComponent, component, joined, name_part, pieces, slash, value_part}
 use Rattle.cvss_base.specs.Version.{Version, read, component_of, components_of, AreComponentsOf}
 use Rattle.cvss_text.specs.private.Walk.{VersionLaws, Adds}

@@ -1,5 +1,5 @@
 -- A text denotes at most one vector, no two pieces of whose components have one name, and has no
--- refusal where that vector is complete.
+-- rejection where that vector is complete.
 use Rattle.std.proofs.Common.{◌≡◌, ℕ, ◌<◌, ◌≤◌, ◌+◌, List, [], ◌∷◌, ◌++◌, length, Option, Some, None, refl, sym, ap, ◌∙◌, subst, arith, Bool, false, true≢false, get_or, take, map, All, filter_map, bytes_eq, option_map}
 use Rattle.std.proofs.lemmas.Cmp.{nat_list_eq_equiv}
 use Rattle.std.specs.List.{IsDistinct, cons_option, range_with_len}
@@ -12,7 +12,7 @@ use Rattle.std.proofs.lemmas.Option.{slice_get_within, get_or_from_slice_get}
 use Rattle.std.proofs.lemmas.Slice.Eq.{bytes_eq-Decides}
 use Rattle.cvss_base.specs.Text.{pieces, name_part, component}
 use Rattle.cvss_base.specs.Version.{Version, read, AreComponentsOf, Denotes, IsComplete, reading, component_of}
-use Rattle.cvss_base.specs.Refusal.{Refusal, UnknownName, BadValue, Repeated, Missing, Spells, piece_at, name_at, FaultAt, HasNoFaultBefore, IsFirstReason}
+use Rattle.cvss_base.specs.Rejection.{Rejection, UnknownName, BadValue, Repeated, Missing, Spells, piece_at, name_at, FaultAt, HasNoFaultBefore, IsFirstReason}
 use Rattle.cvss_text.specs.private.Walk.{VersionLaws, place_of}
 use Rattle.cvss_text.proofs.TextLemmas.{IsPart, name_part-component, name_part-read}
 use Rattle.cvss_text.proofs.LawLemmas.{component_read, name_plain, names_differ}
@@ -95,8 +95,8 @@ module _ {V K : Type 0} (version : Version V K) (version_laws : VersionLaws vers
         ];
   }
 
-  -- pieces that are the components of a complete vector have no reason to be refused
-  pub no_reason : (v : V) (parts : List (List ℕ)) → AreComponentsOf version parts v → IsComplete version v → (reason : Refusal K) → IsFirstReason version parts reason → ⊥
+  -- pieces that are the components of a complete vector have no reason to be rejected
+  pub no_reason : (v : V) (parts : List (List ℕ)) → AreComponentsOf version parts v → IsComplete version v → (reason : Rejection K) → IsFirstReason version parts reason → ⊥
   no_reason v parts components complete (Missing kind) missing =
       let held = complete.present kind (missing.place, slice_get_within version.mandatory missing.place kind missing.is, get_or_from_slice_get version.mandatory missing.place kind kind missing.is) in
       missing.absent (held_is_named version version_laws v parts (length parts) (omega arith) (all_taken version v parts components) kind held)

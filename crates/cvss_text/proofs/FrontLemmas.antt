@@ -8,23 +8,23 @@ use Rattle.cvss_text.specs.declared.walk.Fault.{Fault}
 use Rattle.cvss_text.specs.private.Pieces.{IsAfterComponents}
 use Rattle.cvss_base.specs.Text.{slash, pieces, joined, value_part, IsComponent}
 use Rattle.cvss_base.specs.Version.{Version, canonical_text, Denotes, IsComplete, AreComponentsOf, version_piece, IsWellFormed}
-use Rattle.cvss_base.specs.Refusal.{Refusal, BadComponent, BadPiecesFirst, WrongPrefix, WrongVersion, AreComponentsBefore, IsFirstReason, piece_at, IsReasonAfter, IsFirstRefusalAfter, ReportsVersion}
+use Rattle.cvss_base.specs.Rejection.{Rejection, BadComponent, BadPiecesFirst, WrongPrefix, WrongVersion, AreComponentsBefore, IsFirstReason, piece_at, IsReasonAfter, IsFirstRejectionAfter, ReportsVersion}
 use Rattle.cvss_base.specs.private.Component.{delimiter_bytes}
 use Rattle.cvss_text.specs.private.Walk.{VersionLaws, IsFirstOfPieces, IsBare, reason_of, FrontLaws, IsAnswer, IsAnswerAfter, IsAnswerBare, IsFrontFault, IsPrintable, IsReadLeft, StartsWith}
 use Rattle.cvss_text.proofs.CanonicalLemmas.{canonical_text-denotes, denoted_once}
 use Rattle.cvss_text.proofs.DenotesLemmas.{pieces_of_complete, no_reason, pieces_of_denoted}
 use Rattle.cvss_text.proofs.ComponentLemmas.{are_parts, IsUtf8-parts}
 use Rattle.cvss_text.proofs.PieceLemmas.{All-left, AreComponents-after, IsFirstBadPiece-after, IsUtf8-pieces}
-use Rattle.cvss_text.proofs.RefusalLemmas.{one_refusal, one_refusal_after}
+use Rattle.cvss_text.proofs.RejectionLemmas.{one_rejection, one_rejection_after}
 use Rattle.cvss_text.proofs.TextLemmas.{IsPart, IsPart-component, name_part-component, value_part-component}
 
--- a text denotes at most one vector that is formed so, has at most one first refusal, and not both; and only texts in
+-- a text denotes at most one vector that is formed so, has at most one first rejection, and not both; and only texts in
 -- UTF-8 denote vectors
-pub record IsDecided {V K : Type 0} (version : Version V K) (IsFormed : V → Type 0) (IsReason : Refusal K → Type 0) (text : List ℕ) : Type 0 where
+pub record IsDecided {V K : Type 0} (version : Version V K) (IsFormed : V → Type 0) (IsReason : Rejection K → Type 0) (text : List ℕ) : Type 0 where
   pub once : (v w : V) → Denotes version text v → IsFormed v → Denotes version text w → IsFormed w → v ≡ w
   pub utf8 : (v : V) → Denotes version text v → IsFormed v → IsUtf8 text
-  pub one_reason : (one other : Refusal K) → BadPiecesFirst IsReason (pieces text) one → BadPiecesFirst IsReason (pieces text) other → one ≡ other
-  pub none : (v : V) → Denotes version text v → IsFormed v → (reason : Refusal K) → BadPiecesFirst IsReason (pieces text) reason → ⊥
+  pub one_reason : (one other : Rejection K) → BadPiecesFirst IsReason (pieces text) one → BadPiecesFirst IsReason (pieces text) other → one ≡ other
+  pub none : (v : V) → Denotes version text v → IsFormed v → (reason : Rejection K) → BadPiecesFirst IsReason (pieces text) reason → ⊥
 
 -- a text denotes the vector whose front its pieces begin with, and whose components the others are
 pub Denotes-pieces : {V K : Type 0} (version : Version V K) (text : List ℕ) (front left : List (List ℕ)) → pieces text ≡ front ++ left → (v : V) → version.front v ≡ front → AreComponentsOf version left v → Denotes version text v
@@ -43,21 +43,21 @@ abbrev given : {V K : Type 0} → Result (Unit {0}) (Fault K) → V → Result V
 given (Ok _) v = Ok v
 given (Err fault) v = Err fault
 
-module _ {V K : Type 0} {version : Version V K} {IsFormed : V → Type 0} {IsReason : Refusal K → Type 0} {text : List ℕ} (decided : IsDecided version IsFormed IsReason text) where
-  pub IsAnswer-refused : (fault : Fault K) → BadPiecesFirst IsReason (pieces text) (reason_of version fault) → (IsUtf8 text → IsPrintable version fault) → IsAnswer version IsFormed IsReason text (Err fault)
-  IsAnswer-refused fault first printable = record {
+module _ {V K : Type 0} {version : Version V K} {IsFormed : V → Type 0} {IsReason : Rejection K → Type 0} {text : List ℕ} (decided : IsDecided version IsFormed IsReason text) where
+  pub IsAnswer-rejected : (fault : Fault K) → BadPiecesFirst IsReason (pieces text) (reason_of version fault) → (IsUtf8 text → IsPrintable version fault) → IsAnswer version IsFormed IsReason text (Err fault)
+  IsAnswer-rejected fault first printable = record {
     denoted = tt;
     well_formed = tt;
     accepts = λ w denotes formed. absurd (decided.none w denotes formed (reason_of version fault) first);
     utf8 = tt;
-    refused = first;
-    refuses = λ reason other. decided.one_reason (reason_of version fault) reason first other;
+    rejected = first;
+    rejects = λ reason other. decided.one_reason (reason_of version fault) reason first other;
     printable = printable;
   }
 
   -- what is answered, where the pieces after the front of a vector without values were read into it
   IsAnswer-left : (front left : List (List ℕ)) → pieces text ≡ front ++ left → (empty : V) → version.front empty ≡ front → ((v : V) → version.front v ≡ front → IsComplete version v → IsFormed v)
-      → ((reason : Refusal K) → IsFirstOfPieces version left reason → BadPiecesFirst IsReason (pieces text) reason) → (answer : Result (Unit {0}) (Fault K)) (v : V) → IsReadLeft version left empty answer v → IsAnswer version IsFormed IsReason text (given answer v)
+      → ((reason : Rejection K) → IsFirstOfPieces version left reason → BadPiecesFirst IsReason (pieces text) reason) → (answer : Result (Unit {0}) (Fault K)) (v : V) → IsReadLeft version left empty answer v → IsAnswer version IsFormed IsReason text (given answer v)
   IsAnswer-left front left cut empty is forms reasons (Ok _) v read =
       let denotes = Denotes-pieces version text front left cut v (read.front ∙ is) read.components in
       let formed = forms v (read.front ∙ is) read.complete in
@@ -66,12 +66,12 @@ module _ {V K : Type 0} {version : Version V K} {IsFormed : V → Type 0} {IsRea
         well_formed = formed;
         accepts = λ w other also. ap Ok (decided.once v w denotes formed other also);
         utf8 = decided.utf8 v denotes formed;
-        refused = tt;
-        refuses = λ reason first. absurd (decided.none v denotes formed reason first);
+        rejected = tt;
+        rejects = λ reason first. absurd (decided.none v denotes formed reason first);
         printable = λ _. tt;
       }
   IsAnswer-left front left cut empty is forms reasons (Err fault) v read =
-      IsAnswer-refused fault (reasons (reason_of version fault) read.refused) (λ utf8. read.printable (IsUtf8-left text front left cut utf8))
+      IsAnswer-rejected fault (reasons (reason_of version fault) read.rejected) (λ utf8. read.printable (IsUtf8-left text front left cut utf8))
 
 module _ {V K : Type 0} (version : Version V K) (version_laws : VersionLaws version) (text : List ℕ) where
   -- a text that denotes a complete vector is UTF-8, and all its pieces are components
@@ -84,9 +84,9 @@ module _ {V K : Type 0} (version : Version V K) (version_laws : VersionLaws vers
     utf8_denoted : IsUtf8 text
     utf8_denoted = subst IsUtf8 (join_with_byte-slice_split slash text) (IsUtf8-parts (pieces text) all_parts)
 
-    not_refused : (IsReason : Refusal K → Type 0) → ((reason : Refusal K) → IsReason reason → ⊥) → (reason : Refusal K) → BadPiecesFirst IsReason (pieces text) reason → ⊥
-    not_refused IsReason none (BadComponent piece) bad = bad.bad (rw bad.is (record { one_colon = (all_parts bad.place [] bad.within).one_colon }))
-    not_refused IsReason none reason (_, reasoned) = none reason reasoned
+    not_rejected : (IsReason : Rejection K → Type 0) → ((reason : Rejection K) → IsReason reason → ⊥) → (reason : Rejection K) → BadPiecesFirst IsReason (pieces text) reason → ⊥
+    not_rejected IsReason none (BadComponent piece) bad = bad.bad (rw bad.is (record { one_colon = (all_parts bad.place [] bad.within).one_colon }))
+    not_rejected IsReason none reason (_, reasoned) = none reason reasoned
 
   no_front : (v : V) → IsBare version v → All IsPart (version.front v)
   no_front v is = subst (All IsPart) (sym is.frontless) (All-nil IsPart)
@@ -95,10 +95,10 @@ module _ {V K : Type 0} (version : Version V K) (version_laws : VersionLaws vers
   decided_bare = record {
     once = λ v w of_v is of_w also. denoted_once version version_laws v w text (is.frontless ∙ sym also.frontless) of_v of_w;
     utf8 = λ v denotes is. utf8_denoted v denotes (no_front v is) is.complete;
-    one_reason = one_refusal version version_laws text;
+    one_reason = one_rejection version version_laws text;
     none = λ v denotes is.
         let cut = pieces_of_complete version version_laws v text denotes (no_front v is) is.complete ∙ ap (λ front. front ++ denotes.parts) is.frontless in
-        not_refused v denotes (no_front v is) is.complete (IsFirstReason version (pieces text))
+        not_rejected v denotes (no_front v is) is.complete (IsFirstReason version (pieces text))
         (no_reason version version_laws v (pieces text) (subst (λ parts. AreComponentsOf version parts v) (sym cut) denotes.components) is.complete);
   }
 
@@ -145,14 +145,14 @@ module _ {V K : Type 0} (version : Version V K) (version_laws : VersionLaws vers
         components = All-cons IsComponent (version_piece reported) [] (record { one_colon = (IsPart-component (codes "CVSS") reported refl reported_plain).one_colon }) (All-nil IsComponent);
       }
 
-      pub reason_after : (reason : Refusal K) → IsFirstOfPieces version parts reason → IsFirstRefusalAfter version text reason
+      pub reason_after : (reason : Rejection K) → IsFirstOfPieces version parts reason → IsFirstRejectionAfter version text reason
       reason_after (BadComponent bad) first = IsFirstBadPiece-after (pieces text) parts follows bad first
       reason_after (WrongPrefix prefix) (after, first) = absurd first.fault
       reason_after (WrongVersion reported) (after, first) = absurd first.fault
       reason_after _ (after, first) = (AreComponents-after (pieces text) parts follows after, rw cut (piece_reports, first))
 
-  -- a text that is read has no reason to be refused
-  no_reason_after : (v : V) → Denotes version text v → IsWellFormed version v → (reason : Refusal K) → IsReasonAfter version (pieces text) reason → ⊥
+  -- a text that is read has no reason to be rejected
+  no_reason_after : (v : V) → Denotes version text v → IsWellFormed version v → (reason : Rejection K) → IsReasonAfter version (pieces text) reason → ⊥
   no_reason_after v denotes formed =
       let is = formed.supported in
       let cut = pieces_denoted_after v denotes is.reported is.front_is (reported_plain is.reported is.supported) in
@@ -167,8 +167,8 @@ module _ {V K : Type 0} (version : Version V K) (version_laws : VersionLaws vers
   decided_after = record {
     once = λ v w of_v _ of_w _. denoted_once_after v w of_v of_w;
     utf8 = λ v denotes formed. utf8_denoted version version_laws text v denotes (parts v formed) formed.complete;
-    one_reason = one_refusal_after version version_laws text;
-    none = λ v denotes formed. not_refused version version_laws text v denotes (parts v formed) formed.complete (IsReasonAfter version (pieces text)) (no_reason_after v denotes formed);
+    one_reason = one_rejection_after version version_laws text;
+    none = λ v denotes formed. not_rejected version version_laws text v denotes (parts v formed) formed.complete (IsReasonAfter version (pieces text)) (no_reason_after v denotes formed);
   } where
     parts : (v : V) → IsWellFormed version v → All IsPart (version.front v)
     parts v formed = let is = formed.supported in front_parts v is.reported is.front_is (reported_plain is.reported is.supported)
@@ -180,9 +180,9 @@ module _ {V K : Type 0} (version : Version V K) (version_laws : VersionLaws vers
       (λ v front complete. record { complete = complete; supported = record { reported = _; front_is = front; supported = started.starts.supported } })
       (reason_after (value_part piece) started.starts.supported left whole)
 
--- a fault of the first piece is a first refusal
-pub front_fault_first : {V K : Type 0} (version : Version V K) (text piece : List ℕ) (parts : List (List ℕ)) → pieces text ≡ piece ∷ parts → AreComponentsBefore (pieces text) (length (pieces text)) → (reason : Refusal K) → (IsComponent piece → IsFrontFault version piece reason)
-    → IsFirstRefusalAfter version text reason
+-- a fault of the first piece is a first rejection
+pub front_fault_first : {V K : Type 0} (version : Version V K) (text piece : List ℕ) (parts : List (List ℕ)) → pieces text ≡ piece ∷ parts → AreComponentsBefore (pieces text) (length (pieces text)) → (reason : Rejection K) → (IsComponent piece → IsFrontFault version piece reason)
+    → IsFirstRejectionAfter version text reason
 front_fault_first version text piece parts cut components =
     let first = subst (λ list. IsComponent (piece_at list 0)) cut (components.each 0 (omega (arith, ap length cut))) in
     elim [

@@ -9,7 +9,7 @@ pub mod NumeralLemmas
 pub mod PieceLemmas
 pub mod PrintLemmas
 pub mod PutLemmas
-pub mod RefusalLemmas
+pub mod RejectionLemmas
 pub mod SettingLemmas
 pub mod TextLemmas
 pub mod WalkLemmas

@@ -12,7 +12,7 @@ use Rattle.std.proofs.lemmas.List.Splits.{length-slice_split, slice_split_at, sl
 use Rattle.std.proofs.lemmas.List.Sums.{fails_before_first, passes_at_first, split_at_first, sum_by-le}
 use Rattle.std.proofs.lemmas.Str.{IsUtf8-take, IsUtf8-drop, IsCharBoundary-before_ascii, IsCharBoundary-after_ascii}
 use Rattle.std.proofs.Math.Bool.{or-true}
-use Rattle.cvss_base.specs.Refusal.{AreComponentsBefore, IsFirstBadPiece, piece_at}
+use Rattle.cvss_base.specs.Rejection.{AreComponentsBefore, IsFirstBadPiece, piece_at}
 use Rattle.cvss_base.specs.Text.{pieces, slash, colon, dot, has, joined, component, IsComponent}
 use Rattle.cvss_base.specs.Version.{version_piece}
 use Rattle.cvss_text.specs.Route.{Route, ToV20, route_of, route_of_pieces, route_of_parts}

@@ -6,7 +6,7 @@ use Rattle.std.proofs.lemmas.List.{get_or-take, length-append, length-map, lengt
 use Rattle.std.proofs.lemmas.List.Sorted.{length_permutation}
 use Rattle.std.proofs.lemmas.Bool.{cases_lt}
 use Rattle.std.proofs.lemmas.Option.{same_Some, slice_get_read, slice_get_within}
-use Rattle.cvss_base.specs.Refusal.{Refusal, BadComponent, Missing, piece_at}
+use Rattle.cvss_base.specs.Rejection.{Rejection, BadComponent, Missing, piece_at}
 use Rattle.cvss_base.specs.Text.{IsComponent}
 use Rattle.cvss_base.specs.Version.{Version, AreComponentsOf, IsComplete, component_of, components_of, read}
 use Rattle.cvss_text.specs.Setting.{AreRightBefore, IsBuildReason, IsBuilt, IsFirstWrong, IsSet, IsSetReason, IsWrongAt}
@@ -15,7 +15,7 @@ use Rattle.cvss_text.specs.private.Walk.{HasReadTo, VersionLaws, place_of, reaso
 use Rattle.cvss_text.specs.declared.walk.Fault.{Fault}
 use Rattle.cvss_text.proofs.ComponentLemmas.{all_taken, piece_is_component}
 use Rattle.cvss_text.proofs.DenotesLemmas.{no_fault_before, no_reason, values_same, vectors_same}
-use Rattle.cvss_text.proofs.RefusalLemmas.{faults_same, reasons_same, same_place}
+use Rattle.cvss_text.proofs.RejectionLemmas.{faults_same, reasons_same, same_place}
 use Rattle.cvss_text.proofs.WalkLemmas.{fault_at, first_left, taken}
 
 filter_map-most : {X Y : Type 0} (f : X → Option Y) (xs : List X) → length (filter_map f xs) ≤ length xs
@@ -33,18 +33,18 @@ or_twice None (Some value) = refl
 or_twice (Some value) other = refl
 
 -- one vector is such, or there is one reason why none is
-pub record IsSole {V K : Type 0} (IsIt : V → Type 0) (IsReason : Option ℕ → Refusal K → Type 0) : Type 0 where
+pub record IsSole {V K : Type 0} (IsIt : V → Type 0) (IsReason : Option ℕ → Rejection K → Type 0) : Type 0 where
   pub one : (v w : V) → IsIt v → IsIt w → v ≡ w
-  pub one_reason : (i j : Option ℕ) (one other : Refusal K) → IsReason i one → IsReason j other → (i ≡ j) × (one ≡ other)
-  pub none : (v : V) (index : Option ℕ) (reason : Refusal K) → IsIt v → IsReason index reason → ⊥
+  pub one_reason : (i j : Option ℕ) (one other : Rejection K) → IsReason i one → IsReason j other → (i ≡ j) × (one ≡ other)
+  pub none : (v : V) (index : Option ℕ) (reason : Rejection K) → IsIt v → IsReason index reason → ⊥
 
-module _ {V K : Type 0} (version : Version V K) {IsIt : V → Type 0} {IsReason : Option ℕ → Refusal K → Type 0} (sole : IsSole IsIt IsReason) where
+module _ {V K : Type 0} (version : Version V K) {IsIt : V → Type 0} {IsReason : Option ℕ → Rejection K → Type 0} (sole : IsSole IsIt IsReason) where
   pub IsAnswered-Ok : (v : V) → IsIt v → IsAnswered version IsIt IsReason (Ok v)
   IsAnswered-Ok v is = record {
     accepted = is;
     accepts = λ w also. ap Ok (sole.one v w is also);
-    refused = tt;
-    refuses = λ index reason why. absurd (sole.none v index reason is why);
+    rejected = tt;
+    rejects = λ index reason why. absurd (sole.none v index reason is why);
     bound = tt;
   }
 
@@ -52,8 +52,8 @@ module _ {V K : Type 0} (version : Version V K) {IsIt : V → Type 0} {IsReason 
   IsAnswered-Err index fault why bound = record {
     accepted = tt;
     accepts = λ v is. absurd (sole.none v index (reason_of version fault) is why);
-    refused = why;
-    refuses = λ j other also. sole.one_reason index j (reason_of version fault) other why also;
+    rejected = why;
+    rejects = λ j other also. sole.one_reason index j (reason_of version fault) other why also;
     bound = bound;
   }
 
@@ -71,14 +71,14 @@ module _ {V K : Type 0} (version : Version V K) (version_laws : VersionLaws vers
   -- nothing is wrong with the first pieces, where they are a vector's components
   right_taken : (v : V) (parts : List (List ℕ)) (n : ℕ) → n ≤ length parts → AreComponentsOf version (take n parts) v → AreRightBefore version parts n
   right_taken v parts n fits components = record { none = none } where
-    none : (earlier : ℕ) (reason : Refusal K) → earlier < n → IsWrongAt version parts earlier reason → ⊥
+    none : (earlier : ℕ) (reason : Rejection K) → earlier < n → IsWrongAt version parts earlier reason → ⊥
     none earlier (BadComponent piece) below wrong = wrong.1 (subst IsComponent (get_or-take n parts earlier [] below) (piece_is_component version version_laws v (take n parts) components earlier (omega (arith, below, length-take-le n parts fits))))
     none earlier reason below wrong = (no_fault_before version version_laws v parts n fits components).none earlier reason below wrong.1
 
   pub right_all : (v : V) (parts : List (List ℕ)) → AreComponentsOf version parts v → AreRightBefore version parts (length parts)
   right_all v parts components = right_taken v parts (length parts) (omega arith) (all_taken version v parts components)
 
-  pub right_held : (v : V) (parts : List (List ℕ)) (index : ℕ) → AreComponentsOf version parts v → index < length parts → (reason : Refusal K) → IsWrongAt version parts index reason → ⊥
+  pub right_held : (v : V) (parts : List (List ℕ)) (index : ℕ) → AreComponentsOf version parts v → index < length parts → (reason : Rejection K) → IsWrongAt version parts index reason → ⊥
   right_held v parts index components within reason = (right_all v parts components).none index reason within
 
   -- where the vector holds the components before those that are left, what is wrong with the next is the first that is
@@ -86,7 +86,7 @@ module _ {V K : Type 0} (version : Version V K) (version_laws : VersionLaws vers
     at_place : length to.before ≡ all - rest
     at_place = omega (arith, count, count_left, ap length to.cut, length-append to.before left)
 
-    pub IsFirstWrong-at : (piece : List ℕ) (after : List (List ℕ)) → left ≡ piece ∷ after → (reason : Refusal K) → IsWrongFor version v piece reason → IsFirstWrong version parts (all - rest) reason
+    pub IsFirstWrong-at : (piece : List ℕ) (after : List (List ℕ)) → left ≡ piece ∷ after → (reason : Rejection K) → IsWrongFor version v piece reason → IsFirstWrong version parts (all - rest) reason
     IsFirstWrong-at piece after cut reason is =
         let here = first_left version version_laws parts left v to in
         subst (λ place. IsFirstWrong version parts place reason) at_place (record {
@@ -98,7 +98,7 @@ module _ {V K : Type 0} (version : Version V K) (version_laws : VersionLaws vers
         within : length to.before < length parts
         within = omega (arith, ap length to.cut, length-append to.before left, ap length cut)
 
-        wrong_at : (reason : Refusal K) → IsWrongFor version v (piece_at parts (length to.before)) reason → IsWrongAt version parts (length to.before) reason
+        wrong_at : (reason : Rejection K) → IsWrongFor version v (piece_at parts (length to.before)) reason → IsWrongAt version parts (length to.before) reason
         wrong_at (BadComponent text) is = is
         wrong_at reason is = (is.0, fault_at version version_laws v parts (length to.before) (omega (arith, within)) (taken version version_laws parts left v to) reason is.1)
 
@@ -115,13 +115,13 @@ module _ {V K : Type 0} (version : Version V K) (version_laws : VersionLaws vers
         )
 
   -- one thing is wrong with a component
-  pub wrongs_same : (parts : List (List ℕ)) (index : ℕ) (one other : Refusal K) → IsWrongAt version parts index one → IsWrongAt version parts index other → one ≡ other
+  pub wrongs_same : (parts : List (List ℕ)) (index : ℕ) (one other : Rejection K) → IsWrongAt version parts index one → IsWrongAt version parts index other → one ≡ other
   wrongs_same parts index (BadComponent _) (BadComponent _) a b = ap BadComponent (a.0 ∙ sym b.0)
   wrongs_same parts index (BadComponent _) other a b = absurd (a.1 b.0)
   wrongs_same parts index one (BadComponent _) a b = absurd (b.1 a.0)
   wrongs_same parts index one other a b = faults_same version version_laws parts index one other a.1 b.1
 
-  first_wrongs_same : (parts : List (List ℕ)) (i j : ℕ) (one other : Refusal K) → IsFirstWrong version parts i one → IsFirstWrong version parts j other → (Some i ≡ Some j) × (one ≡ other)
+  first_wrongs_same : (parts : List (List ℕ)) (i j : ℕ) (one other : Rejection K) → IsFirstWrong version parts i one → IsFirstWrong version parts j other → (Some i ≡ Some j) × (one ≡ other)
   first_wrongs_same parts i j one other first second =
       let same = same_place i j (λ before. second.earlier.none i one before first.is) (λ before. first.earlier.none j other before second.is) in
       (ap Some same, wrongs_same parts j one other (subst (λ index. IsWrongAt version parts index one) same first.is) second.is)
@@ -135,13 +135,13 @@ module _ {V K : Type 0} (version : Version V K) (version_laws : VersionLaws vers
         ∙ ap (λ each. option_or each (version.value_of v kind)) (values_same version version_laws is.given also.given parts is.components also.components kind)
         ∙ sym (also.values kind))
 
-    pub set_no_reason : (new : V) (index : Option ℕ) (reason : Refusal K) → IsSet version v parts new → IsSetReason version parts index reason → ⊥
+    pub set_no_reason : (new : V) (index : Option ℕ) (reason : Rejection K) → IsSet version v parts new → IsSetReason version parts index reason → ⊥
     set_no_reason new (Some index) reason is why = right_held is.given parts index is.components why.within reason why.is
     set_no_reason new None reason is why = why
 
     pub set_sole : IsSole (IsSet version v parts) (IsSetReason version parts)
     set_sole = record { one = set_once; one_reason = reasons_same; none = set_no_reason } where
-      reasons_same : (i j : Option ℕ) (one other : Refusal K) → IsSetReason version parts i one → IsSetReason version parts j other → (i ≡ j) × (one ≡ other)
+      reasons_same : (i j : Option ℕ) (one other : Rejection K) → IsSetReason version parts i one → IsSetReason version parts j other → (i ≡ j) × (one ≡ other)
       reasons_same (Some i) (Some j) one other first second = first_wrongs_same parts i j one other first second
       reasons_same _ _ one other first second = absurd (assumption)
 
@@ -158,12 +158,12 @@ module _ {V K : Type 0} (version : Version V K) (version_laws : VersionLaws vers
     one_reason = one_reason;
     none = none;
   } where
-    none : (v : V) (index : Option ℕ) (reason : Refusal K) → IsBuilt version front parts v → IsBuildReason version parts index reason → ⊥
+    none : (v : V) (index : Option ℕ) (reason : Rejection K) → IsBuilt version front parts v → IsBuildReason version parts index reason → ⊥
     none v (Some index) reason is why = right_held v parts index is.components why.within reason why.is
     none v None (Missing kind) is why = no_reason version version_laws v parts is.components is.complete (Missing kind) why.1
     none v None _ is why = absurd why
 
-    one_reason : (i j : Option ℕ) (one other : Refusal K) → IsBuildReason version parts i one → IsBuildReason version parts j other → (i ≡ j) × (one ≡ other)
+    one_reason : (i j : Option ℕ) (one other : Rejection K) → IsBuildReason version parts i one → IsBuildReason version parts j other → (i ≡ j) × (one ≡ other)
     one_reason (Some i) (Some j) one other first second = first_wrongs_same parts i j one other first second
     one_reason (Some i) None one (Missing other) first second = absurd (second.0.none i one first.within first.is)
     one_reason None (Some j) (Missing one) other first second = absurd (first.0.none j other second.within second.is)

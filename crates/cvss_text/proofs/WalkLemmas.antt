@@ -7,7 +7,7 @@ use Rattle.std.proofs.lemmas.List.Sorted.{IsPermutation-refl}
 use Rattle.std.proofs.lemmas.List.Splits.{length-slice_split, slice_split-cons_no}
 use Rattle.std.proofs.lemmas.Option.{slice_get_within, get_or_from_slice_get}
 use Rattle.cvss_base.proofs.FindLemmas.{found_first, not_found}
-use Rattle.cvss_base.specs.Refusal.{Refusal, AreComponentsBefore, BadComponent, Repeated, Missing, piece_at, FaultAt, HasNoFaultBefore, IsFirstBadPiece, IsFirstMissing, IsNamedBefore}
+use Rattle.cvss_base.specs.Rejection.{Rejection, AreComponentsBefore, BadComponent, Repeated, Missing, piece_at, FaultAt, HasNoFaultBefore, IsFirstBadPiece, IsFirstMissing, IsNamedBefore}
 use Rattle.cvss_base.specs.Text.{colon, pieces, IsComponent, name_part, component}
 use Rattle.cvss_base.specs.Version.{Version, component_of, AreComponentsOf, IsComplete}
 use Rattle.cvss_base.specs.private.Component.{delimiter_bytes}
@@ -45,7 +45,7 @@ module _ {V K : Type 0} (version : Version V K) (version_laws : VersionLaws vers
       }
 
   -- the fault of a component is one at its place, where the vector holds the components before it
-  pub fault_at : (v : V) (parts : List (List ℕ)) (place : ℕ) → place ≤ length parts → AreComponentsOf version (take place parts) v → (reason : Refusal K) → IsFaultOf version v (piece_at parts place) reason → FaultAt version parts place reason
+  pub fault_at : (v : V) (parts : List (List ℕ)) (place : ℕ) → place ≤ length parts → AreComponentsOf version (take place parts) v → (reason : Rejection K) → IsFaultOf version v (piece_at parts place) reason → FaultAt version parts place reason
   fault_at v parts place within components (Repeated kind) (named, spelling, held) = (named, spelling, held_is_named version version_laws v parts place within components kind held)
   fault_at v parts place within components _ fault = fault
 
@@ -96,7 +96,7 @@ module _ {V K : Type 0} (version : Version V K) (version_laws : VersionLaws vers
     first_left = sym (ap (λ list. piece_at list (length to.before)) to.cut ∙ ap (piece_at (to.before ++ left)) (omega arith) ∙ get_or-append-add to.before left 0 [])
 
     -- the fault of a component is the first reason, where all pieces are components
-    pub IsFirstOfPieces-fault : (text : List ℕ) → left ≡ pieces text → AreComponentsBefore (pieces text) (length (pieces text)) → (reason : Refusal K) → (IsComponent (piece_at (pieces text) 0) → IsFaultOf version v (piece_at (pieces text) 0) reason) → IsFirstOfPieces version parts reason
+    pub IsFirstOfPieces-fault : (text : List ℕ) → left ≡ pieces text → AreComponentsBefore (pieces text) (length (pieces text)) → (reason : Rejection K) → (IsComponent (piece_at (pieces text) 0) → IsFaultOf version v (piece_at (pieces text) 0) reason) → IsFirstOfPieces version parts reason
     IsFirstOfPieces-fault text is after reason fault =
         let first : piece_at (pieces text) 0 ≡ piece_at parts (length to.before) = ap (λ list. piece_at list 0) (sym is) ∙ first_left in
         let component = after.each 0 (omega (arith, length-slice_split is_slash text)) in
@@ -108,7 +108,7 @@ module _ {V K : Type 0} (version : Version V K) (version_laws : VersionLaws vers
         all : AreComponentsBefore parts (length parts)
         all = AreComponents-after parts (pieces text) (follows text is) after
 
-        of_fault : (reason : Refusal K) → FaultAt version parts (length to.before) reason → IsFirstOfPieces version parts reason
+        of_fault : (reason : Rejection K) → FaultAt version parts (length to.before) reason → IsFirstOfPieces version parts reason
         of_fault (BadComponent piece) none = absurd none
         of_fault (Missing kind) none = absurd none
         of_fault _ fault = (all, record { place = length to.before; within = within; fault = fault; earlier = none_before })
@@ -154,13 +154,13 @@ module _ {V K : Type 0} (version : Version V K) (version_laws : VersionLaws vers
 
   -- all pieces are read, and the vector lacks no mandatory metric, or this first
   pub IsReadLeft-complete : (empty : V) → version.front v ≡ version.front empty → None ≡ first_missing version v → IsReadLeft version parts empty (Ok tt) v
-  IsReadLeft-complete empty front complete = record { components = components; front = front; complete = IsComplete-from version v (sym complete); refused = tt; printable = λ utf8. tt }
+  IsReadLeft-complete empty front complete = record { components = components; front = front; complete = IsComplete-from version v (sym complete); rejected = tt; printable = λ utf8. tt }
 
   pub IsReadLeft-missing : (empty : V) (kind : K) → Some kind ≡ first_missing version v → IsReadLeft version parts empty (Err (MissingMandatoryMetric kind)) v
   IsReadLeft-missing empty kind missing = record {
     components = tt;
     front = tt;
     complete = tt;
-    refused = (record { each = piece_is_component version version_laws v parts components }, IsFirstMissing-from kind missing);
+    rejected = (record { each = piece_is_component version version_laws v parts components }, IsFirstMissing-from kind missing);
     printable = λ utf8. Contains-missing version v kind (sym missing);
   }

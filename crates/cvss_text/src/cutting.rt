@@ -5,7 +5,7 @@ ghost use Rattle.std.specs.Prelude.{◌≡◌, bytes_eq, find, IfOk, IfErr, All,
 ghost use Rattle.cvss_text.specs.private.Pieces.{pieces_left};
 ghost use Rattle.cvss_base.specs.Text.{IsComponent, pieces, read_as};
 ghost use Rattle.cvss_base.specs.Version.{read};
-ghost use Rattle.cvss_base.specs.Refusal.{piece_at};
+ghost use Rattle.cvss_base.specs.Rejection.{piece_at};
 ghost use Rattle.cvss_text.specs.private.Walk.{IsCutAnswer, IsCutFirst, IsFaultOf, IsPrintable, reason_of};
 
 use crate::pieces::{Pieces, front_of, parts_of};
@@ -59,7 +59,7 @@ pub(crate) fn cut_first<'a, V: Components>(
 ) -> Result<(V::Kind, &'a [u8], Pieces<'a>), Fault<'a, V::Kind>>
     ensures cut { IfOk result (λ cut.
         IsCutFirst V.version text.now cut.0 cut.1.now (pieces_left cut.2)) }
-    ensures refused { IfErr result (λ fault. (v : V) → IsComponent (piece_at (pieces text.now) 0)
+    ensures rejected { IfErr result (λ fault. (v : V) → IsComponent (piece_at (pieces text.now) 0)
         → IsFaultOf V.version v (piece_at (pieces text.now) 0) (reason_of V.version fault)) }
     ensures printable { All IsUtf8 (pieces text.now) → IfErr result (IsPrintable V.version) }
 {

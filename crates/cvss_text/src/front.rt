@@ -19,7 +19,7 @@ pub trait Prefixed: Components {
     ghost plain: { FrontLaws Self.version };
 }
 
-/// Reads a text that begins with a version piece, or finds the first reason why it is refused.
+/// Reads a text that begins with a version piece, or finds the first reason why it is rejected.
 pub fn read_after<'a, V: Prefixed>(text: &'a [u8]) -> Result<V, Fault<'a, V::Kind>>
     ensures { IsAnswerAfter V.version text.now result }
 {
@@ -51,7 +51,7 @@ fn read_left<'a, V: Prefixed>(left: Pieces<'a>, vector: &mut V) -> Result<(), Fa
 /// The vector without values that a version piece starts.
 fn start<'a, V: Prefixed>(front: &'a [u8]) -> Result<V, Fault<'a, V::Kind>>
     ensures started { IfOk result (StartsWith V.version front.now) }
-    ensures refused { IfErr result (λ fault.
+    ensures rejected { IfErr result (λ fault.
         IsComponent front.now → IsFrontFault V.version front.now (reason_of V.version fault)) }
     ensures printable { IsUtf8 front.now → IfErr result (IsPrintable V.version) }
 {

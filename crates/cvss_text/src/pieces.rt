@@ -3,7 +3,7 @@
 ghost use Rattle.std.specs.Prelude.{◌≡◌, ◌↔◌, ◌∷◌, [], IsTrue, IfSome, MatchOption, Some, length, ◌==◌, position};
 ghost use Rattle.cvss_base.specs.Text.{IsComponent, pieces};
 ghost use Rattle.cvss_text.specs.private.Pieces.{pieces_left, AreParts, IsAfterComponent, IsWithoutColon};
-ghost use Rattle.cvss_base.specs.Refusal.{AreComponentsBefore, IsFirstBadPiece, piece_at};
+ghost use Rattle.cvss_base.specs.Rejection.{AreComponentsBefore, IsFirstBadPiece, piece_at};
 
 /// The pieces of a text, cut at each slash.
 #[derive(Clone, Copy)]

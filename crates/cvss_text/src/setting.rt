@@ -62,10 +62,10 @@ pub fn read_given<'a, V: Components, T: Texts<'a>>(
     requires { HasNoValue V.version empty }
     ensures components { IfOk result (AreComponentsOf V.version (T.texts texts)) }
     ensures front { IfOk result (λ given. V.version.front given ≡ V.version.front empty) }
-    ensures refused { IfErr result (λ refused. IsFirstWrong V.version (T.texts texts) refused.0
-        (reason_of V.version refused.1)) }
-    ensures bound { IfErr result (λ refused. refused.0 ≤ length V.version.printed) }
-    ensures printable { T.are_utf8 → IfErr result (λ refused. IsPrintable V.version refused.1) }
+    ensures rejected { IfErr result (λ rejected. IsFirstWrong V.version (T.texts texts) rejected.0
+        (reason_of V.version rejected.1)) }
+    ensures bound { IfErr result (λ rejected. rejected.0 ≤ length V.version.printed) }
+    ensures printable { T.are_utf8 → IfErr result (λ rejected. IsPrintable V.version rejected.1) }
 {
     let mut given = empty;
     let mut left = texts;
@@ -82,7 +82,7 @@ pub fn read_given<'a, V: Components, T: Texts<'a>>(
 /// Reads one component into the vector that holds those before it.
 fn read_one<'a, V: Components>(piece: &'a [u8], given: &mut V) -> Result<(), Fault<'a, V::Kind>>
     ensures read { OnOk result (Adds V.version given.old piece.now given.new) }
-    ensures refused { IfErr result
+    ensures rejected { IfErr result
         (λ fault. IsWrongFor V.version given.old piece.now (reason_of V.version fault)) }
     ensures printable { IsUtf8 piece.now → IfErr result (IsPrintable V.version) }
 {

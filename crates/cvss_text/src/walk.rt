@@ -5,7 +5,7 @@ ghost use Rattle.std.specs.Prelude.{◌≡◌, ◌∷◌, ◌++◌, ℕ, List, I
 ghost use Rattle.cvss_text.specs.private.Pieces.{pieces_left};
 ghost use Rattle.cvss_base.specs.Text.{IsComponent, pieces};
 ghost use Rattle.cvss_base.specs.Version.{AreComponentsOf, Version, read};
-ghost use Rattle.cvss_base.specs.Refusal.{piece_at};
+ghost use Rattle.cvss_base.specs.Rejection.{piece_at};
 ghost use Rattle.cvss_text.specs.private.Printing.{texts_with_slash};
 ghost use Rattle.cvss_text.specs.private.Walk.{HasNoValue, IsAnswerBare, IsBaseTo, IsEmpty, IsPut, IsCut, IsReadLeft, VersionLaws, Puts, Adds, IsFaultOf, IsFirstOfPieces, first_missing, IsPrintable, reason_of};
 
@@ -22,7 +22,7 @@ pub enum ComponentError {
     Repeated,
 }
 
-/// Why a text is refused, with the part of the text that is at fault.
+/// Why a text is rejected, with the part of the text that is at fault.
 #[derive(Drop)]
 pub enum Fault<'a, K> {
     /// A piece of the text has no colon, or more than one.
@@ -91,7 +91,7 @@ pub trait Components: Copy {
         ensures missing { first_missing version self.new ≡ first_missing version self.old }
         ensures has_base { has_base self.old → has_base self.new };
 
-    /// The metric that a refused value is reported under.
+    /// The metric that a rejected value is reported under.
     fn reported_kind(kind: Self::Kind) -> Self::Kind
         ensures { result ≡ version.reported_kind kind };
 
@@ -113,7 +113,7 @@ pub fn read_component<'a, V: Components>(
     vector: &mut V,
 ) -> Result<(), Fault<'a, V::Kind>>
     ensures read { OnOk result (Adds V.version vector.old piece.now vector.new) }
-    ensures refused { IfErr result (λ fault. IsComponent piece.now
+    ensures rejected { IfErr result (λ fault. IsComponent piece.now
         → IsFaultOf V.version vector.old piece.now (reason_of V.version fault)) }
     ensures printable { IsUtf8 piece.now → IfErr result (IsPrintable V.version) }
 {
@@ -130,7 +130,7 @@ fn put_component<'a, V: Components, Caller>(
 ) -> Result<(), Fault<'a, V::Kind>>
     ensures put { OnOk result
         (Puts V.version vector.old kind (read V.version value.now) vector.new) }
-    ensures refused { IfErr result (λ fault. (piece : List ℕ) → IsCut V.version piece kind value.now
+    ensures rejected { IfErr result (λ fault. (piece : List ℕ) → IsCut V.version piece kind value.now
         → IsFaultOf V.version vector.old piece (reason_of V.version fault)) }
     ensures printable { IsUtf8 value.now → IfErr result (IsPrintable V.version) }
 {
@@ -149,7 +149,7 @@ fn read_first<'a, V: Components>(
 ) -> Result<Pieces<'a>, Fault<'a, V::Kind>>
     ensures read { IfOk result (λ left. (piece : List ℕ) × (pieces text.now ≡ piece ∷ pieces_left left)
         × Adds V.version vector.old piece vector.new) }
-    ensures refused { IfErr result (λ fault. IsComponent (piece_at (pieces text.now) 0)
+    ensures rejected { IfErr result (λ fault. IsComponent (piece_at (pieces text.now) 0)
         → IsFaultOf V.version vector.old (piece_at (pieces text.now) 0)
         (reason_of V.version fault)) }
     ensures printable { All IsUtf8 (pieces text.now) → IfErr result (IsPrintable V.version) }
@@ -169,7 +169,7 @@ fn read_components<'a, V: Components>(
     requires { HasNoValue V.version vector.old }
     ensures components { OnOk result (AreComponentsOf V.version (pieces text.now) vector.new) }
     ensures front { OnOk result (V.version.front vector.new ≡ V.version.front vector.old) }
-    ensures refused { IfErr result (λ fault.
+    ensures rejected { IfErr result (λ fault.
         IsFirstOfPieces V.version (pieces text.now) (reason_of V.version fault)) }
     ensures printable { All IsUtf8 (pieces text.now) → IfErr result (IsPrintable V.version) }
 {
@@ -215,7 +215,7 @@ pub(crate) fn check_complete<'a, V: Components>(vector: &V) -> Result<(), Fault<
 }
 
 /// The vector that a text of components denotes, from an empty one, or the first reason why the text
-/// is refused.
+/// is rejected.
 pub fn read_vector<'a, V: Components>(text: &'a [u8], empty: V) -> Result<V, Fault<'a, V::Kind>>
     requires { IsEmpty V.version empty }
     ensures { IsAnswerBare V.version text.now result }

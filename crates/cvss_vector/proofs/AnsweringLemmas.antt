@@ -2,24 +2,24 @@
 use Rattle.std.proofs.Common.{◌≡◌, ℕ, ℤ, Bool, true, false, [], ◌∷◌, ◌++◌, List, codes, refl, sym, ap, ◌∙◌, append_assoc}
 use Rattle.cvss_base.specs.declared.severity.Severity.{Severity}
 use Rattle.cvss_lines.specs.Answers.{WritesAnswer, written_text}
-use Rattle.cvss_lines.proofs.TextsLemmas.{accepted_by, refused_by}
-use Rattle.cvss_vector.specs.Answers.{rating_by, rating_text, score_of_tenths, text_of, vector_answer}
+use Rattle.cvss_lines.proofs.TextsLemmas.{accepted_by, rejected_by}
+use Rattle.cvss_vector.specs.Answers.{severity_by, score_and_severity, score_of_tenths, text_of, vector_answer}
 use Rattle.cvss_vector.specs.Complete.{IsPublishedOfComplete, IsReadErrorBy}
 use Rattle.cvss_vector.specs.Lines.{IsVectorOf, score_rule, vector_rule}
-use Rattle.cvss_vector.specs.Published.{rating_within, score_line}
+use Rattle.cvss_vector.specs.Published.{severity_within, score_line}
 use Rattle.cvss_vector.specs.Reasons.{error_line, error_message}
 use Rattle.cvss_vector.specs.Scores.{IsScoreAs}
 use Rattle.cvss_vector.specs.declared.published.Published.{Published}
-use Rattle.cvss_vector.specs.declared.refusal.ReadError.{ReadError}
+use Rattle.cvss_vector.specs.declared.rejection.ReadError.{ReadError}
 use Rattle.cvss_vector.specs.declared.scoring.Scoring.{Scoring}
 use Rattle.cvss_vector.specs.declared.vector.Cvss.{Cvss}
 use Rattle.cvss_vector.specs.private.{IsPublishedTo}
 
 -- a vector's text and the line of its score, one after the other, are the vector's answer
-pub answer_written : (vector : Cvss) (published : Published) → rating_by vector ≡ rating_within published.bounds → (old half new line : List ℕ) → half ≡ old ++ text_of vector
+pub answer_written : (vector : Cvss) (published : Published) → severity_by vector ≡ severity_within published.bounds → (old half new line : List ℕ) → half ≡ old ++ text_of vector
     → line ≡ score_line published → new ≡ half ++ line → new ≡ old ++ written_text (vector_answer vector published.tenths)
 answer_written vector published rated old half new line text said written =
-    let line_of = λ (rating : ℤ → Severity). old ++ (text_of vector ++ (codes " " ++ (rating_text published.tenths (rating (score_of_tenths published.tenths)) ++ 10 ∷ []))) in
+    let line_of = λ (rating : ℤ → Severity). old ++ (text_of vector ++ (codes " " ++ (score_and_severity published.tenths (rating (score_of_tenths published.tenths)) ++ 10 ∷ []))) in
     written ∙ rw (text, said, append_assoc old (text_of vector) (score_line published)) (ap line_of (sym rated) ∙ simp append_assoc)
 
 -- a vector and an error that are a line's, once they are written
@@ -32,7 +32,7 @@ module _ (scoring : Scoring) (IsVector : List ℕ → Cvss → Type 0) (IsError 
 
   pub error_written : (error : ReadError) → IsError line error → new ≡ old ++ error_line error → WritesAnswer (vector_rule scoring IsVector IsError) number line old new false
   error_written error is written =
-      refused_by _ _ number line (codes "error: " ++ error_message error) old new written (record { error = error; is_right = is; is = refl })
+      rejected_by _ _ number line (codes "error: " ++ error_message error) old new written (record { error = error; is_right = is; is = refl })
 
 -- a line is answered once it is published
 pub published_written : (scoring : Scoring) (allow : Bool) (number : ℕ) (line old : List ℕ) (is_accepted : Bool) (new : List ℕ)

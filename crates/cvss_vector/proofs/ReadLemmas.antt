@@ -1,11 +1,11 @@
 -- A text that denotes a vector is read by the rules of its version. It denotes at most one vector and has at most one first
--- refusal; what reading it answers follows from what the rules of its version read. And a vector has one score.
+-- rejection; what reading it answers follows from what the rules of its version read. And a vector has one score.
 use Rattle.std.proofs.Common.{◌≡◌, ◌≢◌, ◌<◌, Bool, false, None, ℕ, zero, suc, List, [], ◌∷◌, ◌++◌, Ok, Err, codes, length, map, refl, sym, ap, ◌∙◌, subst, arith, lit<, Contains, IsUtf8}
 use Rattle.std.specs.Prelude.{⊤}
 use Rattle.std.proofs.lemmas.List.{length-map}
 use Rattle.std.proofs.lemmas.List.Elements.{All-nil}
 use Rattle.std.proofs.lemmas.List.Sorted.{length_permutation}
-use Rattle.cvss_base.specs.Refusal.{Refusal, BadPiecesFirst, piece_at}
+use Rattle.cvss_base.specs.Rejection.{Rejection, BadPiecesFirst, piece_at}
 use Rattle.cvss_base.specs.Text.{pieces, component, has, dot}
 use Rattle.cvss_base.specs.V2Types.{name_of}
 use Rattle.cvss_base.specs.Version.{Version, numeral, version_piece, components_of, read, Denotes, IsComplete, IsWellFormed}
@@ -38,14 +38,14 @@ use Rattle.cvss_vector.specs.v4.Vector.{v4}
 use Rattle.cvss_vector.specs.v4.private.VectorLaws.{v4_laws, v4_front_laws}
 use Rattle.cvss_vector.specs.Answers.{HasScore, IsScoreOf, text_of}
 use Rattle.cvss_vector.specs.Complete.{IsPublishedBy, missing_by}
-use Rattle.cvss_vector.specs.Dispatch.{DenotesCvss, DenotesV2, DenotesV3, DenotesV4, IsFirstReasonAt, IsFirstRefusalCvss, IsReasonOf, wrapped}
+use Rattle.cvss_vector.specs.Dispatch.{DenotesCvss, DenotesV2, DenotesV3, DenotesV4, IsFirstReasonAt, IsFirstRejectionCvss, IsReasonOf, wrapped}
 use Rattle.cvss_vector.specs.Published.{IsPublished}
-use Rattle.cvss_vector.specs.Refusals.{refusal_of}
+use Rattle.cvss_vector.specs.Rejections.{rejection_of}
 use Rattle.cvss_vector.specs.declared.metric_type.MetricType.{MetricType}
 use Rattle.cvss_vector.specs.declared.metric_type.MetricType.TheVariants.{V2, V3, V4}
 use Rattle.cvss_vector.specs.declared.published.Published.{Published}
 use Rattle.cvss_vector.specs.declared.scoring.Scoring.{Scoring}
-use Rattle.cvss_vector.specs.declared.refusal.Refusal as declared
+use Rattle.cvss_vector.specs.declared.rejection.Rejection as declared
 use Rattle.cvss_vector.specs.declared.vector.Cvss.{Cvss}
 use Rattle.cvss_vector.specs.declared.vector.Cvss.TheVariants.{CvssV20, CvssV30, CvssV31, CvssV40}
 use Rattle.cvss_vector.specs.private.{IsRead, IsReadByRules, IsReportable, IsRouted, IsRoutedV3, front_of, route_v3, wrapped_v3}
@@ -150,23 +150,23 @@ one_vector text (CvssV40 v) (CvssV40 w) left right = ap CvssV40 (denoted_once_af
 one_vector text v w left right = let no : route_for v ≡ route_for w = sym (denoted_routed text v left) ∙ denoted_routed text w right in absurd cc
 
 -- what a version decides of a text, of vectors and reasons as those of any version
-module _ {V K : Type 0} {version : Version V K} {IsFormed : V → Type 0} {IsReason : Refusal K → Type 0} {text : List ℕ} (wrap : K → MetricType) (is : IsDecided version IsFormed IsReason text) where
-  own_vector : (v : V) → Denotes version text v → IsFormed v → IsUtf8 text × ((reason : Refusal MetricType) → IsReasonOf wrap (BadPiecesFirst IsReason (pieces text)) reason → ⊥)
+module _ {V K : Type 0} {version : Version V K} {IsFormed : V → Type 0} {IsReason : Rejection K → Type 0} {text : List ℕ} (wrap : K → MetricType) (is : IsDecided version IsFormed IsReason text) where
+  own_vector : (v : V) → Denotes version text v → IsFormed v → IsUtf8 text × ((reason : Rejection MetricType) → IsReasonOf wrap (BadPiecesFirst IsReason (pieces text)) reason → ⊥)
   own_vector v denotes formed = (is.utf8 v denotes formed, λ reason of. is.none v denotes formed of.own of.first)
 
-  own_reason : (one other : Refusal MetricType) → IsReasonOf wrap (BadPiecesFirst IsReason (pieces text)) one → IsReasonOf wrap (BadPiecesFirst IsReason (pieces text)) other → one ≡ other
+  own_reason : (one other : Rejection MetricType) → IsReasonOf wrap (BadPiecesFirst IsReason (pieces text)) one → IsReasonOf wrap (BadPiecesFirst IsReason (pieces text)) other → one ≡ other
   own_reason one other first second =
       first.is ∙ (ap (wrapped wrap) (is.one_reason first.own second.own first.first second.first) ∙ sym second.is)
 
-one_at : (route : Route) (text : List ℕ) (one other : Refusal MetricType) → IsFirstReasonAt route text one → IsFirstReasonAt route text other → one ≡ other
+one_at : (route : Route) (text : List ℕ) (one other : Rejection MetricType) → IsFirstReasonAt route text one → IsFirstReasonAt route text other → one ≡ other
 one_at ToV20 text = own_reason V2 (decided_bare v2 v2_laws text)
 one_at ToV30 text = own_reason V3 (decided_after v3 v3_laws v3_front_laws text)
 one_at ToV31 text = own_reason V3 (decided_after v3 v3_laws v3_front_laws text)
 one_at ToV40 text = own_reason V4 (decided_after v4 v4_laws v4_front_laws text)
 one_at (ToNoVersion why) text = λ one other first second. first ∙ sym second
 
-pub one_refusal : (text : List ℕ) (one other : Refusal MetricType) → IsFirstRefusalCvss text one → IsFirstRefusalCvss text other → one ≡ other
-one_refusal text = one_at (route_of text) text
+pub one_rejection : (text : List ℕ) (one other : Rejection MetricType) → IsFirstRejectionCvss text one → IsFirstRejectionCvss text other → one ≡ other
+one_rejection text = one_at (route_of text) text
 
 pub score_once : (cvss : Cvss) → IsOneCount (IsScoreOf cvss)
 score_once (CvssV20 v) = base_score_once (weights_of v)
@@ -175,13 +175,13 @@ score_once (CvssV31 v) = law_v3.base_score_once v.minor_version (weights_v3.weig
 score_once (CvssV40 v) = in_tenths_once (IsScore (effective_of v)) (one_score (effective_of v))
 
 module _ (text : List ℕ) where
-  decided : (cvss : Cvss) → DenotesCvss text cvss → IsUtf8 text × ((reason : Refusal MetricType) → IsFirstReasonAt (route_for cvss) text reason → ⊥)
+  decided : (cvss : Cvss) → DenotesCvss text cvss → IsUtf8 text × ((reason : Rejection MetricType) → IsFirstReasonAt (route_for cvss) text reason → ⊥)
   decided (CvssV20 v) is = own_vector V2 (decided_bare v2 v2_laws text) v is.denoted (record { frontless = refl; complete = is.complete })
   decided (CvssV30 v) is = own_vector V3 (decided_after v3 v3_laws v3_front_laws text) v is.denoted is.well_formed
   decided (CvssV31 v) is = own_vector V3 (decided_after v3 v3_laws v3_front_laws text) v is.denoted is.well_formed
   decided (CvssV40 v) is = own_vector V4 (decided_after v4 v4_laws v4_front_laws text) v is.denoted is.well_formed
 
-  none : (cvss : Cvss) → DenotesCvss text cvss → (reason : Refusal MetricType) → IsFirstRefusalCvss text reason → ⊥
+  none : (cvss : Cvss) → DenotesCvss text cvss → (reason : Rejection MetricType) → IsFirstRejectionCvss text reason → ⊥
   none cvss denotes reason first = (decided cvss denotes).1 reason (subst (λ route. IsFirstReasonAt route text reason) (denoted_routed text cvss denotes) first)
 
   pub scored : (cvss : Cvss) → DenotesCvss text cvss → HasScore cvss
@@ -195,37 +195,37 @@ module _ (text : List ℕ) where
     accepts = λ other also. ap Ok (one_vector text cvss other denotes also);
     scored = scored cvss denotes;
     utf8 = (decided cvss denotes).0;
-    refused = tt;
-    refuses = λ reason first. absurd (none cvss denotes reason first);
+    rejected = tt;
+    rejects = λ reason first. absurd (none cvss denotes reason first);
     reportable = λ is. tt;
   }
 
-  pub read_err : (refusal : declared.Refusal) → IsFirstRefusalCvss text (refusal_of refusal) → (IsUtf8 text → IsReportable refusal) → IsRead text (Err refusal)
-  read_err refusal first reportable = record {
+  pub read_err : (rejection : declared.Rejection) → IsFirstRejectionCvss text (rejection_of rejection) → (IsUtf8 text → IsReportable rejection) → IsRead text (Err rejection)
+  read_err rejection first reportable = record {
     denoted = tt;
-    accepts = λ cvss denotes. absurd (none cvss denotes (refusal_of refusal) first);
+    accepts = λ cvss denotes. absurd (none cvss denotes (rejection_of rejection) first);
     scored = tt;
     utf8 = tt;
-    refused = first;
-    refuses = λ reason other. one_refusal text (refusal_of refusal) reason first other;
+    rejected = first;
+    rejects = λ reason other. one_rejection text (rejection_of rejection) reason first other;
     reportable = reportable;
   }
 
-  pub reason_at : (to : Route) → route_of text ≡ to → (reason : Refusal _) → IsFirstReasonAt to text reason → IsFirstRefusalCvss text reason
+  pub reason_at : (to : Route) → route_of text ≡ to → (reason : Rejection _) → IsFirstReasonAt to text reason → IsFirstRejectionCvss text reason
   reason_at to route reason = subst (λ each. IsFirstReasonAt each text reason) (sym route)
 
   -- what the rules of a version read of the components
   module _ {V K : Type 0} (version : Version V K) (join : V → Cvss) (wrap : K → MetricType) (to : Route) (front : List (List ℕ)) (components : List ℕ) where
     pub read_any : route_of text ≡ to → pieces text ≡ front ++ pieces components
         → ((v : V) → Denotes version text v → version.front v ≡ front → IsComplete version v → DenotesCvss text (join v))
-        → ((own : Refusal K) → IsFirstOfPieces version (pieces components) own → IsFirstReasonAt to text (wrapped wrap own))
+        → ((own : Rejection K) → IsFirstOfPieces version (pieces components) own → IsFirstReasonAt to text (wrapped wrap own))
         → (empty : V) → version.front empty ≡ front → IsReadByRules version join wrap text components empty
     read_any routed cut denotes reasons empty is = record {
       accepted = λ done v read.
           let same = read.front ∙ is in
           read_ok (join v) (denotes v (Denotes-pieces version text front (pieces components) cut v same read.components) same read.complete);
-      refused = λ fault v refusal read for.
-          read_err refusal (reason_at to routed (refusal_of refusal) (rw for.is (reasons (reason_of version fault) read.refused)))
+      rejected = λ fault v rejection read for.
+          read_err rejection (reason_at to routed (rejection_of rejection) (rw for.is (reasons (reason_of version fault) read.rejected)))
           (λ utf8. for.reportable (read.printable (IsUtf8-left text front (pieces components) cut utf8)));
     }
 
@@ -241,7 +241,7 @@ module _ (text : List ℕ) where
     denoted_v3 (suc zero) is v denotes front complete = v3_denoted text components 1 v is denotes (record { complete = complete; supported = record { reported = codes "3.1"; front_is = front; supported = (1, lit< tt, refl) } }) (λ no. cc)
     denoted_v3 (suc (suc minor)) is v denotes front complete = absurd (omega (arith, is.known))
 
-    reason_v3 : (minor : ℕ) → IsRoutedV3 text components minor → (own : Refusal _) → IsFirstOfPieces v3 (pieces components) own → IsFirstReasonAt (route_v3 minor) text (wrapped V3 own)
+    reason_v3 : (minor : ℕ) → IsRoutedV3 text components minor → (own : Rejection _) → IsFirstOfPieces v3 (pieces components) own → IsFirstReasonAt (route_v3 minor) text (wrapped V3 own)
     reason_v3 zero is own first = record { own = own; first = reason_after v3 v3_laws v3_front_laws text (codes "3.0") (0, lit< tt, refl) (pieces components) is.cut own first; is = refl }
     reason_v3 (suc zero) is own first = record { own = own; first = reason_after v3 v3_laws v3_front_laws text (codes "3.1") (1, lit< tt, refl) (pieces components) is.cut own first; is = refl }
     reason_v3 (suc (suc minor)) is own first = absurd (omega (arith, is.known))

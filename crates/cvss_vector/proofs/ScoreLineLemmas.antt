@@ -4,9 +4,9 @@ use Rattle.std.proofs.Math.ListN.{get_or-map}
 use Rattle.std.proofs.lemmas.Bool.Decides.{nat_tests}
 use Rattle.std.proofs.lemmas.List.FromFn.{get_or-map-range_with_len}
 use Rattle.std.specs.List.{range_with_len}
-use Rattle.cvss_base.specs.Rating.{rating_of_score}
-use Rattle.cvss_score.specs.v2.Rating.{rating_of}
-use Rattle.cvss_vector.specs.Answers.{rating_text}
+use Rattle.cvss_base.specs.SeverityScale.{severity_of_score}
+use Rattle.cvss_score.specs.v2.SeverityScale.{severity_of}
+use Rattle.cvss_vector.specs.Answers.{score_and_severity}
 use Rattle.cvss_vector.specs.Published.{rated_line}
 use Rattle.cvss_vector.specs.declared.published.Bounds.{Bounds}
 use Rattle.cvss_vector.specs.declared.published.Bounds.TheVariants.{OfV2, SinceV3}
@@ -22,11 +22,11 @@ line_reported bounds from n place tenths lines within stands all =
     ap (λ list. slice_index_or list place []) all ∙ get_or-map-range_with_len (rated_line bounds) from n place tenths [] within stands
 
 -- from 0.1 to 8.9 the bounds rate alike
-alike : (t : ℕ) → 1 ≤ t → t < 90 → rating_of_score (pos (t * 10 ^ 23)) ≡ rating_of (pos (t * 10 ^ 23))
+alike : (t : ℕ) → 1 ≤ t → t < 90 → severity_of_score (pos (t * 10 ^ 23)) ≡ severity_of (pos (t * 10 ^ 23))
 alike t from below =
     let some : int_lt (pos (t * 10 ^ 23)) (pos (10 ^ 23)) ≡ false = grind (arith, nat_tests) in
     let high : int_lt (pos (t * 10 ^ 23)) (pos (9 * 10 ^ 24)) ≡ true = grind (arith, nat_tests) in
     rw (some, high) refl
 
 pub between_v2 : (t : ℕ) → 1 ≤ t → t < 90 → rated_line SinceV3 t ≡ rated_line OfV2 t
-between_v2 t from below = ap (λ rating. codes " " ++ (rating_text t rating ++ 10 ∷ [])) (alike t from below)
+between_v2 t from below = ap (λ rating. codes " " ++ (score_and_severity t rating ++ 10 ∷ [])) (alike t from below)

@@ -4,18 +4,18 @@ use Rattle.std.proofs.Common.{◌≡◌, ℕ, ◌≤◌, List, Option, IfOk, Res
 use Rattle.std.proofs.lemmas.Option.{IfSome_then}
 use Rattle.std.proofs.lemmas.Result.{IfOk-weaker}
 use Rattle.cvss_base.specs.V4Types.{most_metrics}
-use Rattle.cvss_base.specs.Refusal.{Refusal}
+use Rattle.cvss_base.specs.Rejection.{Rejection}
 use Rattle.cvss_base.specs.Version.{numeral, version_piece}
 use Rattle.cvss_text.specs.private.SettingSteps.{IsAnswered}
 use Rattle.cvss_text.specs.private.Walk.{reason_of}
 use Rattle.cvss_text.specs.declared.walk.Fault.{Fault}
 use Rattle.cvss_vector.specs.Dispatch.{IsReasonOf, wrapped, DenotesCvss, DenotesV3}
-use Rattle.cvss_vector.specs.Refusals.{refusal_of}
+use Rattle.cvss_vector.specs.Rejections.{rejection_of}
 use Rattle.cvss_vector.specs.Answers.{HasScore}
 use Rattle.cvss_vector.specs.Setting.{IsOf, IsWith, IsBuiltAs, text_with}
 use Rattle.cvss_vector.specs.private.{IsAnsweredBy, front_of}
 use Rattle.cvss_vector.specs.declared.metric_type.MetricType.{MetricType}
-use Rattle.cvss_vector.specs.declared.refusal.Refusal as declared
+use Rattle.cvss_vector.specs.declared.rejection.Rejection as declared
 use Rattle.cvss_vector.specs.declared.setting.SetError.{SetError}
 use Rattle.cvss_vector.specs.declared.vector.Cvss.{Cvss}
 use Rattle.cvss_vector.specs.declared.vector.Cvss.TheVariants.{CvssV40}
@@ -33,23 +33,23 @@ use Rattle.cvss_text.proofs.FrontLemmas.{Denotes-pieces}
 use Rattle.cvss_vector.specs.v2.Vector.{v2}
 use Rattle.cvss_vector.specs.v3.Vector.{v3}
 
-module _ {V K : Type 0} {version : base.Version V K} {IsIt : V → Type 0} {IsReason : Option ℕ → Refusal K → Type 0} (wrap : V → Cvss) (of_any : K → MetricType) where
+module _ {V K : Type 0} {version : base.Version V K} {IsIt : V → Type 0} {IsReason : Option ℕ → Rejection K → Type 0} (wrap : V → Cvss) (of_any : K → MetricType) where
   pub answered_ok : (v : V) → IsAnswered version IsIt IsReason (Ok v) → IsAnsweredBy (IsOf wrap IsIt) (λ index. IsReasonOf of_any (IsReason index)) (Ok (wrap v))
   answered_ok v is = record {
     accepted = record { own = v; holds = is.accepted; is = refl };
     accepts = λ cvss of. let same = is.accepts of.own of.holds in cc;
-    refused = tt;
-    refuses = λ index reason of. is.refuses index of.own of.first;
+    rejected = tt;
+    rejects = λ index reason of. is.rejects index of.own of.first;
     bound = tt;
   }
 
-  pub answered_err : (index : Option ℕ) (fault : Fault K) (reason : declared.Refusal) → refusal_of reason ≡ wrapped of_any (reason_of version fault) → length version.printed ≤ most_metrics → IsAnswered version IsIt IsReason (Err (index, fault)) → IsAnsweredBy (IsOf wrap IsIt) (λ index. IsReasonOf of_any (IsReason index)) (Err (record { index = index; reason = reason }))
+  pub answered_err : (index : Option ℕ) (fault : Fault K) (reason : declared.Rejection) → rejection_of reason ≡ wrapped of_any (reason_of version fault) → length version.printed ≤ most_metrics → IsAnswered version IsIt IsReason (Err (index, fault)) → IsAnsweredBy (IsOf wrap IsIt) (λ index. IsReasonOf of_any (IsReason index)) (Err (record { index = index; reason = reason }))
   answered_err index fault reason says most is = record {
     accepted = tt;
     accepts = λ cvss of. absurd (let no = is.accepts of.own of.holds in cc);
-    refused = record { own = reason_of version fault; first = is.refused; is = says };
-    refuses = λ other reason of.
-        let same = is.refuses other of.own of.first in
+    rejected = record { own = reason_of version fault; first = is.rejected; is = says };
+    rejects = λ other reason of.
+        let same = is.rejects other of.own of.first in
         (same.0, says ∙ ap (wrapped of_any) same.1 ∙ sym of.is);
     bound = IfSome_then index is.bound (λ i within. omega (arith, within, most));
   }

@@ -1,13 +1,13 @@
 -- What is answered of a vector of any version: its text, its score, the score's rating and its metrics.
 use Rattle.std.specs.Prelude.{◌≡◌, ℕ, ◌*◌, ◌^◌, List, ◌++◌, codes, map, ℤ, pos, ⊤}
 use Rattle.cvss_text.specs.Listing.{listed_metrics}
-use Rattle.cvss_base.specs.Rating.{rating_of_score}
+use Rattle.cvss_base.specs.SeverityScale.{severity_of_score}
 use Rattle.cvss_base.specs.SeverityText.{text_of as severity_text}
 use Rattle.cvss_base.specs.Tenths.{IsInTenths, tenths_text}
 use Rattle.cvss_base.specs.V4Types.{declared}
 use Rattle.cvss_base.specs.Version.{canonical_text, IsComplete}
 use Rattle.cvss_base.specs.declared.severity.Severity.{Severity}
-use Rattle.cvss_score.specs.v2.Rating.{rating_of}
+use Rattle.cvss_score.specs.v2.SeverityScale.{severity_of}
 use Rattle.cvss_score.specs.v2.Scores as scores_v2
 use Rattle.cvss_metric.specs.v2.Table as table_v2
 use Rattle.cvss_vector.specs.v2.Vector.{v2}
@@ -44,9 +44,9 @@ IsScoreOf (CvssV31 vector) = scores_v3.IsBaseScore vector.minor_version (weights
 IsScoreOf (CvssV40 vector) = IsInTenths (IsScore (effective_of vector))
 
 -- the rating of the vector's score, a count of 10^-24
-abbrev pub rating_by : Cvss → ℤ → Severity
-rating_by (CvssV20 vector) = rating_of
-rating_by _ = rating_of_score
+abbrev pub severity_by : Cvss → ℤ → Severity
+severity_by (CvssV20 vector) = severity_of
+severity_by _ = severity_of_score
 
 -- a score of so many tenths, as a count of 10^-24
 abbrev pub score_of_tenths : ℕ → ℤ
@@ -59,13 +59,13 @@ pub record IsScoreText (vector : Cvss) (text : List ℕ) : Type 0 where
   pub is : text ≡ tenths_text tenths
 
 -- a score of so many tenths, and a rating
-abbrev pub rating_text : ℕ → Severity → List ℕ
-rating_text tenths severity = tenths_text tenths ++ codes " " ++ severity_text severity
+abbrev pub score_and_severity : ℕ → Severity → List ℕ
+score_and_severity tenths severity = tenths_text tenths ++ codes " " ++ severity_text severity
 
 -- the vector's text, a score of so many tenths, and its rating
 abbrev pub vector_answer : Cvss → ℕ → List ℕ
 vector_answer vector tenths =
-    text_of vector ++ codes " " ++ rating_text tenths (rating_by vector (score_of_tenths tenths))
+    text_of vector ++ codes " " ++ score_and_severity tenths (severity_by vector (score_of_tenths tenths))
 
 -- metrics of one version, listed as metrics of any
 abbrev pub listed_as : {K : Type 0} → (K → MetricType) → List (K × List ℕ) → List (MetricType × List ℕ)

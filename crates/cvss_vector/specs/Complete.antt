@@ -2,15 +2,15 @@
 use Rattle.std.specs.Prelude.{◌≡◌, ◌⊎◌, ℕ, Bool, true, false, List, Option, Some, None}
 use Rattle.std.specs.Option.{option_map}
 use Rattle.std.specs.Str.{IsUtf8}
-use Rattle.cvss_base.specs.Refusal.{Missing}
+use Rattle.cvss_base.specs.Rejection.{Missing}
 use Rattle.cvss_vector.specs.v3.Complete.{first_missing_base}
 use Rattle.cvss_vector.specs.Dispatch.{DenotesCvss}
 use Rattle.cvss_vector.specs.Published.{IsPublishedAs}
-use Rattle.cvss_vector.specs.Refusals.{IsReadError, IsReadErrorFor}
+use Rattle.cvss_vector.specs.Rejections.{IsReadError, IsReadErrorFor}
 use Rattle.cvss_vector.specs.declared.metric_type.MetricType.{MetricType}
 use Rattle.cvss_vector.specs.declared.metric_type.MetricType.TheVariants.{V3}
 use Rattle.cvss_vector.specs.declared.published.Published.{Published}
-use Rattle.cvss_vector.specs.declared.refusal.ReadError.{ReadError}
+use Rattle.cvss_vector.specs.declared.rejection.ReadError.{ReadError}
 use Rattle.cvss_vector.specs.declared.scoring.Scoring.{Scoring}
 use Rattle.cvss_vector.specs.declared.vector.Cvss.{Cvss}
 use Rattle.cvss_vector.specs.declared.vector.Cvss.TheVariants.{CvssV30, CvssV31}

@@ -2,7 +2,7 @@
 -- section 2.4; v3.1 specification, section 6; v4.0 specification, section 7.
 use Rattle.std.specs.Prelude.{◌≡◌, ◌≢◌, ℕ, List, codes, Option, Some, None}
 use Rattle.std.specs.String.{string_bytes}
-use Rattle.cvss_base.specs.Refusal.{Refusal, BadComponent, WrongPrefix, WrongVersion, UnknownName, BadValue, Repeated, Missing, IsFirstRefusal, IsFirstRefusalAfter}
+use Rattle.cvss_base.specs.Rejection.{Rejection, BadComponent, WrongPrefix, WrongVersion, UnknownName, BadValue, Repeated, Missing, IsFirstRejection, IsFirstRejectionAfter}
 use Rattle.cvss_base.specs.Version.{Denotes, IsComplete, IsWellFormed}
 use Rattle.cvss_base.specs.declared.error.Error.{Error}
 use Rattle.cvss_base.specs.declared.error.Error.TheVariants.{InvalidMetricV2, DuplicateMetricV2, MissingMandatoryMetricV2, InvalidMetricV3, DuplicateMetricV3, InvalidMetricV4, DuplicateMetricV4, MissingMandatoryMetricV4}
@@ -43,7 +43,7 @@ DenotesCvss text (CvssV31 vector) = DenotesV3 text (codes "CVSS:3.1") 1 vector
 DenotesCvss text (CvssV40 vector) = DenotesV4 text vector
 
 -- a reason, said of one version's metrics, as it is said of those of all
-abbrev pub wrapped : {K : Type 0} → (K → MetricType) → Refusal K → Refusal MetricType
+abbrev pub wrapped : {K : Type 0} → (K → MetricType) → Rejection K → Rejection MetricType
 wrapped wrap (BadComponent piece) = BadComponent piece
 wrapped wrap (WrongPrefix prefix) = WrongPrefix prefix
 wrapped wrap (WrongVersion reported) = WrongVersion reported
@@ -52,32 +52,32 @@ wrapped wrap (BadValue kind value) = BadValue (wrap kind) value
 wrapped wrap (Repeated kind) = Repeated (wrap kind)
 wrapped wrap (Missing kind) = Missing (wrap kind)
 
--- why no version is reported, as a reason for a refusal
-abbrev pub without_version : NoVersion → Refusal MetricType
+-- why no version is reported, as a reason for a rejection
+abbrev pub without_version : NoVersion → Rejection MetricType
 without_version (OnePiece piece) = BadComponent piece
 without_version (OtherPrefix prefix) = WrongPrefix prefix
 without_version (OtherVersion reported) = WrongVersion reported
 
 -- the reason is one of a version's own
-pub record IsReasonOf {K : Type 0} (wrap : K → MetricType) (IsFirst : Refusal K → Type 0) (reason : Refusal MetricType) : Type 0 where
-  pub own : Refusal K
+pub record IsReasonOf {K : Type 0} (wrap : K → MetricType) (IsFirst : Rejection K → Type 0) (reason : Rejection MetricType) : Type 0 where
+  pub own : Rejection K
   pub first : IsFirst own
   pub is : reason ≡ wrapped wrap own
 
--- the first reason why a text that is read there is refused
-abbrev pub IsFirstReasonAt : Route → List ℕ → Refusal MetricType → Type 0
-IsFirstReasonAt ToV20 text = IsReasonOf V2 (IsFirstRefusal v2 text)
-IsFirstReasonAt ToV30 text = IsReasonOf V3 (IsFirstRefusalAfter v3 text)
-IsFirstReasonAt ToV31 text = IsReasonOf V3 (IsFirstRefusalAfter v3 text)
-IsFirstReasonAt ToV40 text = IsReasonOf V4 (IsFirstRefusalAfter v4 text)
+-- the first reason why a text that is read there is rejected
+abbrev pub IsFirstReasonAt : Route → List ℕ → Rejection MetricType → Type 0
+IsFirstReasonAt ToV20 text = IsReasonOf V2 (IsFirstRejection v2 text)
+IsFirstReasonAt ToV30 text = IsReasonOf V3 (IsFirstRejectionAfter v3 text)
+IsFirstReasonAt ToV31 text = IsReasonOf V3 (IsFirstRejectionAfter v3 text)
+IsFirstReasonAt ToV40 text = IsReasonOf V4 (IsFirstRejectionAfter v4 text)
 IsFirstReasonAt (ToNoVersion why) text = λ reason. reason ≡ without_version why
 
--- the first reason why the text is refused
-abbrev pub IsFirstRefusalCvss : List ℕ → Refusal MetricType → Type 0
-IsFirstRefusalCvss text = IsFirstReasonAt (route_of text) text
+-- the first reason why the text is rejected
+abbrev pub IsFirstRejectionCvss : List ℕ → Rejection MetricType → Type 0
+IsFirstRejectionCvss text = IsFirstReasonAt (route_of text) text
 
 -- what errors say of the metrics of any version
-abbrev pub cvss_reason : Error → Option (Refusal MetricType)
+abbrev pub cvss_reason : Error → Option (Rejection MetricType)
 cvss_reason (InvalidMetricV2 kind value) = Some (BadValue (V2 kind) (string_bytes value))
 cvss_reason (DuplicateMetricV2 kind) = Some (Repeated (V2 kind))
 cvss_reason (MissingMandatoryMetricV2 kind) = Some (Missing (V2 kind))

@@ -8,7 +8,7 @@ pub mod MetricTypes
 pub mod MetricsLeft
 pub mod Published
 pub mod Reasons
-pub mod Refusals
+pub mod Rejections
 pub mod Scores
 pub mod Segments
 pub mod Setting

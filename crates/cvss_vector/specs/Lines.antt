@@ -7,12 +7,12 @@ use Rattle.cvss_vector.specs.Complete.{IsReadErrorBy, missing_by}
 use Rattle.cvss_vector.specs.Dispatch.{DenotesCvss}
 use Rattle.cvss_vector.specs.Reasons.{error_message}
 use Rattle.cvss_vector.specs.Scores.{IsScoreAs}
-use Rattle.cvss_vector.specs.declared.refusal.ReadError.{ReadError}
+use Rattle.cvss_vector.specs.declared.rejection.ReadError.{ReadError}
 use Rattle.cvss_vector.specs.declared.scoring.Scoring.{Scoring}
 use Rattle.cvss_vector.specs.declared.scoring.Scoring.TheVariants.{Published}
 use Rattle.cvss_lines.specs.Answers.{Rule, by_one_text}
 
--- the answer is that of such a vector: its text, the score that is told, of so many tenths, and the score's severity
+-- the answer is that of such a vector: its text, the score that is reported, of so many tenths, and the score's severity
 pub record IsAnswerOf (scoring : Scoring) (IsIt : Cvss → Type 0) (answer : List ℕ) : Type 0 where
   pub vector : Cvss
   pub is_it : IsIt vector

@@ -95,7 +95,7 @@ IsOverallScore (CvssV30 v) = IsGroupScore (CvssV30 v) (overall_v3 v)
 IsOverallScore (CvssV31 v) = IsGroupScore (CvssV31 v) (overall_v3 v)
 IsOverallScore (CvssV40 v) = IsInTenths (IsScore (effective_of v))
 
--- the score of a vector that is told
+-- the score of a vector that is reported
 abbrev pub IsScoreAs : Scoring → Cvss → ℤ → Type 0
 IsScoreAs scoring.Published cvss = IsScoreOf cvss
 IsScoreAs scoring.Overall cvss = IsOverallScore cvss

@@ -1,7 +1,7 @@
 -- Metrics that are set in a vector of any version, and a vector that is built from metrics alone: CVSS v2 guide, section
 -- 2.4; v3.1 specification, section 6; v4.0 specification, section 7.
 use Rattle.std.specs.Prelude.{◌≡◌, ℕ, List, [], ◌∷◌, ◌++◌, codes, Option}
-use Rattle.cvss_base.specs.Refusal.{Refusal}
+use Rattle.cvss_base.specs.Rejection.{Rejection}
 use Rattle.cvss_base.specs.Text.{pieces}
 use Rattle.cvss_text.specs.Setting.{IsBuildReason, IsBuilt, IsSet, IsSetReason, components_in}
 use Rattle.cvss_vector.specs.Dispatch.{IsReasonOf}
@@ -29,7 +29,7 @@ IsWith (CvssV31 v) text = IsOf CvssV31 (IsSet v3 v (components_in text))
 IsWith (CvssV40 v) text = IsOf CvssV40 (IsSet v4 v (components_in text))
 
 -- why they are not set: the first with which something is wrong, by the version of the vector
-abbrev pub IsWithReason : Cvss → List ℕ → Option ℕ → Refusal MetricType → Type 0
+abbrev pub IsWithReason : Cvss → List ℕ → Option ℕ → Rejection MetricType → Type 0
 IsWithReason (CvssV20 v) text index = IsReasonOf metric.V2 (IsSetReason v2 (components_in text) index)
 IsWithReason (CvssV30 v) text index = IsReasonOf metric.V3 (IsSetReason v3 (components_in text) index)
 IsWithReason (CvssV31 v) text index = IsReasonOf metric.V3 (IsSetReason v3 (components_in text) index)
@@ -43,7 +43,7 @@ IsBuiltAs V31 text = IsOf CvssV31 (IsBuilt v3 (codes "CVSS:3.1" ∷ []) (pieces 
 IsBuiltAs V40 text = IsOf CvssV40 (IsBuilt v4 (codes "CVSS:4.0" ∷ []) (pieces text))
 
 -- why they make none: the first with which something is wrong, or else the first mandatory metric that is missing
-abbrev pub IsBuiltReason : Version → List ℕ → Option ℕ → Refusal MetricType → Type 0
+abbrev pub IsBuiltReason : Version → List ℕ → Option ℕ → Rejection MetricType → Type 0
 IsBuiltReason V20 text index = IsReasonOf metric.V2 (IsBuildReason v2 (pieces text) index)
 IsBuiltReason V30 text index = IsReasonOf metric.V3 (IsBuildReason v3 (pieces text) index)
 IsBuiltReason V31 text index = IsReasonOf metric.V3 (IsBuildReason v3 (pieces text) index)

@@ -10,7 +10,7 @@ use crate::lines::{write_canonical, write_error};
 use crate::one_version::OneVersion;
 use crate::publishing::published_by;
 use crate::reading::{read_error_of, unread};
-use crate::refusal::Refusal;
+use crate::rejection::Rejection;
 use crate::scoring::Scoring;
 use crate::{v2, v3, v4};
 use cvss_lines::{Answering, OutputBuffer};
@@ -110,12 +110,12 @@ fn answer_rest<V: OneVersion>(
         return reject(
             line,
             allow_incomplete,
-            Refusal::of_version::<V>(fault),
+            Rejection::of_version::<V>(fault),
             answers,
         );
     }
     if let Some(metric) = vector.join(minor_version).missing_by(allow_incomplete) {
-        return reject(line, allow_incomplete, Refusal::Missing(metric), answers);
+        return reject(line, allow_incomplete, Rejection::Missing(metric), answers);
     }
     let mut buffer = TextBuffer::new();
     let canonical = vector.canonical(minor_version, &mut buffer);
@@ -131,13 +131,13 @@ fn answer_rest<V: OneVersion>(
 fn reject(
     line: &[u8],
     allow_incomplete: bool,
-    refusal: Refusal<'_>,
+    rejection: Rejection<'_>,
     answers: &mut OutputBuffer,
 ) -> Result<bool, AllocError>
-    requires { IsUnpublished allow_incomplete line.now refusal }
+    requires { IsUnpublished allow_incomplete line.now rejection }
     ensures { (scoring : Scoring) → IfOk result (λ is. IsPublishedTo scoring allow_incomplete line.now
         answers.old.bytes.items is answers.new.bytes.items) }
 {
-    write_error(read_error_of(line, refusal), answers)?;
+    write_error(read_error_of(line, rejection), answers)?;
     Ok(false)
 }

@@ -11,7 +11,7 @@ use std::fmt;
 pub enum BytesError {
     /// The bytes are not UTF-8.
     NotUtf8,
-    /// The text is refused.
+    /// The text is rejected.
     Invalid(Error),
 }
 

@@ -7,7 +7,7 @@ ghost use Rattle.cvss_vector.specs.Complete.{IsReadErrorBy, first_missing, missi
 ghost use Rattle.cvss_vector.specs.Dispatch.{DenotesCvss};
 
 use crate::metric_type::MetricType;
-use crate::refusal::{ReadError, Refusal};
+use crate::rejection::{ReadError, Rejection};
 use crate::v3;
 use crate::vector::Cvss;
 use cvss_base::v3::MetricType::{A, AC, AV, C, I, PR, S, UI};
@@ -62,7 +62,7 @@ impl Cvss {
     {
         let cvss = Cvss::read(text)?;
         match cvss.missing_by(allow_incomplete) {
-            Some(metric) => Err(ReadError::Invalid(Refusal::Missing(metric))),
+            Some(metric) => Err(ReadError::Invalid(Rejection::Missing(metric))),
             None => Ok(cvss),
         }
     }

@@ -1,4 +1,4 @@
-//! All that is told of the scores of a vector.
+//! All that is reported of the scores of a vector.
 
 ghost use Rattle.std.specs.Prelude.{◌≡◌, option_map};
 ghost use Rattle.cvss_base.specs.Version.{IsComplete};
@@ -27,7 +27,7 @@ pub struct Rated {
     pub severity: Severity,
 }
 
-/// What is told of a vector that has a score.
+/// What is reported of a vector that has a score.
 #[derive(Clone, Copy)]
 pub struct Evaluation {
     pub version: Version,
@@ -53,7 +53,7 @@ struct Tenths {
 }
 
 impl Evaluation {
-    /// What is told of a vector that has a score. No score is computed twice.
+    /// What is reported of a vector that has a score. No score is computed twice.
     pub fn of(cvss: &Cvss) -> Evaluation
         requires { HasScore cvss.now }
         ensures { IsEvaluation cvss.now result }

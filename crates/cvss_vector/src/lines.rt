@@ -2,14 +2,14 @@
 
 ghost use Rattle.std.specs.Prelude.{◌≡◌, ◌≤◌, ◌++◌, OnOk};
 ghost use Rattle.cvss_lines.specs.Answers.{written_text};
-ghost use Rattle.cvss_vector.specs.Answers.{rating_by, text_of as text_of_vector, vector_answer};
-ghost use Rattle.cvss_vector.specs.Published.{rating_within, vector_line};
+ghost use Rattle.cvss_vector.specs.Answers.{severity_by, text_of as text_of_vector, vector_answer};
+ghost use Rattle.cvss_vector.specs.Published.{severity_within, vector_line};
 ghost use Rattle.cvss_vector.specs.Reasons.{error_line};
 ghost use Rattle.cvss_vector.specs.Segments.{segment_text, text_of};
 
 use crate::message::Message;
 use crate::published::Published;
-use crate::refusal::ReadError;
+use crate::rejection::ReadError;
 use crate::score_lines::score_line;
 use crate::segment::Segment;
 use crate::vector::Cvss;
@@ -48,7 +48,7 @@ pub fn write_vector(
     published: Published,
     answers: &mut OutputBuffer,
 ) -> Result<(), AllocError>
-    requires rated { rating_by vector.now ≡ rating_within published.bounds }
+    requires rated { severity_by vector.now ≡ severity_within published.bounds }
     requires to_ten { published.tenths ≤ 100 }
     ensures { OnOk result (answers.new.bytes.items ≡ answers.old.bytes.items
         ++ written_text (vector_answer vector.now published.tenths)) }

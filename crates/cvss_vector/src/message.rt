@@ -2,10 +2,10 @@
 
 ghost use Rattle.std.specs.Prelude.{◌≡◌, ◌++◌, ◌≤◌, ◌<◌, ◌+◌, ◌^◌, length};
 ghost use Rattle.cvss_vector.specs.Reasons.{error_message, reason_text};
-ghost use Rattle.cvss_vector.specs.Refusals.{refusal_of};
+ghost use Rattle.cvss_vector.specs.Rejections.{rejection_of};
 ghost use Rattle.cvss_vector.specs.Segments.{segment_text, text_of};
 
-use crate::refusal::{ReadError, Refusal};
+use crate::rejection::{ReadError, Rejection};
 use crate::segment::Segment;
 
 /// What an error says, in five segments, of which some may be empty.
@@ -22,26 +22,32 @@ impl<'a> Message<'a> {
     {
         match error {
             ReadError::NotUtf8 => said("not UTF-8", "", "", Segment::words(""), ""),
-            ReadError::Invalid(refusal) => Message::of_refusal(refusal),
+            ReadError::Invalid(rejection) => Message::of_rejection(rejection),
         }
     }
 
     /// What a reason says.
-    pub fn of_refusal(refusal: Refusal<'a>) -> Message<'a>
-        ensures text { text_of result.segments ≡ reason_text (refusal_of refusal.entry) }
+    pub fn of_rejection(rejection: Rejection<'a>) -> Message<'a>
+        ensures text { text_of result.segments ≡ reason_text (rejection_of rejection.entry) }
         ensures bound { length (text_of result.segments) < 2 ^ 63 + 300 }
     {
         let none = Segment::words("");
-        match refusal {
-            Refusal::BadComponent(text) => {
+        match rejection {
+            Rejection::BadComponent(text) => {
                 said("invalid CVSS metric group component: `", "", "", text, "`")
             }
-            Refusal::WrongPrefix(text) => said("invalid CVSS string prefix: `", "", "", text, "`"),
-            Refusal::WrongVersion(text) => said("unsupported CVSS version: ", "", "", text, ""),
-            Refusal::UnknownName(text) => said("unknown CVSS metric name: `", "", "", text, "`"),
-            Refusal::BadValue(kind, text) => said("invalid ", kind.words(), ": `", text, "`"),
-            Refusal::Repeated(kind) => said("duplicate ", kind.words(), "", none, ""),
-            Refusal::Missing(kind) => said("missing mandatory ", kind.words(), "", none, ""),
+            Rejection::WrongPrefix(text) => said(
+                "invalid CVSS string prefix: `",
+                "",
+                "",
+                text,
+                "`",
+            ),
+            Rejection::WrongVersion(text) => said("unsupported CVSS version: ", "", "", text, ""),
+            Rejection::UnknownName(text) => said("unknown CVSS metric name: `", "", "", text, "`"),
+            Rejection::BadValue(kind, text) => said("invalid ", kind.words(), ": `", text, "`"),
+            Rejection::Repeated(kind) => said("duplicate ", kind.words(), "", none, ""),
+            Rejection::Missing(kind) => said("missing mandatory ", kind.words(), "", none, ""),
         }
     }
 }

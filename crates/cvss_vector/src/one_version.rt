@@ -2,7 +2,7 @@
 //! two minor versions.
 
 ghost use Rattle.std.specs.Prelude.{◌≡◌, ◌≤◌, [], ℕ, Bool, List, None, Option, codes, ⊤};
-ghost use Rattle.cvss_base.specs.Refusal.{Refusal};
+ghost use Rattle.cvss_base.specs.Rejection.{Rejection};
 ghost use Rattle.cvss_base.specs.V2Types.{v2_reason};
 ghost use Rattle.cvss_base.specs.V3Types.{v3_reason};
 ghost use Rattle.cvss_base.specs.V4Types.{v4_reason};
@@ -44,7 +44,7 @@ pub(crate) trait OneVersion: Versioned {
 
     ghost has_minor: { ℕ → Type 0 };
 
-    ghost reason: { Error → Option (Refusal Self.Kind) };
+    ghost reason: { Error → Option (Rejection Self.Kind) };
 
     /// The metric as one of any version.
     fn of_any(kind: Self::Kind) -> MetricType

@@ -1,8 +1,8 @@
 //! What is published of a vector: a score and its severity.
 
 ghost use Rattle.std.specs.Prelude.{◌≡◌, ◌≤◌};
-ghost use Rattle.cvss_vector.specs.Answers.{HasScore, IsScoreOf, rating_by, score_of_tenths};
-ghost use Rattle.cvss_vector.specs.Published.{IsPublished, rating_within};
+ghost use Rattle.cvss_vector.specs.Answers.{HasScore, IsScoreOf, severity_by, score_of_tenths};
+ghost use Rattle.cvss_vector.specs.Published.{IsPublished, severity_within};
 
 use crate::scoring::Scoring;
 use crate::vector::Cvss;
@@ -42,7 +42,7 @@ impl Cvss {
     /// The bounds by which the vector's version rates scores.
     #[inline(always)]
     pub fn bounds(&self) -> Bounds
-        ensures { rating_by self.now ≡ rating_within result }
+        ensures { severity_by self.now ≡ severity_within result }
     {
         match self {
             Cvss::CvssV20(_) => Bounds::OfV2,

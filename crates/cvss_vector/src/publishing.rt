@@ -71,7 +71,7 @@ fn published_as<V: OneVersion>(
 // A call of its own for each version and score keeps the vectors apart, as in `reading`, and their metrics in
 // registers.
 #[inline(never)]
-fn published_whole<V: OneVersion, T: Told>(
+fn published_whole<V: OneVersion, T: ReportedScore>(
     text: &[u8],
     components: &[u8],
     minor_version: usize,
@@ -90,8 +90,8 @@ fn published_whole<V: OneVersion, T: Told>(
     })
 }
 
-/// The score that is told, as a type: so no code is left that chooses it.
-trait Told {
+/// The score that is reported, as a type: so no code is left that chooses it.
+trait ReportedScore {
     ghost scoring: { Scoring };
 
     /// The tenths of the score of a vector that has one.
@@ -101,7 +101,7 @@ trait Told {
         ensures bound { result ≤ 100 };
 }
 
-impl Told for Published {
+impl ReportedScore for Published {
     ghost scoring = { scoring.Published };
 
     #[inline(always)]
@@ -112,7 +112,7 @@ impl Told for Published {
 
 struct Overall;
 
-impl Told for Overall {
+impl ReportedScore for Overall {
     ghost scoring = { scoring.Overall };
 
     #[inline(always)]
@@ -123,7 +123,7 @@ impl Told for Overall {
 
 struct Base;
 
-impl Told for Base {
+impl ReportedScore for Base {
     ghost scoring = { scoring.Base };
 
     #[inline(always)]

@@ -5,14 +5,14 @@ ghost use Rattle.std.specs.Prelude.{◌≡◌, ◌↔◌, IsTrue, IsUtf8, Err};
 ghost use Rattle.cvss_text.specs.Route.{ToNoVersion, route_of};
 ghost use Rattle.cvss_text.specs.private.Routing as is_reported;
 ghost use Rattle.cvss_text.specs.private.Routing.{why_of};
-ghost use Rattle.cvss_vector.specs.Bytes.{IsRefusedAs};
-ghost use Rattle.cvss_vector.specs.Refusals.{IsReadErrorFor, refusal_of};
+ghost use Rattle.cvss_vector.specs.Bytes.{IsRejectedAs};
+ghost use Rattle.cvss_vector.specs.Rejections.{IsReadErrorFor, rejection_of};
 ghost use Rattle.cvss_vector.specs.private.{IsRead, IsReportable, IsRouted};
 
 use crate::bytes_error::BytesError;
 use crate::one_version::OneVersion;
-use crate::refusal::{ReadError, Refusal};
-use crate::refusing::error_of;
+use crate::rejecting::error_of;
+use crate::rejection::{ReadError, Rejection};
 use crate::vector::Cvss;
 use crate::{v2, v3, v4};
 use cvss_text::route::{NoVersion, Route, route_of_text};
@@ -20,7 +20,7 @@ use cvss_text::walk::read_text;
 use std::alloc::Global;
 
 /// The vector that a text denotes, or the first reason why there is none.
-pub(crate) fn read(text: &[u8]) -> Result<Cvss, Refusal<'_>>
+pub(crate) fn read(text: &[u8]) -> Result<Cvss, Rejection<'_>>
     ensures { IsRead text.now result }
 {
     match route_of_text(text) {
@@ -40,7 +40,7 @@ fn read_version<'a, V: OneVersion>(
     text: &'a [u8],
     components: &'a [u8],
     minor_version: usize,
-) -> Result<Cvss, Refusal<'a>>
+) -> Result<Cvss, Rejection<'a>>
     requires { IsRouted V.has_minor V.route V.front text.now components.now minor_version }
     ensures { IsRead text.now result }
 {
@@ -48,36 +48,36 @@ fn read_version<'a, V: OneVersion>(
     V::reads_by_its_rules(text, components, minor_version, vector);
     match read_text(components, &mut vector) {
         Ok(()) => Ok(vector.join(minor_version)),
-        Err(fault) => Err(Refusal::of_version::<V>(fault)),
+        Err(fault) => Err(Rejection::of_version::<V>(fault)),
     }
 }
 
 /// Why a text that says no version is rejected.
-pub(crate) fn unread<'a>(text: &'a [u8], why: NoVersion<'a>) -> Refusal<'a>
+pub(crate) fn unread<'a>(text: &'a [u8], why: NoVersion<'a>) -> Rejection<'a>
     requires route { route_of text.now ≡ ToNoVersion (why_of why) }
     requires printable { IsUtf8 text.now → is_reported.IsPrintable why }
     ensures { IsRead text.now (Err result) }
 {
-    Refusal::without_version(why)
+    Rejection::without_version(why)
 }
 
-/// The error of bytes that are refused so: that they are no text, or that of the reason.
-pub(crate) fn bytes_error_of(alloc: Global, text: &[u8], refusal: Refusal<'_>) -> BytesError
-    requires { IsUtf8 text.now → IsReportable refusal }
-    ensures { IsRefusedAs text.now (refusal_of refusal.entry) result }
+/// The error of bytes that are rejected so: that they are no text, or that of the reason.
+pub(crate) fn bytes_error_of(alloc: Global, text: &[u8], rejection: Rejection<'_>) -> BytesError
+    requires { IsUtf8 text.now → IsReportable rejection }
+    ensures { IsRejectedAs text.now (rejection_of rejection.entry) result }
 {
     match str::from_utf8(text) {
-        Ok(_) => BytesError::Invalid(error_of(alloc, refusal)),
+        Ok(_) => BytesError::Invalid(error_of(alloc, rejection)),
         Err(_) => BytesError::NotUtf8,
     }
 }
 
-/// The error of bytes that are refused so, without copying.
-pub(crate) fn read_error_of<'a>(text: &'a [u8], refusal: Refusal<'a>) -> ReadError<'a>
-    ensures { IsReadErrorFor text.now (refusal_of refusal.entry) result }
+/// The error of bytes that are rejected so, without copying.
+pub(crate) fn read_error_of<'a>(text: &'a [u8], rejection: Rejection<'a>) -> ReadError<'a>
+    ensures { IsReadErrorFor text.now (rejection_of rejection.entry) result }
 {
     if is_utf8(text) {
-        ReadError::Invalid(refusal)
+        ReadError::Invalid(rejection)
     } else {
         ReadError::NotUtf8
     }

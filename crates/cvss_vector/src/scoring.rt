@@ -1,4 +1,4 @@
-//! The scores of a vector of any version, and which of them is told.
+//! The scores of a vector of any version, and which of them is reported.
 
 ghost use Rattle.std.specs.Prelude.{◌≡◌, ◌≤◌, option_map};
 ghost use Rattle.cvss_base.specs.V2Types as types_v2;
@@ -18,7 +18,7 @@ use crate::{v2, v3};
 use cvss_metric::{v2 as metric_v2, v3 as metric_v3};
 use cvss_score::v4::Nomenclature;
 
-/// Which score of a vector is told.
+/// Which score of a vector is reported.
 #[derive(Clone, Copy, Debug, PartialEq, Eq)]
 pub enum Scoring {
     /// As the Rust crate `cvss` has it: the base score of CVSS v2 and v3, the score of v4.0.

@@ -3,18 +3,18 @@
 
 ghost use Rattle.std.specs.Prelude.{◌≡◌, ◌≤◌, ℕ, IfOk, IfErr, IfSome, IsErrAnd, Ok, Option, length};
 ghost use Rattle.cvss_base.specs.V4Types.{most_metrics};
-ghost use Rattle.cvss_base.specs.Refusal as spec;
+ghost use Rattle.cvss_base.specs.Rejection as spec;
 ghost use Rattle.cvss_base.specs.Text.{pieces};
 ghost use Rattle.cvss_text.specs.Setting.{IsBuildReason, IsBuilt, IsSet, IsSetReason, components_in};
 ghost use Rattle.cvss_vector.specs.Answers.{HasScore};
 ghost use Rattle.cvss_vector.specs.Dispatch.{DenotesCvss, IsReasonOf};
-ghost use Rattle.cvss_vector.specs.Refusals.{refusal_of};
+ghost use Rattle.cvss_vector.specs.Rejections.{rejection_of};
 ghost use Rattle.cvss_vector.specs.Setting.{IsBuiltAs, IsBuiltReason, IsOf, IsWith, IsWithReason, text_with};
 ghost use Rattle.cvss_vector.specs.declared.metric_type.MetricType.{MetricType};
 ghost use Rattle.cvss_vector.specs.private.{IsAnsweredBy};
 
 use crate::one_version::OneVersion;
-use crate::refusal::Refusal;
+use crate::rejection::Rejection;
 use crate::vector::Cvss;
 use crate::{v2, v3, v4};
 use cvss_text::setting::{build, set};
@@ -35,7 +35,7 @@ pub struct SetError<'a> {
     /// mandatory metric is missing.
     pub index: Option<usize>,
     /// What is wrong: `BadComponent`, `UnknownName`, `BadValue`, `Repeated` or `Missing`.
-    pub reason: Refusal<'a>,
+    pub reason: Rejection<'a>,
 }
 
 impl Cvss {
@@ -54,12 +54,12 @@ impl Cvss {
         ensures accepted { IfOk result (IsWith self.now metrics.now) }
         ensures accepts { (cvss : Cvss) → IsWith self.now metrics.now cvss → result ≡ Ok cvss }
         ensures scored { HasScore self.now → IfOk result (λ cvss. HasScore cvss) }
-        // Refused: for the first component with which something is wrong, and wherever there is one.
-        ensures refused { IfErr result (λ error.
-            IsWithReason self.now metrics.now error.index (refusal_of error.reason)) }
-        ensures refuses { (index : Option ℕ) (reason : spec.Refusal MetricType)
+        // Rejected: for the first component with which something is wrong, and wherever there is one.
+        ensures rejected { IfErr result (λ error.
+            IsWithReason self.now metrics.now error.index (rejection_of error.reason)) }
+        ensures rejects { (index : Option ℕ) (reason : spec.Rejection MetricType)
             → IsWithReason self.now metrics.now index reason → IsErrAnd result (λ error.
-            (error.index ≡ index) × (refusal_of error.reason ≡ reason)) }
+            (error.index ≡ index) × (rejection_of error.reason ≡ reason)) }
         ensures bound { IfErr result (λ error. IfSome error.index (λ index. index ≤ most_metrics)) }
     {
         match self {
@@ -84,13 +84,13 @@ impl Cvss {
         ensures accepts { (cvss : Cvss) → IsBuiltAs version metrics.now cvss → result ≡ Ok cvss }
         ensures scored { IfOk result (λ cvss. HasScore cvss) }
         ensures denoted { IfOk result (λ cvss. DenotesCvss (text_with version metrics.now) cvss) }
-        // Refused: for the first component with which something is wrong, or else for the first
+        // Rejected: for the first component with which something is wrong, or else for the first
         // mandatory metric that is missing, and wherever there is one.
-        ensures refused { IfErr result (λ error.
-            IsBuiltReason version metrics.now error.index (refusal_of error.reason)) }
-        ensures refuses { (index : Option ℕ) (reason : spec.Refusal MetricType)
+        ensures rejected { IfErr result (λ error.
+            IsBuiltReason version metrics.now error.index (rejection_of error.reason)) }
+        ensures rejects { (index : Option ℕ) (reason : spec.Rejection MetricType)
             → IsBuiltReason version metrics.now index reason → IsErrAnd result (λ error.
-            (error.index ≡ index) × (refusal_of error.reason ≡ reason)) }
+            (error.index ≡ index) × (rejection_of error.reason ≡ reason)) }
         ensures bound { IfErr result (λ error. IfSome error.index (λ index. index ≤ most_metrics)) }
     {
         match version {
@@ -120,7 +120,7 @@ fn with_version<'a, V: OneVersion>(
         Ok(new) => Ok(new.join(said)),
         Err((index, fault)) => Err(SetError {
             index,
-            reason: Refusal::of_version::<V>(fault),
+            reason: Rejection::of_version::<V>(fault),
         }),
     }
 }
@@ -136,7 +136,7 @@ fn build_version<V: OneVersion>(minor_version: usize, metrics: &str) -> Result<C
         Ok(new) => Ok(new.join(minor_version)),
         Err((index, fault)) => Err(SetError {
             index,
-            reason: Refusal::of_version::<V>(fault),
+            reason: Rejection::of_version::<V>(fault),
         }),
     }
 }

@@ -6,8 +6,8 @@ ghost use Rattle.cvss_vector.specs.Answers.{text_of};
 use crate::bytes_error::BytesError;
 use crate::metrics::Metrics;
 use crate::reading::{bytes_error_of, read, read_error_of};
-use crate::refusal::ReadError;
-use crate::refusing::error_of;
+use crate::rejecting::error_of;
+use crate::rejection::ReadError;
 use crate::{v2, v3, v4};
 use cvss_base::tenths::text_of as text_of_tenths;
 use cvss_base::{Error, Severity, TENTH, severity_of_score};
@@ -29,16 +29,16 @@ pub enum Cvss {
 
 impl Cvss {
     ghost use Rattle.std.specs.Str.{IsUtf8};
-    ghost use Rattle.cvss_base.specs.Refusal.{Refusal};
+    ghost use Rattle.cvss_base.specs.Rejection.{Rejection};
     ghost use Rattle.cvss_base.specs.Tenths.{IsInTenths, IsFromZeroToTen};
     ghost use Rattle.cvss_base.specs.Reported.{Reports, ReportsFirst};
-    ghost use Rattle.cvss_vector.specs.Answers.{HasScore, IsScoreOf, IsScoreText, score_of_tenths, rating_by, metrics_of};
-    ghost use Rattle.cvss_vector.specs.Bytes.{IsRefusedAs, ReportsWhyNot};
-    ghost use Rattle.cvss_vector.specs.Dispatch.{DenotesCvss, IsFirstRefusalCvss, cvss_reason};
+    ghost use Rattle.cvss_vector.specs.Answers.{HasScore, IsScoreOf, IsScoreText, score_of_tenths, severity_by, metrics_of};
+    ghost use Rattle.cvss_vector.specs.Bytes.{IsRejectedAs, ReportsWhyNot};
+    ghost use Rattle.cvss_vector.specs.Dispatch.{DenotesCvss, IsFirstRejectionCvss, cvss_reason};
     ghost use Rattle.cvss_vector.specs.MetricsLeft.{metrics_left};
-    ghost use Rattle.cvss_vector.specs.Refusals.{IsReadError, IsReadErrorFor};
+    ghost use Rattle.cvss_vector.specs.Rejections.{IsReadError, IsReadErrorFor};
     ghost use Rattle.cvss_vector.specs.declared.bytes_error.BytesError.TheVariants.{NotUtf8};
-    ghost use Rattle.cvss_vector.specs.declared.refusal.ReadError.TheVariants as read_error;
+    ghost use Rattle.cvss_vector.specs.declared.rejection.ReadError.TheVariants as read_error;
     ghost use Rattle.cvss_vector.specs.declared.metric_type.MetricType.{MetricType};
 
     /// The vector that a text denotes, by the rules of the version that it says: CVSS v3.0, v3.1
@@ -57,20 +57,20 @@ impl Cvss {
         ensures denoted { IfOk result (λ cvss. DenotesCvss text.now cvss) }
         ensures accepts { (cvss : Cvss) → DenotesCvss text.now cvss → result ≡ Ok cvss }
         ensures scored { IfOk result (λ cvss. HasScore cvss) }
-        // Refused: for the first reason, and wherever there is one. Memory is the answer only where
+        // Rejected: for the first reason, and wherever there is one. Memory is the answer only where
         // the reason carries text.
-        ensures refused { IfErr result (ReportsFirst cvss_reason (IsFirstRefusalCvss text.now)) }
-        ensures refuses { (reason : Refusal MetricType) → IsFirstRefusalCvss text.now reason
+        ensures rejected { IfErr result (ReportsFirst cvss_reason (IsFirstRejectionCvss text.now)) }
+        ensures rejects { (reason : Rejection MetricType) → IsFirstRejectionCvss text.now reason
             → IsErrAnd result (Reports cvss_reason reason) }
     {
         match read(text.as_bytes()) {
             Ok(cvss) => Ok(cvss),
-            Err(refusal) => Err(error_of(alloc, refusal)),
+            Err(rejection) => Err(error_of(alloc, rejection)),
         }
     }
 
     /// The vector that bytes denote, by the rules of the version that they say. They are read once:
-    /// whether they are UTF-8 is asked only where they are refused, since a text that is accepted is
+    /// whether they are UTF-8 is asked only where they are rejected, since a text that is accepted is
     /// ASCII.
     ///
     /// # Errors
@@ -83,16 +83,16 @@ impl Cvss {
         ensures accepts { (cvss : Cvss) → DenotesCvss text.now cvss → result ≡ Ok cvss }
         ensures scored { IfOk result (λ cvss. HasScore cvss) }
         ensures utf8 { OnOk result (IsUtf8 text.now) }
-        // Refused: as no text wherever it is none, and else for the first reason, and wherever there
+        // Rejected: as no text wherever it is none, and else for the first reason, and wherever there
         // is one. Memory is the answer only where the reason carries text.
-        ensures refused { IfErr result (ReportsWhyNot text.now) }
+        ensures rejected { IfErr result (ReportsWhyNot text.now) }
         ensures not_utf8 { ¬ (IsUtf8 text.now) → result ≡ Err NotUtf8 }
-        ensures refuses { (reason : Refusal MetricType) → IsFirstRefusalCvss text.now reason
-            → IsErrAnd result (IsRefusedAs text.now reason) }
+        ensures rejects { (reason : Rejection MetricType) → IsFirstRejectionCvss text.now reason
+            → IsErrAnd result (IsRejectedAs text.now reason) }
     {
         match read(text) {
             Ok(cvss) => Ok(cvss),
-            Err(refusal) => Err(bytes_error_of(alloc, text, refusal)),
+            Err(rejection) => Err(bytes_error_of(alloc, text, rejection)),
         }
     }
 
@@ -101,7 +101,7 @@ impl Cvss {
     ///
     /// # Errors
     ///
-    /// `NotUtf8` for bytes that are not UTF-8, and else the first reason why the text is refused.
+    /// `NotUtf8` for bytes that are not UTF-8, and else the first reason why the text is rejected.
     pub fn read(text: &[u8]) -> Result<Cvss, ReadError<'_>>
         // Accepted: what is given is what the text denotes, and each such vector is given; it has a
         // score.
@@ -109,16 +109,16 @@ impl Cvss {
         ensures accepts { (cvss : Cvss) → DenotesCvss text.now cvss → result ≡ Ok cvss }
         ensures scored { IfOk result (λ cvss. HasScore cvss) }
         ensures utf8 { OnOk result (IsUtf8 text.now) }
-        // Refused: as not UTF-8 exactly where it is not, and else for the first reason, and wherever
+        // Rejected: as not UTF-8 exactly where it is not, and else for the first reason, and wherever
         // there is one.
-        ensures refused { IfErr result (IsReadError text.now) }
+        ensures rejected { IfErr result (IsReadError text.now) }
         ensures not_utf8 { ¬ (IsUtf8 text.now) → result ≡ Err read_error.NotUtf8 }
-        ensures refuses { (reason : Refusal MetricType) → IsFirstRefusalCvss text.now reason
+        ensures rejects { (reason : Rejection MetricType) → IsFirstRejectionCvss text.now reason
             → IsErrAnd result (IsReadErrorFor text.now reason) }
     {
         match read(text) {
             Ok(cvss) => Ok(cvss),
-            Err(refusal) => Err(read_error_of(text, refusal)),
+            Err(rejection) => Err(read_error_of(text, rejection)),
         }
     }
 
@@ -178,14 +178,14 @@ impl Cvss {
     /// specification, section 6; for CVSS v2 that of the National Vulnerability Database).
     pub fn severity(&self) -> Severity
         requires scored { HasScore self.now }
-        ensures { (score : ℤ) → IsScoreOf self.now score → result ≡ rating_by self.now score }
+        ensures { (score : ℤ) → IsScoreOf self.now score → result ≡ severity_by self.now score }
     {
         self.severity_of(self.score())
     }
 
     /// The rating that the vector's version gives a score, in counts of 10^-24.
     pub fn severity_of(&self, score: i128) -> Severity
-        ensures { result ≡ rating_by self.now score }
+        ensures { result ≡ severity_by self.now score }
     {
         match self {
             Cvss::CvssV20(_) => v2::Score::new(score).severity(),

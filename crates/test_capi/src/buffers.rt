@@ -46,8 +46,8 @@ fn is_same(error: &CvssError, other: &CvssError) -> bool {
         && error.quoted_length == other.quoted_length
 }
 
-/// Prints what a call tells, or what it does wrong.
-pub(crate) fn print_told<F>(rt: &HostRuntime, form: Form, write: F) -> io::Result<()>
+/// Prints what a call reports, or what it does wrong.
+pub(crate) fn print_report<F>(rt: &HostRuntime, form: Form, write: F) -> io::Result<()>
 where
     F: Fn(&mut CvssError, &mut [u8]) -> usize,
     requires { F.IsAlwaysCallable write }
@@ -55,7 +55,7 @@ where
     let mut error = unset_error(41);
     let length = write(&mut error, &mut []);
     if length == 0 {
-        return print!(rt; "nothing is told");
+        return print!(rt; "nothing is reported");
     }
     let mut buffer = vec![in rt.alloc(); LEFT; length]?;
     let mut small = unset_error(39);
@@ -72,33 +72,33 @@ where
     print_as(rt, form, &error, &buffer)
 }
 
-fn print_as(rt: &HostRuntime, form: Form, error: &CvssError, told: &[u8]) -> io::Result<()> {
+fn print_as(rt: &HostRuntime, form: Form, error: &CvssError, reported: &[u8]) -> io::Result<()> {
     if error.size != 41 || error.reserved != 0 {
         return print!(rt; "another size, or a reserved number");
     }
     match (form, error.kind) {
-        (Form::Result | Form::Kind, 0) => print_bytes(rt, told),
+        (Form::Result | Form::Kind, 0) => print_bytes(rt, reported),
         (Form::Result, _) => print!(rt; "-"),
         (Form::Made, 0) => {
-            print_bytes(rt, told)?;
+            print_bytes(rt, reported)?;
             print!(rt; " -")
         }
         (Form::Made, _) => {
             print!(rt; "- ")?;
-            print_bytes(rt, told)
+            print_bytes(rt, reported)
         }
         (Form::Kind, kind) => {
             print!(rt; "{kind} {} ", name_of(&error.metric))?;
-            print_bytes(rt, told)
+            print_bytes(rt, reported)
         }
-        (Form::Error, _) => print_error(rt, error, told),
+        (Form::Error, _) => print_error(rt, error, reported),
         (Form::Quoted, _) if error.quoted_length == 0 => print!(rt; "-"),
-        (Form::Quoted, _) => print_quoted(rt, error, told),
+        (Form::Quoted, _) => print_quoted(rt, error, reported),
     }
 }
 
 /// Prints the kind, the index, the metric, the place of the quoted part, and this part.
-fn print_error(rt: &HostRuntime, error: &CvssError, told: &[u8]) -> io::Result<()> {
+fn print_error(rt: &HostRuntime, error: &CvssError, reported: &[u8]) -> io::Result<()> {
     print!(rt;
         "{} {} {} {} {} ",
         error.kind,
@@ -107,13 +107,13 @@ fn print_error(rt: &HostRuntime, error: &CvssError, told: &[u8]) -> io::Result<(
         error.quoted_start,
         error.quoted_length
     )?;
-    print_quoted(rt, error, told)
+    print_quoted(rt, error, reported)
 }
 
 /// Prints the part of a message that it quotes.
-fn print_quoted(rt: &HostRuntime, error: &CvssError, told: &[u8]) -> io::Result<()> {
+fn print_quoted(rt: &HostRuntime, error: &CvssError, reported: &[u8]) -> io::Result<()> {
     let length = error.quoted_length;
-    match told.get(error.quoted_start..) {
+    match reported.get(error.quoted_start..) {
         Some(rest) if length <= rest.len() => print_bytes(rt, &rest[..length]),
         _ => print!(rt; "no such place"),
     }

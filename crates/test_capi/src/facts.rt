@@ -1,6 +1,6 @@
 //! What C gets of a text: its canonical text, numbers, scores and metrics, or why it is rejected.
 
-use crate::buffers::{Form, LEFT, print_told, text_of, unset_error};
+use crate::buffers::{Form, LEFT, print_report, text_of, unset_error};
 use crate::cut;
 use crate::lists::number;
 use cvss_base::v4::MOST_METRICS;
@@ -28,16 +28,16 @@ pub(crate) fn facts(rt: &HostRuntime, text: &[u8], flags: u32) -> io::Result<()>
     print_metrics(rt, text, flags)
 }
 
-/// Prints the canonical text, by calls that leave what is told of the vector as it was.
+/// Prints the canonical text, by calls that leave what is reported of the vector as it was.
 pub(crate) fn canonical(rt: &HostRuntime, text: &[u8], flags: u32, form: Form) -> io::Result<()> {
-    print_told(rt, form, |error, buffer| {
+    print_report(rt, form, |error, buffer| {
         let mut vector = unset_vector(63);
         let length = parse(text, flags, &mut vector, error, buffer);
         if is_unset(&vector, 63) { length } else { 0 }
     })
 }
 
-/// What is told of a vector before anything is.
+/// What is reported of a vector before anything is.
 fn unset_vector(size: u32) -> CvssVector {
     CvssVector {
         size,
@@ -144,14 +144,14 @@ fn unset_values(size: u32) -> CvssValues {
 /// What the calls that tell less tell the same.
 fn check_values(rt: &HostRuntime, text: &[u8], flags: u32, vector: &CvssVector) -> io::Result<()> {
     let mut found = unset_values(273);
-    let is_told = values(text, flags, &mut found);
+    let is_reported = values(text, flags, &mut found);
     let mut small = unset_values(271);
     if values(text, flags, &mut small) || small.version != 99 || small.fields[0] != [LEFT; 8] {
         print!(rt; " values that are too short were not left as they were")?;
     }
-    let told = [found.version, found.score, found.nomenclature];
-    if !is_told
-        || told != [vector.version, vector.score, vector.nomenclature]
+    let reported = [found.version, found.score, found.nomenclature];
+    if !is_reported
+        || reported != [vector.version, vector.score, vector.nomenclature]
         || found.size != 273
     {
         print!(rt; " other values")?;

@@ -1,6 +1,6 @@
 //! Texts that are written into a buffer of the caller.
 
-use crate::buffers::{Form, print_told, print_written};
+use crate::buffers::{Form, print_report, print_written};
 use crate::cut;
 use crate::facts::canonical;
 use crate::lists::number;
@@ -16,7 +16,7 @@ pub(crate) fn print_without(
     flags: u32,
     form: Form,
 ) -> io::Result<()> {
-    print_told(
+    print_report(
         rt,
         form,
         |error, buffer| without_not_defined(text, flags, error, buffer),
@@ -29,7 +29,7 @@ pub(crate) fn print_record(
     flags: u32,
     form: Form,
 ) -> io::Result<()> {
-    print_told(rt, form, |error, buffer| record(text, flags, error, buffer))
+    print_report(rt, form, |error, buffer| record(text, flags, error, buffer))
 }
 
 pub(crate) fn print_explanation(
@@ -38,7 +38,7 @@ pub(crate) fn print_explanation(
     flags: u32,
     form: Form,
 ) -> io::Result<()> {
-    print_told(
+    print_report(
         rt,
         form,
         |error, buffer| explain(text, flags, error, buffer),
@@ -52,7 +52,7 @@ pub(crate) fn print_score_line(rt: &HostRuntime, text: &[u8], flags: u32) -> io:
 /// The vector of a text with the metrics after the first blank set, or why they are not.
 pub(crate) fn print_with(rt: &HostRuntime, asked: &[u8], flags: u32, form: Form) -> io::Result<()> {
     let (text, metrics) = cut(asked, b' ');
-    print_told(
+    print_report(
         rt,
         form,
         |error, buffer| with_metrics(text, metrics, flags, error, buffer),
@@ -63,7 +63,7 @@ pub(crate) fn print_with(rt: &HostRuntime, asked: &[u8], flags: u32, form: Form)
 pub(crate) fn print_made(rt: &HostRuntime, asked: &[u8], flags: u32, form: Form) -> io::Result<()> {
     let (version, metrics) = cut(asked, b' ');
     let version = i32::try_from(number(version)).unwrap_or(0);
-    print_told(
+    print_report(
         rt,
         form,
         |error, buffer| from_metrics(version, metrics, flags, error, buffer),

@@ -1,10 +1,10 @@
-//! What the error of a refused text holds.
+//! What the error of a rejected text holds.
 
 use cvss_base::Error;
 use cvss_vector::Cvss;
 use std::{fmt, io};
 
-/// The kind of a refusal, and the part of the text or the metric that it holds.
+/// The kind of a rejection, and the part of the text or the metric that it holds.
 pub(crate) fn fault(rt: &HostRuntime, text: &str) -> io::Result<()> {
     match Cvss::from_str(rt.alloc(), text) {
         Ok(_) => println!(rt; "none"),

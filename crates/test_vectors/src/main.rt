@@ -2,7 +2,7 @@
 //! and of an implementation on fractions.
 //!
 //! A line is a vector's text of any version, answered by the canonical text, the score and the
-//! rating or by why it is refused. Or it is a mark, a blank, and what is asked, where counts are
+//! rating or by why it is rejected. Or it is a mark, a blank, and what is asked, where counts are
 //! of 10^-24:
 //!
 //! - `v2 TEXT`, `v3 TEXT`, `v4 TEXT`: the same by the rules of that version alone.
@@ -18,7 +18,7 @@
 //! - `value 2 AV TEXT`: a metric's value, its metric and its spelling, and the count of its
 //!   weight.
 //! - `each TYPE WORD ..`: of the words that are read as a `vector` (of any version; `v2`, `v3` or
-//!   `v4`), a `kind 2`, a `value 2 AV`, a `rating`, a `nomenclature`, or as refused texts with an
+//!   `v4`), a `kind 2`, a `value 2 AV`, a `rating`, a `nomenclature`, or as rejected texts with an
 //!   `error`: the value, how many of them it equals, and how many not. The value is printed under
 //!   options of a formatter too, which are to change nothing; so is a `score`.
 //! - `score 2 COUNT`: a score as it is printed, and its rating; of `score any` the first alone.
@@ -26,7 +26,7 @@
 //!   rounded.
 //! - `temporal COUNT`: the count of the temporal score of v2 of this impact.
 //! - `tenths NUMBER`: the text of a number of tenths.
-//! - `rank +OVERRIDE .. =TEXT ..`: triage, its rows or the first refusal.
+//! - `rank +OVERRIDE .. =TEXT ..`: triage, its rows or the first rejection.
 //! - `overrides OVERRIDE ..`: the vector of v4 of these components alone.
 #![tactic(auto)]
 

@@ -20,13 +20,13 @@ pub(crate) fn each(rt: &HostRuntime, asked: &str) -> io::Result<()> {
         "v4" => show(rt, words, v4::Vector::from_str),
         "rating" => show(rt, words, Severity::from_str),
         "nomenclature" => show(rt, words, Nomenclature::from_str),
-        "error" => show(rt, words, refused),
+        "error" => show(rt, words, rejected),
         _ => println!(rt; "no such type"),
     }
 }
 
-/// The error of a refused text.
-fn refused(alloc: Global, text: &str) -> Result<Error, Error> {
+/// The error of a rejected text.
+fn rejected(alloc: Global, text: &str) -> Result<Error, Error> {
     Cvss::from_str(alloc, text).err().ok_or(Error::OutOfMemory)
 }
 
@@ -108,7 +108,7 @@ where
     }
 }
 
-/// Why something is refused.
+/// Why something is rejected.
 pub(crate) fn print_error<E>(rt: &HostRuntime, error: &E) -> io::Result<()>
 where
     E: fmt::Display,

@@ -13,7 +13,7 @@ pub(crate) fn of_any(rt: &HostRuntime, line: &[u8]) -> io::Result<()> {
     let read = Cvss::read_bytes(line);
     match Cvss::from_bytes(rt.alloc(), line) {
         Ok(vector) => print_vector(rt, &read, &vector, &vector.score_text(), vector.severity()),
-        Err(error) => print_refusal(rt, read.is_none(), &error),
+        Err(error) => print_rejection(rt, read.is_none(), &error),
     }
 }
 
@@ -25,7 +25,7 @@ pub(crate) fn of_v2(rt: &HostRuntime, text: &str) -> io::Result<()> {
             let score = vector.score();
             print_vector(rt, &read, &vector, &score, score.severity())
         }
-        Err(error) => print_refusal(rt, read.is_none(), &error),
+        Err(error) => print_rejection(rt, read.is_none(), &error),
     }
 }
 
@@ -34,7 +34,7 @@ pub(crate) fn of_v3(rt: &HostRuntime, text: &str) -> io::Result<()> {
     let read = v3::Vector::read_bytes(text.as_bytes());
     match v3::Vector::from_str(rt.alloc(), text) {
         Ok(vector) => print_vector(rt, &read, &vector, &vector.score(), vector.severity()),
-        Err(error) => print_refusal(rt, read.is_none(), &error),
+        Err(error) => print_rejection(rt, read.is_none(), &error),
     }
 }
 
@@ -46,7 +46,7 @@ pub(crate) fn of_v4(rt: &HostRuntime, text: &str) -> io::Result<()> {
             let score = vector.score();
             print_vector(rt, &read, &vector, &score, score.severity())
         }
-        Err(error) => print_refusal(rt, read.is_none(), &error),
+        Err(error) => print_rejection(rt, read.is_none(), &error),
     }
 }
 
@@ -69,9 +69,13 @@ where
     }
 }
 
-/// Why a text is refused, if `read_bytes` refuses it too.
-fn print_refusal<E: fmt::Display>(rt: &HostRuntime, is_refused: bool, error: &E) -> io::Result<()> {
-    if is_refused {
+/// Why a text is rejected, if `read_bytes` rejects it too.
+fn print_rejection<E: fmt::Display>(
+    rt: &HostRuntime,
+    is_rejected: bool,
+    error: &E,
+) -> io::Result<()> {
+    if is_rejected {
         print_error(rt, error)
     } else {
         println!(rt; "{OTHERWISE}")

@@ -2,7 +2,7 @@
 //! and compared.
 
 ghost use Rattle.std.specs.Prelude.{◌≡◌, ◌*◌, ◌^◌, pos, IfSome, IfOk, IfErr, Some, refl};
-ghost use Rattle.cvss_base.specs.Refusal.{BadValue};
+ghost use Rattle.cvss_base.specs.Rejection.{BadValue};
 ghost use Rattle.cvss_base.specs.Reported.{Reports};
 ghost use Rattle.cvss_base.specs.V2Types.{v2_reason, name_of};
 ghost use Rattle.cvss_base.specs.declared.v2.MetricType.{MetricType};
@@ -70,7 +70,7 @@ pub trait Metric: MetricEnum {
         ensures spelled { IfOk result (λ metric. spelling_of Self.KIND (Self.value metric) ≡ text.now) }
         ensures read { (metric : Self) → spelling_of Self.KIND (Self.value metric) ≡ text.now
             → result ≡ Ok metric }
-        ensures refused { IfErr result (Reports v2_reason (BadValue TYPE text.now)) }
+        ensures rejected { IfErr result (Reports v2_reason (BadValue TYPE text.now)) }
     {
         match Self::read(text) {
             Some(metric) => Ok(metric),

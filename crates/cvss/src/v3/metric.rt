@@ -2,7 +2,7 @@
 //! and how they are named, read and compared.
 
 ghost use Rattle.std.specs.Prelude.{◌≡◌, ◌*◌, ◌^◌, ◌↔◌, pos, IsTrue, IsSome, IfSome, IfOk, IfErr, Some, unwrap_or, refl};
-ghost use Rattle.cvss_base.specs.Refusal.{BadValue};
+ghost use Rattle.cvss_base.specs.Rejection.{BadValue};
 ghost use Rattle.cvss_base.specs.Reported.{Reports};
 ghost use Rattle.cvss_base.specs.V3Types.{v3_reason, name_of};
 ghost use Rattle.cvss_base.specs.Exact.{IsWithinLimit};
@@ -36,7 +36,7 @@ pub trait Metric: MetricEnum {
 
     ghost TYPE: { MetricType };
 
-    /// The metric that a refused value is reported under: of a modified metric its base metric.
+    /// The metric that a rejected value is reported under: of a modified metric its base metric.
     const FAULT_TYPE: MetricType;
 
     ghost FAULT_TYPE: { MetricType };
@@ -94,7 +94,7 @@ pub trait Metric: MetricEnum {
         ensures spelled { IfOk result (λ metric. spelling_of Self.KIND (Self.value metric) ≡ text.now) }
         ensures read { (metric : Self) → spelling_of Self.KIND (Self.value metric) ≡ text.now
             → result ≡ Ok metric }
-        ensures refused { IfErr result (Reports v3_reason (BadValue FAULT_TYPE text.now)) }
+        ensures rejected { IfErr result (Reports v3_reason (BadValue FAULT_TYPE text.now)) }
     {
         match Self::read(text) {
             Some(metric) => Ok(metric),

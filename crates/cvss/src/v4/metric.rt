@@ -2,7 +2,7 @@
 //! they are named, read and compared.
 
 ghost use Rattle.std.specs.Prelude.{◌≡◌, ◌↔◌, IsTrue, IfSome, IfOk, IfErr, Some, refl};
-ghost use Rattle.cvss_base.specs.Refusal.{BadValue};
+ghost use Rattle.cvss_base.specs.Rejection.{BadValue};
 ghost use Rattle.cvss_base.specs.Text.{uppercased};
 ghost use Rattle.cvss_base.specs.Reported.{Reports};
 ghost use Rattle.cvss_base.specs.V4Types.{v4_reason, name_of};
@@ -91,7 +91,7 @@ pub trait Metric: MetricEnum {
             (λ metric. IsReading (spelling_at Self.KIND (Self.rank metric)) text.now) }
         ensures read { (metric : Self) → IsReading (spelling_at Self.KIND (Self.rank metric)) text.now
             → result ≡ Ok metric }
-        ensures refused { IfErr result (Reports v4_reason (BadValue TYPE text.now)) }
+        ensures rejected { IfErr result (Reports v4_reason (BadValue TYPE text.now)) }
     {
         match Self::read(text) {
             Some(metric) => Ok(metric),

@@ -63,5 +63,5 @@ StopsAnswering input text = Stops (λ _. Begins input) 1 text
 
 -- the counts of one answer
 abbrev pub summary_of_one : Bool → Summary
-summary_of_one true = record { accepted = 1; refused = 0 }
-summary_of_one false = record { accepted = 0; refused = 1 }
+summary_of_one true = record { accepted = 1; rejected = 0 }
+summary_of_one false = record { accepted = 0; rejected = 1 }

@@ -3,7 +3,7 @@ use Rattle.std.specs.Prelude.{ℕ, ◌+◌, List, length, Option, Some, option_m
 use Rattle.std.specs.Borrow.{Bor}
 use Rattle.std.specs.Fmt.{decimal}
 use Rattle.std.specs.List.{filter_map}
-use Rattle.cvss_vector.specs.Answers.{rating_by, score_of_tenths, text_of}
+use Rattle.cvss_vector.specs.Answers.{severity_by, score_of_tenths, text_of}
 use Rattle.cvss_vector.specs.declared.vector.Cvss.{Cvss}
 use Rattle.cvss_base.specs.SeverityText.{text_of as severity_text}
 use Rattle.cvss_explain.specs.LettersV4.{effective_members}
@@ -27,7 +27,7 @@ abbrev pub value_text : Cvss → Value → Option (List ℕ)
 value_text cvss (Scalar scalar) = Some (scalar_text scalar)
 value_text cvss (Class class) = Some (string_text (class_text class))
 value_text cvss (Line line) = option_map decimal line
-value_text cvss (Severity tenths) = Some (string_text (severity_text (rating_by cvss (score_of_tenths tenths))))
+value_text cvss (Severity tenths) = Some (string_text (severity_text (severity_by cvss (score_of_tenths tenths))))
 value_text cvss Text = Some (string_text (text_of cvss))
 value_text cvss Version = Some (string_text (version_text (version_of cvss)))
 value_text cvss (BaseV2 numbers) = Some (object_text (v2.base_members numbers))

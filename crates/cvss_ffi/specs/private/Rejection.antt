@@ -1,20 +1,20 @@
--- Why there is no vector, as it is told.
+-- Why there is no vector, as it is reported.
 use Rattle.std.specs.Prelude.{List, ℕ, None, Result, Ok, Err}
 use Rattle.cvss_vector.specs.Answers.{text_of}
 use Rattle.cvss_vector.specs.Reasons.{said_of}
-use Rattle.cvss_vector.specs.Refusals.{refusal_of}
+use Rattle.cvss_vector.specs.Rejections.{rejection_of}
 use Rattle.cvss_vector.specs.declared.vector.Cvss.{Cvss}
-use Rattle.cvss_ffi.specs.Errors.{Told, no_version, not_utf8, told_of}
-use Rattle.cvss_ffi.specs.declared.rejection.Rejection.{Rejection}
-use Rattle.cvss_ffi.specs.declared.rejection.Rejection.TheVariants.{Text, NoVersion, Metrics}
+use Rattle.cvss_ffi.specs.Errors.{Report, no_version, not_utf8, report_of}
+use Rattle.cvss_ffi.specs.declared.rejection.NoVector.{NoVector}
+use Rattle.cvss_ffi.specs.declared.rejection.NoVector.TheVariants.{Text, NoVersion, Metrics}
 
--- what is told of a rejection
-abbrev pub told : Rejection → Told
-told (Text error) = said_of (told_of None) not_utf8 error
-told NoVersion = no_version
-told (Metrics index reason) = told_of index (refusal_of reason)
+-- what is reported of a rejection
+abbrev pub reported : NoVector → Report
+reported (Text error) = said_of (report_of None) not_utf8 error
+reported NoVersion = no_version
+reported (Metrics index reason) = report_of index (rejection_of reason)
 
 -- the canonical text of the new vector, or why there is none
-abbrev pub answered : Result Cvss Rejection → Result (List ℕ) Told
+abbrev pub answered : Result Cvss NoVector → Result (List ℕ) Report
 answered (Ok new) = Ok (text_of new)
-answered (Err rejection) = Err (told rejection)
+answered (Err rejection) = Err (reported rejection)

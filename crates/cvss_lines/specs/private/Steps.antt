@@ -1,7 +1,7 @@
 -- The state of a run between two steps, and what its private code does in each.
 use Rattle.std.specs.Prelude.{◌≡◌, ℕ, ◌+◌, ◌-◌, ◌^◌, min, if◌then◌else◌, ◌≤◌, ◌≢◌, ◌⊎◌, All, List, length, ◌++◌, take, Option}
 use Rattle.std.specs.Io.KnownBytes.{Appends}
-use Rattle.cvss_lines.specs.Answers.{Answer, IsAnswers, Rule, is_accepted, is_refused, number_after, written_answers}
+use Rattle.cvss_lines.specs.Answers.{Answer, IsAnswers, Rule, is_accepted, is_rejected, number_after, written_answers}
 use Rattle.cvss_lines.specs.Lines.{ended_lines, lines as all_lines, unended_piece}
 use Rattle.cvss_lines.specs.Runs.{summary_of}
 use Rattle.cvss_lines.specs.Streaming.{AreBegun, Beginning}
@@ -18,7 +18,7 @@ NoLineEnd bytes = All (λ byte. byte ≢ 10) bytes
 -- one more answer is counted, by a `u64` that stops at its maximum
 pub record Counts (old : Summary) (answer : Answer) (new : Summary) : Type 0 where
   pub accepted : new.accepted ≡ (if is_accepted answer then min (old.accepted + 1) (2 ^ 64 - 1) else old.accepted)
-  pub refused : new.refused ≡ (if is_refused answer then min (old.refused + 1) (2 ^ 64 - 1) else old.refused)
+  pub rejected : new.rejected ≡ (if is_rejected answer then min (old.rejected + 1) (2 ^ 64 - 1) else old.rejected)
 
 -- the bytes are the whole answers to the first of the lines
 pub record AreFirst (rule : Rule) (lines : List (List ℕ)) (bytes : List ℕ) : Type 0 where

@@ -211,7 +211,7 @@ modified_value kind value own metric =
     let mapped = replacing_value kind (modified_map value metric) in
     option_map_or (λ any. own_or kind any.kind any.value mapped) (own metric) mapped
 
--- the metric that a refused value is reported under: that of the base where it is a modified one
+-- the metric that a rejected value is reported under: that of the base where it is a modified one
 abbrev pub reported_kind : MetricType → MetricType
 reported_kind MAV = AV
 reported_kind MAC = AC

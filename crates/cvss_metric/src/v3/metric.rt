@@ -96,7 +96,7 @@ fn read_in_any_case<M: MetricValue>(letter: u8) -> Option<M>
     M::read_letter(letter & 0xDF)
 }
 
-/// The metric that a refused value is reported under: of a modified metric its base metric.
+/// The metric that a rejected value is reported under: of a modified metric its base metric.
 pub const fn reported_kind(kind: MetricType) -> MetricType
     ensures { result ≡ reported_kind kind }
 {

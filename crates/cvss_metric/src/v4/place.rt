@@ -1,5 +1,5 @@
 //! The values of the metrics of CVSS v4.0, each by its place among those of its metric. Metrics with as
-//! many values have one type for the places, and a number tells them apart.
+//! many values have one type for the places, and a number reports them apart.
 
 ghost use Rattle.std.specs.Prelude.{◌≡◌};
 ghost use Rattle.cvss_metric.specs.v4.Places.{two_rank, three_rank, four_rank, five_rank};

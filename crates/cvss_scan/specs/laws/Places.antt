@@ -1,14 +1,14 @@
--- Where the mentions of a text are.
+-- Where the candidates of a text are.
 use Rattle.std.specs.Prelude.{◌≡◌, ℕ, ◌+◌, ◌≤◌, List, [], ◌∷◌, length, take, drop, ⊤}
-use Rattle.cvss_scan.specs.Mentions.{Placed}
+use Rattle.cvss_scan.specs.Matches.{Placed}
 
--- the mention's bytes are in the text, at its place
-pub record StandsIn (text : List ℕ) (mention : Placed) : Type 0 where
-  pub within : mention.place + length mention.text ≤ length text
-  pub is : take (length mention.text) (drop mention.place text) ≡ mention.text
+-- the candidate's bytes are in the text, at its place
+pub record StandsIn (text : List ℕ) (candidate : Placed) : Type 0 where
+  pub within : candidate.place + length candidate.text ≤ length text
+  pub is : take (length candidate.text) (drop candidate.place text) ≡ candidate.text
 
--- each mention ends before the next begins
+-- each candidate ends before the next begins
 abbrev pub AreInOrder : List Placed → Type 0
 AreInOrder [] = ⊤
-AreInOrder (mention ∷ []) = ⊤
-AreInOrder (mention ∷ next ∷ more) = (mention.place + length mention.text ≤ next.place) × AreInOrder (next ∷ more)
+AreInOrder (candidate ∷ []) = ⊤
+AreInOrder (candidate ∷ next ∷ more) = (candidate.place + length candidate.text ≤ next.place) × AreInOrder (next ∷ more)

@@ -1,8 +1,8 @@
--- Texts that are mentions as a whole, wherever they are.
+-- Texts that are candidates as a whole, wherever they are.
 use Rattle.std.specs.Prelude.{◌≡◌, ◌≢◌, ℕ, ◌||◌, Bool, true, false, List, [], ◌∷◌, ◌++◌, codes, length, not, Contains}
 use Rattle.std.specs.List.{list_all, suffix_len}
 use Rattle.cvss_base.specs.Text.{has, slash}
-use Rattle.cvss_scan.specs.Mentions.{label_of, mentions_of}
+use Rattle.cvss_scan.specs.Matches.{label_of, candidates_of}
 use Rattle.cvss_scan.specs.Parts.{begins_like, is_run_byte, is_vector_byte, without_dividers}
 
 -- the letters `CVSS`, each in either case, are in the text, after its first byte
@@ -29,7 +29,7 @@ is_other (byte ∷ rest) = not (is_vector_byte byte)
 abbrev pub EndsOutside : List ℕ → Type 0
 EndsOutside text = suffix_len is_run_byte text ≡ 0
 
--- after a byte of no run and before one with which no vector is written, or the ends, the text is a mention by itself
-abbrev pub IsMentionedBetween : List ℕ → List ℕ → List ℕ → Type 0
-IsMentionedBetween before text after = EndsOutside before → is_other after ≡ true
-    → Contains (mentions_of (before ++ (text ++ after))) (record { place = length before; text = text })
+-- after a byte of no run and before one with which no vector is written, or the ends, the text is a candidate by itself
+abbrev pub IsMatchedBetween : List ℕ → List ℕ → List ℕ → Type 0
+IsMatchedBetween before text after = EndsOutside before → is_other after ≡ true
+    → Contains (candidates_of (before ++ (text ++ after))) (record { place = length before; text = text })

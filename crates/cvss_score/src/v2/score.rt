@@ -4,7 +4,7 @@ ghost use Rattle.std.specs.Prelude.{◌≡◌, ◌≤ℤ◌, ◌*ℤ◌, ◌^◌
 ghost use Rattle.cvss_base.specs.Exact.{of_count, IsWithinLimit};
 ghost use Rattle.cvss_base.specs.Rounding.{IsRoundedV2};
 ghost use Rattle.cvss_base.specs.Tenths.{score_text, IsInTenths};
-ghost use Rattle.cvss_score.specs.v2.Rating.{rating_of};
+ghost use Rattle.cvss_score.specs.v2.SeverityScale.{severity_of};
 
 use crate::v2::equations;
 use cvss_base::{ONE, OneDecimal, Severity, TENTH};
@@ -44,7 +44,7 @@ impl Score {
 
     /// The rating: low below 4.0, medium below 7.0, and high from there.
     pub fn severity(self) -> Severity
-        ensures { result ≡ rating_of self }
+        ensures { result ≡ severity_of self }
     {
         if self.0 < 4 * ONE {
             Severity::Low
@@ -99,7 +99,7 @@ impl From<Score> for i128 {
 }
 
 impl From<Score> for Severity {
-    ghost from_gives = { λ score severity. severity ≡ rating_of score };
+    ghost from_gives = { λ score severity. severity ≡ severity_of score };
 
     fn from(score: Score) -> Self {
         score.severity()

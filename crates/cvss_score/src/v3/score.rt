@@ -2,7 +2,7 @@
 
 ghost use Rattle.std.specs.Prelude.{◌≡◌, ◌≤◌, ◌*ℤ◌, ◌^◌, ℤ, pos, Some};
 ghost use Rattle.cvss_base.specs.Exact.{of_count, IsWithinLimit};
-ghost use Rattle.cvss_base.specs.Rating.{rating_of_score};
+ghost use Rattle.cvss_base.specs.SeverityScale.{severity_of_score};
 ghost use Rattle.cvss_base.specs.Tenths.{score_text, IsInTenths, IsFromZeroToTen};
 ghost use Rattle.cvss_score.specs.v3.Scores.{IsRounded};
 
@@ -56,7 +56,7 @@ impl Score {
     /// The rating: none below 0.1, low below 4.0, medium below 7.0, high below 9.0, and critical
     /// from there (v3.1 specification, section 5).
     pub fn severity(self) -> Severity
-        ensures { result ≡ rating_of_score self }
+        ensures { result ≡ severity_of_score self }
     {
         severity_of_score(self.0)
     }
@@ -104,7 +104,7 @@ impl From<Score> for i128 {
 }
 
 impl From<Score> for Severity {
-    ghost from_gives = { λ score severity. severity ≡ rating_of_score score };
+    ghost from_gives = { λ score severity. severity ≡ severity_of_score score };
 
     fn from(score: Score) -> Self {
         score.severity()

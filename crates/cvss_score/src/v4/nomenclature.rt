@@ -40,7 +40,7 @@ impl Nomenclature {
         ensures named { IfOk result (λ nomenclature. text_of nomenclature ≡ text.now) }
         ensures read { (nomenclature : Nomenclature) → text_of nomenclature ≡ text.now
             → result ≡ Ok nomenclature }
-        ensures refused { IfErr result (ReportsNoNomenclature text.now) }
+        ensures rejected { IfErr result (ReportsNoNomenclature text.now) }
     {
         match text {
             "CVSS-B" => Ok(Nomenclature::CvssB),

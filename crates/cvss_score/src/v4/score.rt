@@ -1,7 +1,7 @@
 //! A score of CVSS v4.0 with its nomenclature.
 
 ghost use Rattle.std.specs.Prelude.{◌≡◌, ◌≤◌, ◌*ℤ◌, ◌≤ℤ◌, ◌^◌, ℤ, pos, IsTrue, Some};
-ghost use Rattle.cvss_base.specs.Rating.{rating_of_score};
+ghost use Rattle.cvss_base.specs.SeverityScale.{severity_of_score};
 ghost use Rattle.cvss_base.specs.Exact.{◌over◌, ◌⊕◌};
 ghost use Rattle.cvss_base.specs.Rounding.{IsRoundedV4};
 ghost use Rattle.cvss_base.specs.Tenths.{IsInTenths, IsFromZeroToTen};
@@ -66,7 +66,7 @@ impl Score {
 
     /// The rating (v4.0 specification, section 6).
     pub fn severity(self) -> Severity
-        ensures { result ≡ rating_of_score self.0 }
+        ensures { result ≡ severity_of_score self.0 }
     {
         severity_of_score(self.value)
     }
@@ -111,7 +111,7 @@ impl From<Score> for i128 {
 }
 
 impl From<Score> for Severity {
-    ghost from_gives = { λ score severity. severity ≡ rating_of_score score.0 };
+    ghost from_gives = { λ score severity. severity ≡ severity_of_score score.0 };
 
     fn from(score: Score) -> Self {
         score.severity()

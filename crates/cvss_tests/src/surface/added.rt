@@ -10,7 +10,7 @@ use super::{Reported, Value};
 use cvss::v4::{Nomenclature, OverrideError};
 use cvss::{
     Bounds, BytesError, Cvss, Error, Evaluation, Group, Message, MetricGroup, MetricType,
-    OneDecimal, Published, Rated, ReadError, Refusal, Scoring, Segment, SetError, Severity,
+    OneDecimal, Published, Rated, ReadError, Rejection, Scoring, Segment, SetError, Severity,
     Version, tenths, v2, v3, v4,
 };
 use std::alloc::Global;
@@ -50,7 +50,7 @@ impl Copied for Rated {}
 
 impl Copied for ReadError<'_> {}
 
-impl Copied for Refusal<'_> {}
+impl Copied for Rejection<'_> {}
 
 impl Copied for SetError<'_> {}
 
@@ -235,8 +235,8 @@ fn all_of_v4() -> &'static [v4::MetricType] {
     v4::MetricType::all()
 }
 
-fn message<'a>(error: ReadError<'a>, refusal: Refusal<'a>) -> [Message<'a>; 2] {
-    [Message::of(error), Message::of_refusal(refusal)]
+fn message<'a>(error: ReadError<'a>, rejection: Rejection<'a>) -> [Message<'a>; 2] {
+    [Message::of(error), Message::of_rejection(rejection)]
 }
 
 fn segments(message: Message<'_>) -> [Segment<'_>; 5] {
@@ -247,7 +247,7 @@ fn segment(segment: Segment<'_>) -> (&[u8], bool) {
     (segment.bytes, segment.upper)
 }
 
-fn set_error(error: SetError<'_>) -> (Option<usize>, Refusal<'_>) {
+fn set_error(error: SetError<'_>) -> (Option<usize>, Rejection<'_>) {
     (error.index, error.reason)
 }
 
@@ -261,17 +261,17 @@ fn variants(version: Version, bounds: Bounds, group: MetricGroup) {
     | MetricGroup::Supplemental) = group;
 }
 
-fn refusals<'a>(error: ReadError<'a>) -> Option<(Option<MetricType>, Option<Segment<'a>>)> {
-    let ReadError::Invalid(refusal) = error else {
+fn rejections<'a>(error: ReadError<'a>) -> Option<(Option<MetricType>, Option<Segment<'a>>)> {
+    let ReadError::Invalid(rejection) = error else {
         return None;
     };
-    match refusal {
-        Refusal::BadComponent(part)
-        | Refusal::WrongPrefix(part)
-        | Refusal::WrongVersion(part)
-        | Refusal::UnknownName(part) => Some((None, Some(part))),
-        Refusal::BadValue(metric, part) => Some((Some(metric), Some(part))),
-        Refusal::Repeated(metric) | Refusal::Missing(metric) => Some((Some(metric), None)),
+    match rejection {
+        Rejection::BadComponent(part)
+        | Rejection::WrongPrefix(part)
+        | Rejection::WrongVersion(part)
+        | Rejection::UnknownName(part) => Some((None, Some(part))),
+        Rejection::BadValue(metric, part) => Some((Some(metric), Some(part))),
+        Rejection::Repeated(metric) | Rejection::Missing(metric) => Some((Some(metric), None)),
     }
 }
 
@@ -285,6 +285,6 @@ fn errors_of_bytes(error: &BytesError) -> Option<&Error> {
 fn errors_of_overrides(error: &OverrideError) -> (usize, Option<&Error>) {
     match error {
         OverrideError::NotEnvironmental { index } => (*index, None),
-        OverrideError::Refused { index, error } => (*index, Some(error)),
+        OverrideError::Rejected { index, error } => (*index, Some(error)),
     }
 }

@@ -22,7 +22,7 @@ impl Compared for Row {}
 
 const _: Summary = Summary {
     accepted: 0u64,
-    refused: 0u64,
+    rejected: 0u64,
 };
 
 fn answered<R: Read, W: Write>(
@@ -49,7 +49,7 @@ fn rows(row: &Row) -> (&String, &String, i128) {
     (&row.text, &row.scored, row.score)
 }
 
-fn refusals(error: &TriageError) -> Option<(usize, Option<&Error>)> {
+fn rejections(error: &TriageError) -> Option<(usize, Option<&Error>)> {
     match error {
         TriageError::Override { index, error } | TriageError::Text { index, error } => {
             Some((*index, Some(error)))

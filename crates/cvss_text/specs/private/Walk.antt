@@ -1,5 +1,5 @@
 -- What the private walk over the components does at each step. What callers rely on is in
--- Version and Refusal.
+-- Version and Rejection.
 use Rattle.std.specs.Prelude.{◌≡◌, ◌≢◌, ℕ, ◌⊎◌, List, [], ◌∷◌, ◌++◌, length, map, drop, Option, Some, None, IsSome, Result, Ok, IfOk, OnOk, IfErr, OnErr, IsErrAnd, Contains, slice_get, find, is_none, ⊤, if◌then◌else◌, bytes_eq}
 use Rattle.std.specs.List.{All, range_with_len, sum_by}
 use Rattle.std.specs.Borrow.{Bor}
@@ -13,7 +13,7 @@ use Rattle.cvss_base.specs.laws.Order.{place_in}
 use Rattle.cvss_base.specs.private.Component.{delimiter_bytes}
 use Rattle.cvss_base.specs.Text.{slash, pieces, IsComponent, name_part, value_part, component}
 use Rattle.cvss_base.specs.Version.{Version, held, read, reading, version_piece, AreComponentsOf, Denotes, IsComplete, IsWellFormed}
-use Rattle.cvss_base.specs.Refusal.{Refusal, BadComponent, WrongPrefix, WrongVersion, UnknownName, BadValue, Repeated, Missing, Spells, FaultAt, IsFirstReason, BadPiecesFirst, IsReasonAfter, IsWrongPrefix, IsWrongVersion}
+use Rattle.cvss_base.specs.Rejection.{Rejection, BadComponent, WrongPrefix, WrongVersion, UnknownName, BadValue, Repeated, Missing, Spells, FaultAt, IsFirstReason, BadPiecesFirst, IsReasonAfter, IsWrongPrefix, IsWrongVersion}
 
 -- the place of a metric in the printing order, which its name says
 abbrev pub place_of : {V K : Type 0} → Version V K → K → ℕ
@@ -89,7 +89,7 @@ pub record IsCutFirst {V K : Type 0} (version : Version V K) (text : List ℕ) (
   pub is : IsCut version piece kind value
 
 -- why a piece starts no vector
-abbrev pub IsFrontFault : {V K : Type 0} → Version V K → List ℕ → Refusal K → Type 0
+abbrev pub IsFrontFault : {V K : Type 0} → Version V K → List ℕ → Rejection K → Type 0
 IsFrontFault version piece (WrongPrefix prefix) = IsWrongPrefix piece prefix
 IsFrontFault version piece (WrongVersion reported) = IsWrongVersion version piece reported
 IsFrontFault version piece _ = ⊥
@@ -116,8 +116,8 @@ pub record FrontLaws {V K : Type 0} (version : Version V K) : Type 0 where
   pub fronts : (v : V) → HasVersionPiece version v
   pub plain : sum_by delimiter_bytes version.supported ≡ 0
 
--- the first reason why the pieces are refused
-abbrev pub IsFirstOfPieces : {V K : Type 0} → Version V K → List (List ℕ) → Refusal K → Type 0
+-- the first reason why the pieces are rejected
+abbrev pub IsFirstOfPieces : {V K : Type 0} → Version V K → List (List ℕ) → Rejection K → Type 0
 IsFirstOfPieces version parts = BadPiecesFirst (IsFirstReason version parts) parts
 
 -- the first mandatory metric that the vector lacks
@@ -156,7 +156,7 @@ pub record IsWhole {V K : Type 0} (version : Version V K) (front : List (List �
   pub present : first_missing version v ≡ None
 
 -- the reason that a fault stands for, with its text as it is read
-abbrev pub reason_of : {V K : Type 0} → Version V K → Fault K → Refusal K
+abbrev pub reason_of : {V K : Type 0} → Version V K → Fault K → Rejection K
 reason_of version (InvalidComponent piece) = BadComponent piece.now
 reason_of version (InvalidPrefix prefix) = WrongPrefix prefix.now
 reason_of version (UnsupportedVersion reported) = WrongVersion reported.now
@@ -176,7 +176,7 @@ IsPrintable version (DuplicateMetric kind) = ⊤
 IsPrintable version (MissingMandatoryMetric kind) = Contains version.mandatory kind
 
 -- the fault of a component, where the vector holds those before it: but for a metric that it has, as if this were the first
-abbrev pub IsFaultOf : {V K : Type 0} → Version V K → V → List ℕ → Refusal K → Type 0
+abbrev pub IsFaultOf : {V K : Type 0} → Version V K → V → List ℕ → Rejection K → Type 0
 IsFaultOf version v piece (Repeated kind) =
     (version.name kind ≡ read version (name_part piece))
     × Spells (reading version kind) (read version (value_part piece))
@@ -186,29 +186,29 @@ IsFaultOf version v piece reason = FaultAt version (piece ∷ []) 0 reason
 -- what cutting a piece answers: its metric and value, or that it is no component, or of no metric
 pub record IsCutAnswer {V K : Type 0} (version : Version V K) (piece : List ℕ) (answer : Result (K × Bor (List ℕ)) (Fault K)) : Type 0 where
   pub cut : IfOk answer (λ cut. IsCut version piece cut.0 cut.1.now)
-  pub refused : IfErr answer (λ fault. (v : V) → IsComponent piece → IsFaultOf version v piece (reason_of version fault))
+  pub rejected : IfErr answer (λ fault. (v : V) → IsComponent piece → IsFaultOf version v piece (reason_of version fault))
   pub unnamed : OnErr answer (IsComponent piece → (kind : K) → version.name kind ≢ read version (name_part piece))
   pub printable : IsUtf8 piece → IfErr answer (IsPrintable version)
 
 -- what reading these pieces into a vector without values answers: all of them are read, and it is complete, or the first
--- reason why they are refused
+-- reason why they are rejected
 pub record IsReadLeft {V K : Type 0} (version : Version V K) (left : List (List ℕ)) (empty : V) (answer : Result (Unit {0}) (Fault K)) (v : V) : Type 0 where
   pub components : OnOk answer (AreComponentsOf version left v)
   pub front : OnOk answer (version.front v ≡ version.front empty)
   pub complete : OnOk answer (IsComplete version v)
-  pub refused : IfErr answer (λ fault. IsFirstOfPieces version left (reason_of version fault))
+  pub rejected : IfErr answer (λ fault. IsFirstOfPieces version left (reason_of version fault))
   pub printable : All IsUtf8 left → IfErr answer (IsPrintable version)
 
--- what a reader of the whole text promises, where vectors are formed so and such are the reasons to refuse it
-pub record IsAnswer {V K : Type 0} (version : Version V K) (IsFormed : V → Type 0) (IsReason : Refusal K → Type 0) (text : List ℕ) (answer : Result V (Fault K)) : Type 0 where
+-- what a reader of the whole text promises, where vectors are formed so and such are the reasons to reject it
+pub record IsAnswer {V K : Type 0} (version : Version V K) (IsFormed : V → Type 0) (IsReason : Rejection K → Type 0) (text : List ℕ) (answer : Result V (Fault K)) : Type 0 where
   -- accepted: what is given is what the text denotes, and each such vector is given
   pub denoted : IfOk answer (λ v. Denotes version text v)
   pub well_formed : IfOk answer IsFormed
   pub accepts : (v : V) → Denotes version text v → IsFormed v → answer ≡ Ok v
   pub utf8 : OnOk answer (IsUtf8 text)
-  -- refused: for the first reason, and wherever there is one, which can be reported
-  pub refused : IfErr answer (λ fault. BadPiecesFirst IsReason (pieces text) (reason_of version fault))
-  pub refuses : (reason : Refusal K) → BadPiecesFirst IsReason (pieces text) reason → IsErrAnd answer (λ fault. reason_of version fault ≡ reason)
+  -- rejected: for the first reason, and wherever there is one, which can be reported
+  pub rejected : IfErr answer (λ fault. BadPiecesFirst IsReason (pieces text) (reason_of version fault))
+  pub rejects : (reason : Rejection K) → BadPiecesFirst IsReason (pieces text) reason → IsErrAnd answer (λ fault. reason_of version fault ≡ reason)
   pub printable : IsUtf8 text → IfErr answer (IsPrintable version)
 
 -- a complete vector without a version piece

@@ -2,7 +2,7 @@
 use Rattle.std.proofs.Common.{◌≡◌, true, inl, inr, ℕ, ◌+◌, ◌-◌, ◌<◌, ◌≤◌, List, [], ◌∷◌, ◌++◌, codes, length, take, IsSome, refl, sym, ap, ◌∙◌, subst, arith, length-append}
 use Rattle.std.proofs.lemmas.List.{get_or-take, length-take-le}
 use Rattle.std.proofs.lemmas.List.Elements.{filter_passes, All-contains}
-use Rattle.cvss_base.specs.Refusal.{BadComponent, piece_at}
+use Rattle.cvss_base.specs.Rejection.{BadComponent, piece_at}
 use Rattle.cvss_base.specs.Text.{IsComponent, name_part}
 use Rattle.cvss_base.specs.Groups.{same_group}
 use Rattle.cvss_base.specs.V4Types.{name_of, group_of, declared}
@@ -15,7 +15,7 @@ use Rattle.cvss_text.specs.private.Walk.{HasNoValue, HasReadTo}
 use Rattle.cvss_text.proofs.ComponentLemmas.{all_taken, name_from, piece_held, piece_is_component}
 use Rattle.cvss_text.proofs.DenotesLemmas.{no_fault_before, vectors_same}
 use Rattle.cvss_text.proofs.LawLemmas.{names_differ}
-use Rattle.cvss_text.proofs.RefusalLemmas.{same_place}
+use Rattle.cvss_text.proofs.RejectionLemmas.{same_place}
 use Rattle.cvss_text.proofs.SettingLemmas.{IsFirstWrong-at, wrongs_same}
 use Rattle.cvss_text.proofs.WalkLemmas.{first_left, taken, HasReadTo-all, HasReadTo-more, HasReadTo-start}
 use Rattle.cvss_metric.specs.v4.Table.{mandatory}

@@ -2,10 +2,10 @@
 use Rattle.std.proofs.Common.{◌≡◌, inl, inr, ℕ, ◌+◌, List, [], ◌∷◌, ◌++◌, below_more}
 use Rattle.std.proofs.lemmas.Bool.{cases_order}
 use Rattle.cvss_base.specs.declared.v4.MetricType.{MetricType}
-use Rattle.cvss_base.specs.Refusal.{Refusal, piece_at, IsFirstRefusalAfter}
+use Rattle.cvss_base.specs.Rejection.{Rejection, piece_at, IsFirstRejectionAfter}
 use Rattle.cvss_vector.specs.declared.v4.vector.Vector.{Vector}
 use Rattle.cvss_vector.specs.v4.Vector.{v4}
-use Rattle.cvss_vector.specs.v4.TriageFaults.{HasNoRefusalBefore, IsFirstRefused}
+use Rattle.cvss_vector.specs.v4.TriageFaults.{HasNoRejectionBefore, IsFirstRejected}
 use Rattle.cvss_vector.specs.v4.Triage.{IsRow, AreRows}
 use Rattle.cvss_vector.specs.declared.v4.triage.row.Row.{Row}
 
@@ -17,13 +17,13 @@ AreRows-push overrides (first ∷ texts) [] text row are is = absurd are
 AreRows-push overrides (first ∷ texts) (other ∷ rows) text row are is =
     (are.0, AreRows-push overrides texts rows text row are.1 is)
 
--- one text more that is not refused
-pub HasNoRefusalBefore-more : (texts : List (List ℕ)) (place : ℕ) → HasNoRefusalBefore texts place → ((reason : Refusal MetricType) → IsFirstRefusalAfter v4 (piece_at texts place) reason → ⊥) → HasNoRefusalBefore texts (place + 1)
-HasNoRefusalBefore-more texts place before none = record {
-  none = λ earlier reason below. below_more (λ each. (other : Refusal MetricType) → IsFirstRefusalAfter v4 (piece_at texts each) other → ⊥) place (λ each inside other. before.none each other inside) none earlier below reason;
+-- one text more that is not rejected
+pub HasNoRejectionBefore-more : (texts : List (List ℕ)) (place : ℕ) → HasNoRejectionBefore texts place → ((reason : Rejection MetricType) → IsFirstRejectionAfter v4 (piece_at texts place) reason → ⊥) → HasNoRejectionBefore texts (place + 1)
+HasNoRejectionBefore-more texts place before none = record {
+  none = λ earlier reason below. below_more (λ each. (other : Rejection MetricType) → IsFirstRejectionAfter v4 (piece_at texts each) other → ⊥) place (λ each inside other. before.none each other inside) none earlier below reason;
 }
 
--- the first text that is refused is at one place
-pub first_place_same : (texts : List (List ℕ)) (p q : ℕ) (one other : Refusal MetricType) → IsFirstRefused texts p one → IsFirstRefused texts q other → p ≡ q
+-- the first text that is rejected is at one place
+pub first_place_same : (texts : List (List ℕ)) (p q : ℕ) (one other : Rejection MetricType) → IsFirstRejected texts p one → IsFirstRejected texts q other → p ≡ q
 first_place_same texts p q one other first second =
     elim (cases_order p q) [ inl same ↦ same | inr apart ↦ elim apart [ inl before ↦ absurd (second.earlier.none p one before first.is) | inr after ↦ absurd (first.earlier.none q other after second.is) ] ]

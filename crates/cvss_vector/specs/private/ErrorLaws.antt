@@ -2,7 +2,7 @@
 use Rattle.std.specs.Prelude.{◌≡◌, Option, Some, None, Contains, ⊤, refl, option_map}
 use Rattle.std.specs.Option.{option_and_then}
 use Rattle.std.proofs.Common.{◌∙◌, ap, arith}
-use Rattle.cvss_base.specs.Refusal.{Refusal, BadComponent, WrongPrefix, WrongVersion, UnknownName, BadValue, Repeated, Missing}
+use Rattle.cvss_base.specs.Rejection.{Rejection, BadComponent, WrongPrefix, WrongVersion, UnknownName, BadValue, Repeated, Missing}
 use Rattle.cvss_base.specs.Reported.{reason_reported}
 use Rattle.cvss_base.specs.V2Types.{v2_reason}
 use Rattle.cvss_base.specs.V3Types.{v3_reason}
@@ -27,12 +27,12 @@ HasMissingError _ = ⊤
 
 -- an error that says a version's reason as one of any version says it as the version's own, and there is an error for each
 -- mandatory metric that is missing
-pub record ErrorLaws {V K : Type 0} (version : Version V K) (wrap : K → MetricType) (reason : Error → Option (Refusal K)) : Type 0 where
-  pub own : (error : Error) (own : Refusal K) → reason_reported cvss_reason error ≡ Some (wrapped wrap own) → reason_reported reason error ≡ Some own
+pub record ErrorLaws {V K : Type 0} (version : Version V K) (wrap : K → MetricType) (reason : Error → Option (Rejection K)) : Type 0 where
+  pub own : (error : Error) (own : Rejection K) → reason_reported cvss_reason error ≡ Some (wrapped wrap own) → reason_reported reason error ≡ Some own
   pub missing : (kind : K) → Contains version.mandatory kind → HasMissingError (wrap kind)
 
 -- a reason of any version as one of a version's own, where that has the metric which it names
-abbrev unwrapped : {K : Type 0} → (MetricType → Option K) → Refusal MetricType → Option (Refusal K)
+abbrev unwrapped : {K : Type 0} → (MetricType → Option K) → Rejection MetricType → Option (Rejection K)
 unwrapped own (BadComponent piece) = Some (BadComponent piece)
 unwrapped own (WrongPrefix prefix) = Some (WrongPrefix prefix)
 unwrapped own (WrongVersion reported) = Some (WrongVersion reported)
@@ -42,7 +42,7 @@ unwrapped own (Repeated kind) = option_map Repeated (own kind)
 unwrapped own (Missing kind) = option_map Missing (own kind)
 
 module _ {K : Type 0} (wrap : K → MetricType) (own : MetricType → Option K) (same : (kind : K) → own (wrap kind) ≡ Some kind) where
-  unwrapped-wrapped : (reason : Refusal K) → unwrapped own (wrapped wrap reason) ≡ Some reason
+  unwrapped-wrapped : (reason : Rejection K) → unwrapped own (wrapped wrap reason) ≡ Some reason
   unwrapped-wrapped = elim [
     | BadValue kind value ↦ ap (option_map (λ each. BadValue each value)) (same kind)
     | Repeated kind ↦ ap (option_map Repeated) (same kind)
@@ -51,8 +51,8 @@ module _ {K : Type 0} (wrap : K → MetricType) (own : MetricType → Option K) 
     | _ ↦ refl
   ]
 
-  own_said : (reason : Error → Option (Refusal K)) → ((error : Error) → reason_reported reason error ≡ option_and_then (unwrapped own) (reason_reported cvss_reason error))
-      → (error : Error) (said : Refusal K) → reason_reported cvss_reason error ≡ Some (wrapped wrap said) → reason_reported reason error ≡ Some said
+  own_said : (reason : Error → Option (Rejection K)) → ((error : Error) → reason_reported reason error ≡ option_and_then (unwrapped own) (reason_reported cvss_reason error))
+      → (error : Error) (said : Rejection K) → reason_reported cvss_reason error ≡ Some (wrapped wrap said) → reason_reported reason error ≡ Some said
   own_said reason each error said is = each error ∙ (ap (option_and_then (unwrapped own)) is ∙ unwrapped-wrapped said)
 
 -- the metric as one of each version

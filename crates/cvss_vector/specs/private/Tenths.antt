@@ -1,6 +1,6 @@
 -- The scores of a vector, as the code has them.
 use Rattle.std.specs.Prelude.{ℕ, ℤ, ◌≡◌, ◌≤◌, Option, None, Some, option_map}
-use Rattle.cvss_vector.specs.Answers.{rating_by, score_of_tenths}
+use Rattle.cvss_vector.specs.Answers.{severity_by, score_of_tenths}
 use Rattle.cvss_vector.specs.Complete.{first_missing}
 use Rattle.cvss_vector.specs.Scores.{IsGroupScore, IsOverallScore, version_of}
 use Rattle.cvss_vector.specs.declared.evaluation.Evaluation.{Evaluation}
@@ -36,7 +36,7 @@ tenths_in Environmental base temporal environmental = environmental
 
 -- a score and its severity
 abbrev pub rated_by : Cvss → ℕ → Rated
-rated_by cvss tenths = record { tenths = tenths; severity = rating_by cvss (score_of_tenths tenths) }
+rated_by cvss tenths = record { tenths = tenths; severity = severity_by cvss (score_of_tenths tenths) }
 
 abbrev pub evaluation_of : Cvss → Tenths → Evaluation
 evaluation_of cvss tenths = record {

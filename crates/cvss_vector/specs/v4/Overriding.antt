@@ -3,7 +3,7 @@ use Rattle.std.specs.Prelude.{◌++◌, codes, ◌≡◌, ℕ, ◌<◌, List, le
 use Rattle.std.specs.Fmt.{decimal}
 use Rattle.std.specs.Option.{option_or}
 use Rattle.cvss_base.specs.ErrorText.{error_text}
-use Rattle.cvss_base.specs.Refusal.{Refusal, piece_at}
+use Rattle.cvss_base.specs.Rejection.{Rejection, piece_at}
 use Rattle.cvss_base.specs.Text.{IsComponent, name_part}
 use Rattle.cvss_base.specs.Reported.{Reports}
 use Rattle.cvss_base.specs.V4Types.{v4_reason, name_of, group_of}
@@ -16,7 +16,7 @@ use Rattle.cvss_vector.specs.v4.Table.{value_at}
 use Rattle.cvss_vector.specs.v4.Vector.{v4}
 use Rattle.cvss_vector.specs.declared.v4.vector.Vector.{Vector}
 use Rattle.cvss_vector.specs.declared.v4.vector.overriding.OverrideError.{OverrideError}
-use Rattle.cvss_vector.specs.declared.v4.vector.overriding.OverrideError.TheVariants.{NotEnvironmental, Refused}
+use Rattle.cvss_vector.specs.declared.v4.vector.overriding.OverrideError.TheVariants.{NotEnvironmental, Rejected}
 
 -- the vector has environmental metrics alone
 pub record IsEnvironmental (v : Vector) : Type 0 where
@@ -40,10 +40,10 @@ pub record IsOfOtherGroup (text : List ℕ) : Type 0 where
   pub named : name_of kind ≡ read v4 (name_part text)
   pub other : ¬ (group_of kind ≡ Environmental)
 
--- why a text is no override: its metric is of another group, or it is refused as a component is
+-- why a text is no override: its metric is of another group, or it is rejected as a component is
 pub data Objection : Type 0 where
   OfOtherGroup : Objection
-  OfText : Refusal MetricType → Objection
+  OfText : Rejection MetricType → Objection
 
 -- what is wrong with the text at a place: its metric is of another group; or else what is wrong with it as a component of a
 -- vector (cvss_text, Setting)
@@ -65,7 +65,7 @@ pub record IsFirstObjection (texts : List (List ℕ)) (place : ℕ) (objection :
 abbrev pub ReportsObjection : ℕ → Objection → OverrideError → Type 0
 ReportsObjection place OfOtherGroup reported = reported ≡ NotEnvironmental place
 ReportsObjection place (OfText reason) reported =
-    (error : Error) × (reported ≡ Refused place error) × Reports v4_reason reason error
+    (error : Error) × (reported ≡ Rejected place error) × Reports v4_reason reason error
 
 -- the error says the first text with which something is wrong, and what
 pub record ReportsFirstObjection (texts : List (List ℕ)) (reported : OverrideError) : Type 0 where
@@ -77,4 +77,4 @@ pub record ReportsFirstObjection (texts : List (List ℕ)) (reported : OverrideE
 -- the error's text
 abbrev pub override_error_text : OverrideError → List ℕ
 override_error_text (NotEnvironmental index) = codes "override " ++ decimal index ++ codes ": no environmental CVSSv4 metric"
-override_error_text (Refused index error) = codes "override " ++ decimal index ++ codes ": " ++ error_text error
+override_error_text (Rejected index error) = codes "override " ++ decimal index ++ codes ": " ++ error_text error

@@ -5,7 +5,7 @@ use Rattle.cvss_base.specs.ErrorText.{error_text}
 use Rattle.cvss_base.specs.declared.error.Error.{Error}
 use Rattle.cvss_base.specs.declared.v4.MetricType.{MetricType}
 use Rattle.cvss_vector.specs.v4.Overriding.{Objection, OfOtherGroup, OfText, HasNoObjectionBefore, IsFirstObjection}
-use Rattle.cvss_base.specs.Refusal.{Refusal, carries_text, piece_at, IsFirstRefusalAfter}
+use Rattle.cvss_base.specs.Rejection.{Rejection, carries_text, piece_at, IsFirstRejectionAfter}
 use Rattle.cvss_base.specs.Reported.{reason_reported}
 use Rattle.cvss_base.specs.V4Types.{v4_reason}
 use Rattle.cvss_vector.specs.v4.Vector.{v4}
@@ -15,29 +15,29 @@ use Rattle.cvss_vector.specs.declared.v4.triage.error.TriageError.TheVariants.{O
 -- what is wrong: something with the override at a place, or that the text at a place is no vector
 pub data Fault : Type 0 where
   InOverride : ℕ → Objection → Fault
-  InText : ℕ → Refusal MetricType → Fault
+  InText : ℕ → Rejection MetricType → Fault
 
--- no text before this place is refused
-pub record HasNoRefusalBefore (texts : List (List ℕ)) (place : ℕ) : Type 0 where
-  pub none : (earlier : ℕ) (reason : Refusal MetricType) → earlier < place → ¬ (IsFirstRefusalAfter v4 (piece_at texts earlier) reason)
+-- no text before this place is rejected
+pub record HasNoRejectionBefore (texts : List (List ℕ)) (place : ℕ) : Type 0 where
+  pub none : (earlier : ℕ) (reason : Rejection MetricType) → earlier < place → ¬ (IsFirstRejectionAfter v4 (piece_at texts earlier) reason)
 
--- the first text that is refused, and why
-pub record IsFirstRefused (texts : List (List ℕ)) (place : ℕ) (reason : Refusal MetricType) : Type 0 where
+-- the first text that is rejected, and why
+pub record IsFirstRejected (texts : List (List ℕ)) (place : ℕ) (reason : Rejection MetricType) : Type 0 where
   pub within : place < length texts
-  pub is : IsFirstRefusalAfter v4 (piece_at texts place) reason
-  pub earlier : HasNoRefusalBefore texts place
+  pub is : IsFirstRejectionAfter v4 (piece_at texts place) reason
+  pub earlier : HasNoRejectionBefore texts place
 
 -- the first fault: overrides go before texts
 abbrev pub IsFirstFault : List (List ℕ) → List (List ℕ) → Fault → Type 0
 IsFirstFault texts overrides (InOverride place objection) = IsFirstObjection overrides place objection
 IsFirstFault texts overrides (InText place reason) =
-    HasNoObjectionBefore overrides (length overrides) × IsFirstRefused texts place reason
+    HasNoObjectionBefore overrides (length overrides) × IsFirstRejected texts place reason
 
--- the refusal that an error of the library says is this one
-pub record ReportsReason (reason : Refusal MetricType) (error : Error) : Type 0 where
+-- the rejection that an error of the library says is this one
+pub record ReportsReason (reason : Rejection MetricType) (error : Error) : Type 0 where
   pub is : reason_reported v4_reason error ≡ Some reason
 
--- the error says the fault; or there was no memory, of which an override needs none unless its refusal
+-- the error says the fault; or there was no memory, of which an override needs none unless its rejection
 -- carries text
 abbrev pub ReportsFault : Fault → TriageError → Type 0
 ReportsFault (InOverride place OfOtherGroup) reported = reported ≡ NotEnvironmental place
@@ -53,11 +53,11 @@ pub record ReportsFirstFault (texts overrides : List (List ℕ)) (reported : Tri
   pub first : IsFirstFault texts overrides fault
   pub reports : ReportsFault fault reported
 
--- the error says the first text that is refused, and why
-pub record ReportsFirstRefused (texts : List (List ℕ)) (reported : TriageError) : Type 0 where
+-- the error says the first text that is rejected, and why
+pub record ReportsFirstRejected (texts : List (List ℕ)) (reported : TriageError) : Type 0 where
   pub place : ℕ
-  pub reason : Refusal MetricType
-  pub first : IsFirstRefused texts place reason
+  pub reason : Rejection MetricType
+  pub first : IsFirstRejected texts place reason
   pub reports : ReportsFault (InText place reason) reported
 
 -- the error's text

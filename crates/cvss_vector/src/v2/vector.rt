@@ -9,7 +9,7 @@ mod reading;
 mod scores;
 mod weighing;
 
-use crate::refusing::error_of_version;
+use crate::rejecting::error_of_version;
 use crate::v2::laws::vectors_are_their_values;
 use cvss_base::Error;
 use cvss_metric::v2::base::{
@@ -73,7 +73,7 @@ macro_rules! each_v2_metric {
 
 impl Vector {
     ghost use Rattle.std.specs.Str.{IsUtf8};
-    ghost use Rattle.cvss_base.specs.Refusal.{Refusal, IsFirstRefusal};
+    ghost use Rattle.cvss_base.specs.Rejection.{Rejection, IsFirstRejection};
     ghost use Rattle.cvss_base.specs.Reported.{Reports, ReportsFirst};
     ghost use Rattle.cvss_base.specs.V2Types.{v2_reason};
     ghost use Rattle.cvss_base.specs.Version.{canonical_text, Denotes, IsComplete};
@@ -95,10 +95,10 @@ impl Vector {
         ensures complete { IfOk result (λ vector. IsComplete v2 vector) }
         ensures accepts { (vector : Vector) → Denotes v2 text.now vector
             → IsComplete v2 vector → result ≡ Ok vector }
-        // Refused: for the first reason, and wherever there is one. Memory is the answer only where
+        // Rejected: for the first reason, and wherever there is one. Memory is the answer only where
         // the reason carries text.
-        ensures refused { IfErr result (ReportsFirst v2_reason (IsFirstRefusal v2 text.now)) }
-        ensures refuses { (reason : Refusal MetricType) → IsFirstRefusal v2 text.now reason
+        ensures rejected { IfErr result (ReportsFirst v2_reason (IsFirstRejection v2 text.now)) }
+        ensures rejects { (reason : Rejection MetricType) → IsFirstRejection v2 text.now reason
             → IsErrAnd result (Reports v2_reason reason) }
     {
         match read_vector(text.as_bytes(), Vector::empty()) {

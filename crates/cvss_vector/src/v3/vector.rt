@@ -8,7 +8,7 @@ mod reading;
 mod scores;
 mod weighing;
 
-use crate::refusing::vector_after;
+use crate::rejecting::vector_after;
 use crate::v3::laws::vectors_are_their_values;
 use cvss_base::Error;
 use cvss_metric::v3::base::{
@@ -89,7 +89,7 @@ macro_rules! each_v3_metric {
 
 impl Vector {
     ghost use Rattle.std.specs.Str.{IsUtf8};
-    ghost use Rattle.cvss_base.specs.Refusal.{Refusal, IsFirstRefusalAfter};
+    ghost use Rattle.cvss_base.specs.Rejection.{Rejection, IsFirstRejectionAfter};
     ghost use Rattle.cvss_base.specs.Reported.{Reports, ReportsFirst};
     ghost use Rattle.cvss_base.specs.V3Types.{v3_reason};
     ghost use Rattle.cvss_base.specs.Version.{canonical_text, Denotes, IsWellFormed};
@@ -113,10 +113,10 @@ impl Vector {
         ensures well_formed { IfOk result (λ vector. IsWellFormed v3 vector) }
         ensures accepts { (vector : Vector) → Denotes v3 text.now vector
             → IsWellFormed v3 vector → result ≡ Ok vector }
-        // Refused: for the first reason, and wherever there is one. Memory is the answer only where
+        // Rejected: for the first reason, and wherever there is one. Memory is the answer only where
         // the reason carries text.
-        ensures refused { IfErr result (ReportsFirst v3_reason (IsFirstRefusalAfter v3 text.now)) }
-        ensures refuses { (reason : Refusal MetricType) → IsFirstRefusalAfter v3 text.now reason
+        ensures rejected { IfErr result (ReportsFirst v3_reason (IsFirstRejectionAfter v3 text.now)) }
+        ensures rejects { (reason : Rejection MetricType) → IsFirstRejectionAfter v3 text.now reason
             → IsErrAnd result (Reports v3_reason reason) }
     {
         vector_after(alloc, text)

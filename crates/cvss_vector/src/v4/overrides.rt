@@ -19,7 +19,7 @@ use cvss_text::walk::{Fault, read_component};
 pub enum OverrideFault<'a> {
     /// The metric is of another group.
     OtherGroup,
-    /// The text is refused as a component of a vector is.
+    /// The text is rejected as a component of a vector is.
     Component(Fault<'a, MetricType>),
 }
 
@@ -31,9 +31,9 @@ pub fn read_overrides<'a, T: Texts<'a>>(texts: T) -> Result<Vector, (usize, Over
     ensures accepts { (vector : Vector) → AreOverrides (T.texts texts) vector → IsOk result }
     ensures faultless { OnOk result
         (HasNoObjectionBefore (T.texts texts) (length (T.texts texts))) }
-    ensures refused { IfErr result
-        (λ refused. IsFirstObjection (T.texts texts) refused.0 (objection_of refused.1)) }
-    ensures printable { T.are_utf8 → IfErr result (λ refused. IsPrintableFault refused.1) }
+    ensures rejected { IfErr result
+        (λ rejected. IsFirstObjection (T.texts texts) rejected.0 (objection_of rejected.1)) }
+    ensures printable { T.are_utf8 → IfErr result (λ rejected. IsPrintableFault rejected.1) }
 {
     let mut given = Vector::empty();
     let mut left = texts;
@@ -50,7 +50,7 @@ pub fn read_overrides<'a, T: Texts<'a>>(texts: T) -> Result<Vector, (usize, Over
 /// Reads one override into the vector that holds those before it.
 fn read_override<'a>(text: &'a [u8], given: &mut Vector) -> Result<(), OverrideFault<'a>>
     ensures read { OnOk result (AddsOverride given.old text.now given.new) }
-    ensures refused { IfErr result
+    ensures rejected { IfErr result
         (λ fault. IsObjectionTo given.old text.now (objection_of fault)) }
     ensures printable { IsUtf8 text.now → IfErr result IsPrintableFault }
 {

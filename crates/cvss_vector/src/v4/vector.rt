@@ -10,7 +10,7 @@ mod printing;
 mod reading;
 mod scores;
 
-use crate::refusing::vector_after;
+use crate::rejecting::vector_after;
 use crate::v4::laws::vectors_are_their_values;
 use cvss_base::Error;
 use cvss_metric::v4::table;
@@ -106,7 +106,7 @@ macro_rules! each_v4_metric {
 
 impl Vector {
     ghost use Rattle.std.specs.Str.{IsUtf8};
-    ghost use Rattle.cvss_base.specs.Refusal.{Refusal, IsFirstRefusalAfter};
+    ghost use Rattle.cvss_base.specs.Rejection.{Rejection, IsFirstRejectionAfter};
     ghost use Rattle.cvss_base.specs.Reported.{Reports, ReportsFirst};
     ghost use Rattle.cvss_base.specs.V4Types.{v4_reason};
     ghost use Rattle.cvss_base.specs.Version.{canonical_text, Denotes, IsComplete, IsWellFormed};
@@ -129,10 +129,10 @@ impl Vector {
         ensures well_formed { IfOk result (λ vector. IsWellFormed v4 vector) }
         ensures accepts { (vector : Vector) → Denotes v4 text.now vector
             → IsWellFormed v4 vector → result ≡ Ok vector }
-        // Refused: for the first reason, and wherever there is one. Memory is the answer only where
+        // Rejected: for the first reason, and wherever there is one. Memory is the answer only where
         // the reason carries text.
-        ensures refused { IfErr result (ReportsFirst v4_reason (IsFirstRefusalAfter v4 text.now)) }
-        ensures refuses { (reason : Refusal MetricType) → IsFirstRefusalAfter v4 text.now reason
+        ensures rejected { IfErr result (ReportsFirst v4_reason (IsFirstRejectionAfter v4 text.now)) }
+        ensures rejects { (reason : Rejection MetricType) → IsFirstRejectionAfter v4 text.now reason
             → IsErrAnd result (Reports v4_reason reason) }
     {
         vector_after(alloc, text)

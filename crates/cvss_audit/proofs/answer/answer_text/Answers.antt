@@ -3,7 +3,7 @@ use Rattle.std.proofs.lemmas.Bool.{iff_false}
 use Rattle.std.proofs.lemmas.Result.{IfOk-weaker, MatchResult-weaker}
 use Rattle.cvss_lines.proofs.StepsLemmas.{reported_fault}
 use Rattle.cvss_lines.proofs.TextsLemmas.{one_text}
-use Rattle.cvss_lines.specs.Answers.{Accepted, Refused}
+use Rattle.cvss_lines.specs.Answers.{Accepted, Rejected}
 use Rattle.cvss_lines.specs.declared.fault.RunFault.TheVariants.{Memory}
 use Rattle.serde_json.specs.Read.{read}
 use Rattle.serde_json.specs.View.{view}
@@ -27,10 +27,10 @@ pub returns-in_default-clause-streamed : goal.returns-in_default-clause-streamed
 unfolding IsAnswer
 returns-in_default-clause-streamed g c =
     let written = c.in_ok-reject_text.ensures in
-    Streams-waiting (input_view c.args.input) c.args.text.now _ _ (g.W.Write.contents c.args.writer.now) _ (Refused (written.text ∷ []))
+    Streams-waiting (input_view c.args.input) c.args.text.now _ _ (g.W.Write.contents c.args.writer.now) _ (Rejected (written.text ∷ []))
     (inr (inl (record {
       not_utf8 = c.in_default.ensures.cases.0;
-      refused = record { text = written.text; is_text = written.is_text; is = refl };
+      rejected = record { text = written.text; is_text = written.is_text; is = refl };
     })))
     refl (one_text _ _ _ written.written)
 
@@ -59,11 +59,11 @@ unfolding IsAnswer
 returns-in_ok-reject_text-in-Err-2-clause-streamed g c =
     let text = c.in-Ok.ensures.cases in
     let written = c.in_ok-reject_text-in-Err-2.ensures in
-    Streams-waiting (input_view c.args.input) c.args.text.now _ _ (g.W.Write.contents c.args.writer.now) _ (Refused (written.text ∷ []))
+    Streams-waiting (input_view c.args.input) c.args.text.now _ _ (g.W.Write.contents c.args.writer.now) _ (Rejected (written.text ∷ []))
     (inr (inr (inl (record {
       utf8 = text.1;
       not_blank = sym c.if-is_passed_over.ensures;
       not_json = subst (λ text. read text ≡ None) text.0 (c.in-Err.ensures.err (iff_false c.is_memory.ensures c.if-is_memory.false));
-      refused = record { text = written.text; is_text = written.is_text; is = refl };
+      rejected = record { text = written.text; is_text = written.is_text; is = refl };
     }))))
     refl (one_text _ _ _ written.written)

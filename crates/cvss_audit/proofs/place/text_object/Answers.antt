@@ -36,13 +36,13 @@ returns-in-Ok c =
 
 pub returns : goal.returns
 returns c =
-    let refusal = error_member (error_text c.in-Err.error) ∷ [] in
-    let refused : members_view c.put_error.new.members.entries ≡ with_members refusal (members_view c.put_place.new.members.entries) = search rules in
+    let rejection = error_member (error_text c.in-Err.error) ∷ [] in
+    let rejected : members_view c.put_error.new.members.entries ≡ with_members rejection (members_view c.put_place.new.members.entries) = search rules in
     inr (record {
       error = c.in-Err.error;
-      first = c.in-Err.ensures.refused;
+      first = c.in-Err.ensures.rejected;
       no_want = search rules;
-      is = put_both (place_members (input_view c.args.input) (place_view c.args.place.now)) refusal
-          _ _ _ (ap members_view c.new-members.ensures.empty) c.in_ok-put_place.ensures refused;
+      is = put_both (place_members (input_view c.args.input) (place_view c.args.place.now)) rejection
+          _ _ _ (ap members_view c.new-members.ensures.empty) c.in_ok-put_place.ensures rejected;
       reported = refl;
     })

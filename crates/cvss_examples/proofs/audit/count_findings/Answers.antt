@@ -22,9 +22,9 @@ overflow_add-findings c =
     let bound = at_most (IsFinding c.args.level) c.args.texts.now c.loop-text.text-index c.loop-text.findings c.loop-text-test.true c.loop-text.invariant.0 in
     omega (arith, bound, c.loop-text-test.true)
 
-pub overflow_add-refused : goal.overflow_add-refused
-overflow_add-refused c =
-    let bound = at_most IsNoVector c.args.texts.now c.loop-text.text-index c.loop-text.refused c.loop-text-test.true c.loop-text.invariant.1 in
+pub overflow_add-rejected : goal.overflow_add-rejected
+overflow_add-rejected c =
+    let bound = at_most IsNoVector c.args.texts.now c.loop-text.text-index c.loop-text.rejected c.loop-text-test.true c.loop-text.invariant.1 in
     omega (arith, bound, c.loop-text-test.true)
 
 pub loop-text-preserved : goal.loop-text-preserved
@@ -40,13 +40,13 @@ loop-text-preserved c =
     elim c.match-read_bytes.branch [
       | in-Some w ↦
           let denoted = w.in-Some.ensures.denoted in
-          rw (more, w.findings-is, w.refused-is) (
+          rw (more, w.findings-is, w.rejected-is) (
             IsCountOf-push (IsFinding level) before text _ counted.0 (record { vector = w.in-Some.cvss; denoted = denoted; rated = w.is_rated.ensures.0 w.if-is_rated.true }),
             IsCountOf-skip IsNoVector before text _ counted.1 (λ none. none w.in-Some.cvss denoted),
           )
       | in-Some+else-is_rated w ↦
           let read = w.in-Some.ensures in
-          rw (more, w.findings-is, w.refused-is) (
+          rw (more, w.findings-is, w.rejected-is) (
             IsCountOf-skip (IsFinding level) before text _ counted.0 (λ is.
                 let some : Some w.in-Some.cvss ≡ Some is.vector = read.accepts is.vector is.denoted in
                 let one : is.vector ≡ w.in-Some.cvss = cc in
@@ -54,9 +54,9 @@ loop-text-preserved c =
             IsCountOf-skip IsNoVector before text _ counted.1 (λ none. none w.in-Some.cvss read.denoted),
           )
       | in-None w ↦
-          let refused : IsNoVector text = λ vector is. search (rules, w.in-None.ensures.accepts vector is) in
-          rw (more, w.findings-is, w.refused-is) (
-            IsCountOf-skip (IsFinding level) before text _ counted.0 (λ is. refused is.vector is.denoted),
-            IsCountOf-push IsNoVector before text _ counted.1 refused,
+          let rejected : IsNoVector text = λ vector is. search (rules, w.in-None.ensures.accepts vector is) in
+          rw (more, w.findings-is, w.rejected-is) (
+            IsCountOf-skip (IsFinding level) before text _ counted.0 (λ is. rejected is.vector is.denoted),
+            IsCountOf-push IsNoVector before text _ counted.1 rejected,
           )
     ]

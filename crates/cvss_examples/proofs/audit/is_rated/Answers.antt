@@ -1,7 +1,7 @@
 use Rattle.std.proofs.Common.{◌≤◌, ◌≡◌, ap, rules, subst, sym, ◌∙◌}
 use Rattle.std.specs.Int.{w128}
 use Rattle.std.proofs.lemmas.Int.{to_z-of_z}
-use Rattle.cvss.specs.Answers.{rating_by}
+use Rattle.cvss.specs.Answers.{severity_by}
 use Rattle.cvss_examples.specs.Findings.{rank}
 use Rattle.cvss_examples.proofs.audit.is_rated.Goals as goal
 
@@ -10,7 +10,7 @@ returns c =
     let cvss = c.args.cvss.now in
     let score = c.score.result in
     let once = c.scores_are_unique.ensures cvss in
-    let rated : c.severity_of.result ≡ rating_by cvss score = c.severity_of.ensures ∙ ap (rating_by cvss) (to_z-of_z w128 score (search rules)) in (
+    let rated : c.severity_of.result ≡ severity_by cvss score = c.severity_of.ensures ∙ ap (severity_by cvss) (to_z-of_z w128 score (search rules)) in (
       λ is_true. record {
         score = score;
         scored = c.score.ensures.value;
@@ -18,6 +18,6 @@ returns c =
       },
       λ is. c.is_at_least.ensures.1 (
           subst (λ severity. rank c.args.level ≤ rank severity)
-          (sym (rated ∙ ap (rating_by cvss) (once score is.score c.score.ensures.value is.scored)))
+          (sym (rated ∙ ap (severity_by cvss) (once score is.score c.score.ensures.value is.scored)))
           is.rated),
     )

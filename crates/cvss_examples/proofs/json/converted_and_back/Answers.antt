@@ -16,7 +16,7 @@ returns-clause-accepts c =
     let stands = stands_for c.texts_denote_one_vector.ensures.own c.args.text.now _ value in
     λ cvss denoted. c.text_of.ensures.accepts value.vector stands
 
-pub returns-clause-refused : goal.returns-clause-refused
-returns-clause-refused c =
+pub returns-clause-rejected : goal.returns-clause-rejected
+returns-clause-rejected c =
     IfErr-weaker c.text_of.result (λ error. error ≡ OutOfMemory) (ReportsNoText c.args.text.now) (λ error is. subst (ReportsNoText c.args.text.now) (sym is) tt)
     (returns-clause-accepts c _ c.in_ok-value.ensures.value.denoted)

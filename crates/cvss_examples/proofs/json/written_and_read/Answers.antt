@@ -1,7 +1,7 @@
 use Rattle.std.proofs.Common.{inl}
 use Rattle.std.proofs.lemmas.Result.{IfOk-weaker}
 use Rattle.cvss.specs.Answers.{text_of}
-use Rattle.cvss_examples.proofs.ConversionLemmas.{read_as, refused_as}
+use Rattle.cvss_examples.proofs.ConversionLemmas.{read_as, rejected_as}
 use Rattle.cvss_examples.proofs.json.written_and_read.Goals as goal
 
 pub returns-clause-given_back : goal.returns-clause-given_back
@@ -17,6 +17,6 @@ pub returns-clause-read : goal.returns-clause-read
 returns-clause-read c =
     IfOk-weaker _ _ _ (λ read. read_as (text_of c.args.cvss.now) _ read c.in_ok-value.ensures.written) c.from_value.ensures.stands
 
-pub returns-clause-refused : goal.returns-clause-refused
-returns-clause-refused c =
-    refused_as c.from_value.result (text_of c.args.cvss.now) _ c.in_ok-value.ensures.written c.from_value.ensures.refused c.from_value.ensures.reported
+pub returns-clause-rejected : goal.returns-clause-rejected
+returns-clause-rejected c =
+    rejected_as c.from_value.result (text_of c.args.cvss.now) _ c.in_ok-value.ensures.written c.from_value.ensures.rejected c.from_value.ensures.reported

@@ -1,7 +1,7 @@
 use Rattle.std.proofs.Common.{◌++◌, codes, refl}
 use Rattle.cvss_vector.specs.Reasons.{error_message}
 use Rattle.cvss_lines.specs.Answers.{written_text}
-use Rattle.cvss_lines.proofs.TextsLemmas.{accepted_by, refused_by}
+use Rattle.cvss_lines.proofs.TextsLemmas.{accepted_by, rejected_by}
 use Rattle.cvss_explain_answers.proofs.PartLemmas.{closed}
 use Rattle.cvss_explain_answers.proofs.text.answer_explained.Goals as goal
 
@@ -20,6 +20,6 @@ returns-in_ok-push-in-Ok c = λ number.
 pub returns-in_ok-push-in-Err : goal.returns-in_ok-push-in-Err
 returns-in_ok-push-in-Err c = λ number.
     let error = codes "error: " ++ error_message c.in-Err.error in
-    refused_by _ _ number c.args.line.now (written_text error) _ _
+    rejected_by _ _ number c.args.line.now (written_text error) _ _
     (closed _ (written_text error) _ _ c.in_ok-write_error-in-Err.ensures c.in_ok-push-in-Err.ensures)
     (record { error = error; rejected = record { error = c.in-Err.error; is_right = c.in-Err.ensures.error; is = refl }; is = refl })

@@ -3,7 +3,7 @@ use Rattle.std.proofs.Math.Seq.{drop-append_seam}
 use Rattle.std.proofs.lemmas.Bool.{le-leb, lt-leb}
 use Rattle.std.proofs.lemmas.Fmt.{decimal_digit, length-decimal-le}
 use Rattle.std.proofs.lemmas.List.{length-take-le}
-use Rattle.cvss_vector.specs.Answers.{rating_by, score_of_tenths}
+use Rattle.cvss_vector.specs.Answers.{severity_by, score_of_tenths}
 use Rattle.cvss_base.specs.Tenths.{tenths_text}
 use Rattle.cvss_explain.proofs.ShortLemmas.{severity_short}
 use Rattle.cvss_ffi.specs.Buffer.{IsWritten}
@@ -44,7 +44,7 @@ joined own tenths rating end = simp (append_assoc, append-nil) refl
 
 pub write_segments-length-requires : goal.write_segments-length-requires
 write_segments-length-requires c =
-    simp length-append (omega (arith, c.requires.bound, c.requires.short, ap length c.words.ensures, ap length c.words-2.ensures, ap length c.words-3.ensures, ap length c.words-4.ensures, ap length c.given.ensures.text, ap length c.text_of.ensures, ap length c.severity_of.ensures, score_short c.overall_tenths-tenths.result c.overall_tenths-tenths.ensures.bound, severity_short (rating_by c.args.cvss.now (score_of_tenths c.overall_tenths-tenths.result))))
+    simp length-append (omega (arith, c.requires.bound, c.requires.short, ap length c.words.ensures, ap length c.words-2.ensures, ap length c.words-3.ensures, ap length c.words-4.ensures, ap length c.given.ensures.text, ap length c.text_of.ensures, ap length c.severity_of.ensures, score_short c.overall_tenths-tenths.result c.overall_tenths-tenths.ensures.bound, severity_short (severity_by c.args.cvss.now (score_of_tenths c.overall_tenths-tenths.result))))
 
 pub returns-then-length-buffer : goal.returns-then-length-buffer
 returns-then-length-buffer c =

@@ -3,8 +3,8 @@ use Rattle.cvss_vector.specs.Answers.{text_of}
 use Rattle.cvss_ffi.proofs.LengthLemmas.{length_denoted_cvss}
 use Rattle.cvss_ffi.proofs.vector.parse.Goals as goal
 
-pub returns-clause-told : goal.returns-clause-told
-returns-clause-told c = (
+pub returns-clause-reported : goal.returns-clause-reported
+returns-clause-reported c = (
   Ok (text_of c.in-Ok.cvss),
   record { cvss = c.in-Ok.cvss; is = c.in-Ok.ensures.accepted; holds = refl },
   c.write_vector.ensures,

@@ -1,6 +1,6 @@
 use Rattle.std.proofs.Common.{◌≡◌, ◌<◌, slice_index_or, ℕ, List, [], ◌∷◌, ◌++◌, length, subst, sym, map, take, Bor, arith}
 use Rattle.std.proofs.lemmas.List.{length-map, length-take-le, get_or-map, take_more}
-use Rattle.cvss_base.specs.Refusal.{piece_at}
+use Rattle.cvss_base.specs.Rejection.{piece_at}
 use Rattle.cvss_rank.specs.Ranking.{AreRead}
 use Rattle.cvss_rank.proofs.ranking.read_lines.Goals as goal
 

@@ -1,12 +1,12 @@
 use Rattle.std.proofs.Common.{[], ◌∷◌, ◌++◌, refl, sym, ap, ◌∙◌, subst}
-use Rattle.cvss_scan.specs.Mentions.{AreFound}
-use Rattle.cvss_scan.specs.MentionsLeft.{as_placed, mentions_left}
+use Rattle.cvss_scan.specs.Matches.{AreFound}
+use Rattle.cvss_scan.specs.CandidatesLeft.{as_placed, candidates_left}
 use Rattle.cvss_scan.proofs.FoundLemmas.{AreFound-first, AreFound-none}
 use Rattle.cvss_rank.proofs.reading.only_match.Goals as goal
 
 pub returns-in_default-clause-reason : goal.returns-in_default-clause-reason
 returns-in_default-clause-reason c = λ _.
-    subst (λ all. AreFound all []) c.of-matches.ensures (AreFound-none (mentions_left c.of-matches.result) c.in_default.ensures.steps)
+    subst (λ all. AreFound all []) c.of-matches.ensures (AreFound-none (candidates_left c.of-matches.result) c.in_default.ensures.steps)
 
 pub returns-in-Some-next-clause-reason : goal.returns-in-Some-next-clause-reason
 returns-in-Some-next-clause-reason c = λ _.
@@ -17,7 +17,7 @@ returns-in-Some-next-clause-reason c = λ _.
       second = as_placed c.in-Some-next.field-0;
       before = one.passed;
       between = other.passed;
-      after = mentions_left c.next-2.new.self;
+      after = candidates_left c.next-2.new.self;
       are = sym c.of-matches.ensures ∙ one.is ∙ ap (λ left. one.passed ++ as_placed c.in-Some.only ∷ left) other.is;
       first_found = one.found;
       second_found = other.found;
@@ -29,7 +29,7 @@ returns-in-None-clause-only c =
     record {
       match = match;
       only = subst (λ all. AreFound all (match ∷ [])) c.of-matches.ensures
-          (AreFound-first (mentions_left c.of-matches.result) (mentions_left c.next.new.self) match [] c.in-Some.ensures.steps
-          (AreFound-none (mentions_left c.next.new.self) c.in-None.ensures.steps));
+          (AreFound-first (candidates_left c.of-matches.result) (candidates_left c.next.new.self) match [] c.in-Some.ensures.steps
+          (AreFound-none (candidates_left c.next.new.self) c.in-None.ensures.steps));
       is = refl;
     }

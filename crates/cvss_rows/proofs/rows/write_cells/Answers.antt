@@ -1,6 +1,6 @@
 use Rattle.std.proofs.Common.{refl}
 use Rattle.cvss_vector.specs.Reasons.{error_message}
-use Rattle.cvss_lines.proofs.TextsLemmas.{accepted_by, refused_by}
+use Rattle.cvss_lines.proofs.TextsLemmas.{accepted_by, rejected_by}
 use Rattle.cvss_rows.specs.Rows.{cells_text, rejected_fields}
 use Rattle.cvss_rows.proofs.rows.write_cells.Goals as goal
 
@@ -20,6 +20,6 @@ returns-in_ok-write_vector_cells-in-Ok c = λ number.
 
 pub returns-in_ok-write_fields-in-Err : goal.returns-in_ok-write_fields-in-Err
 returns-in_ok-write_fields-in-Err c = λ number.
-    refused_by _ _ number c.args.line.now (cells_text c.args.format (rejected_fields (error_message c.in-Err.error))) _ _
+    rejected_by _ _ number c.args.line.now (cells_text c.args.format (rejected_fields (error_message c.in-Err.error))) _ _
     (rw c.rejected_fields.ensures at c.in_ok-write_fields-in-Err.ensures)
     (record { error = c.in-Err.error; is_right = c.in-Err.ensures.error; is = refl })

@@ -9,10 +9,10 @@ returns-in-Some-kind_named g c =
     let version = g.V.Components.version in
     let version_laws = g.met.V.Components.version_laws in
     let named = named_known version version_laws _ c.in-Some-kind_named.kind c.in-Some-kind_named.ensures in
-    record { cut = IsCut_named version version_laws _ _ _ _ c.in-Some.ensures.cut named; refused = tt; unnamed = tt; printable = λ _. tt }
+    record { cut = IsCut_named version version_laws _ _ _ _ c.in-Some.ensures.cut named; rejected = tt; unnamed = tt; printable = λ _. tt }
 
 pub returns-in-None : goal.returns-in-None
 returns-in-None g c =
     let name_is = ap (read g.V.Components.version) c.in-Some.ensures.name_is in
     let unknown = named_unknown g.V.Components.version g.met.V.Components.version_laws _ c.in-None.ensures in
-    record { cut = tt; refused = λ _ _. (name_is, unknown); unnamed = λ _ kind named. unknown kind (named ∙ sym name_is); printable = λ is. (utf8_parts _ _ _ c.in-Some.ensures.cut is).0 }
+    record { cut = tt; rejected = λ _ _. (name_is, unknown); unnamed = λ _ kind named. unknown kind (named ∙ sym name_is); printable = λ is. (utf8_parts _ _ _ c.in-Some.ensures.cut is).0 }

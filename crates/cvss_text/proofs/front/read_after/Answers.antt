@@ -1,7 +1,7 @@
 use Rattle.std.proofs.Common.{Ok, Err}
 use Rattle.cvss_text.specs.declared.walk.Fault.TheVariants.{InvalidComponent}
 use Rattle.cvss_text.specs.private.Walk.{reason_of}
-use Rattle.cvss_text.proofs.FrontLemmas.{IsAnswer-refused, IsAnswerAfter-left, decided_after, front_fault_first}
+use Rattle.cvss_text.proofs.FrontLemmas.{IsAnswer-rejected, IsAnswerAfter-left, decided_after, front_fault_first}
 use Rattle.cvss_text.proofs.PieceLemmas.{IsUtf8-bad, IsUtf8-pieces, first_utf8}
 use Rattle.cvss_text.proofs.front.read_after.Goals as goal
 
@@ -16,12 +16,12 @@ returns-in-Err-read_left g c =
 pub returns-in-Some : goal.returns-in-Some
 returns-in-Some g c =
     let text = c.args.text.now in
-    IsAnswer-refused (decided_after g.V.Components.version g.met.V.Components.version_laws g.met.V.Prefixed.plain text) (InvalidComponent c.in-Some.piece) c.in-Some.ensures (λ utf8. IsUtf8-bad c.in-Some.ensures (IsUtf8-pieces text utf8))
+    IsAnswer-rejected (decided_after g.V.Components.version g.met.V.Components.version_laws g.met.V.Prefixed.plain text) (InvalidComponent c.in-Some.piece) c.in-Some.ensures (λ utf8. IsUtf8-bad c.in-Some.ensures (IsUtf8-pieces text utf8))
 
 pub returns-in-None : goal.returns-in-None
 returns-in-None g c =
     let version = g.V.Components.version in
     let text = c.args.text.now in
-    IsAnswer-refused (decided_after version g.met.V.Components.version_laws g.met.V.Prefixed.plain text) c.in-Err.fault
-    (front_fault_first version text _ _ c.front_of.ensures c.in-None.ensures (reason_of version c.in-Err.fault) c.in-Err.ensures.refused)
+    IsAnswer-rejected (decided_after version g.met.V.Components.version_laws g.met.V.Prefixed.plain text) c.in-Err.fault
+    (front_fault_first version text _ _ c.front_of.ensures c.in-None.ensures (reason_of version c.in-Err.fault) c.in-Err.ensures.rejected)
     (λ utf8. c.in-Err.ensures.printable (first_utf8 text _ _ c.front_of.ensures utf8))

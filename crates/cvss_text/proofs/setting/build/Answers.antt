@@ -23,4 +23,4 @@ returns-in-None g c =
 pub returns-in-Err : goal.returns-in-Err
 returns-in-Err g c =
     let version = g.V.Components.version in
-    IsAnswered-Err version (build_sole version g.met.V.Components.version_laws (version.front c.args.empty) (pieces c.args.text.now)) (Some c.in-Err.index) c.in-Err.fault (rw (c.pieces_of.ensures, c.as_bytes.ensures.value) at c.in-Err.ensures.refused) c.in-Err.ensures.bound
+    IsAnswered-Err version (build_sole version g.met.V.Components.version_laws (version.front c.args.empty) (pieces c.args.text.now)) (Some c.in-Err.index) c.in-Err.fault (rw (c.pieces_of.ensures, c.as_bytes.ensures.value) at c.in-Err.ensures.rejected) c.in-Err.ensures.bound

@@ -15,10 +15,10 @@ loop-cut-preserved g c =
       adds.puts.front ∙ before.1,
     )
 
-pub returns-in-Err-clause-refused : goal.returns-in-Err-clause-refused
-returns-in-Err-clause-refused g c =
+pub returns-in-Err-clause-rejected : goal.returns-in-Err-clause-rejected
+returns-in-Err-clause-rejected g c =
     let version = g.V.Components.version in
-    IsFirstWrong-at version g.met.V.Components.version_laws (g.T.Texts.texts c.args.texts) _ c.loop-cut.given c.loop-cut.invariant.0 _ _ c.count.ensures c.count-in-Err.ensures _ _ c.in-Some.ensures.cut (reason_of version c.in-Err.fault) c.in-Err.ensures.refused
+    IsFirstWrong-at version g.met.V.Components.version_laws (g.T.Texts.texts c.args.texts) _ c.loop-cut.given c.loop-cut.invariant.0 _ _ c.count.ensures c.count-in-Err.ensures _ _ c.in-Some.ensures.cut (reason_of version c.in-Err.fault) c.in-Err.ensures.rejected
 
 pub returns-in-Err-clause-bound : goal.returns-in-Err-clause-bound
 returns-in-Err-clause-bound g c =

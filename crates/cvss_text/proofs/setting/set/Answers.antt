@@ -17,5 +17,5 @@ returns-in-Ok g c =
 pub returns-in-Err : goal.returns-in-Err
 returns-in-Err g c =
     let version = g.V.Components.version in
-    let first = rw (c.components_of.ensures, c.as_bytes.ensures.value) at c.in-Err.ensures.refused in
+    let first = rw (c.components_of.ensures, c.as_bytes.ensures.value) at c.in-Err.ensures.rejected in
     IsAnswered-Err version (set_sole version g.met.V.Components.version_laws c.args.vector.now (components_in c.args.text.now)) (Some c.in-Err.index) c.in-Err.fault first c.in-Err.ensures.bound

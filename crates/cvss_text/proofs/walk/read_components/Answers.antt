@@ -10,17 +10,17 @@ loop-rest-preserved g c =
     let (piece, first, adds) = c.in-Ok.ensures.read in
     (HasReadTo-more g.V.Components.version g.met.V.Components.version_laws (pieces c.args.text.now) _ c.loop-rest.vector c.loop-rest.invariant.0 c.read_first.new.vector piece _ (c.in-Some.ensures ∙ first) adds, adds.puts.front ∙ c.loop-rest.invariant.1)
 
-pub returns-in-Some-first_bad_piece-clause-refused : goal.returns-in-Some-first_bad_piece-clause-refused
-returns-in-Some-first_bad_piece-clause-refused g c =
+pub returns-in-Some-first_bad_piece-clause-rejected : goal.returns-in-Some-first_bad_piece-clause-rejected
+returns-in-Some-first_bad_piece-clause-rejected g c =
     IsFirstBadPiece-follows g.V.Components.version g.met.V.Components.version_laws (pieces c.args.text.now) _ c.loop-rest.vector c.loop-rest.invariant.0 c.in-Some.rest.now c.in-Some.ensures _ c.in-Some-first_bad_piece.ensures
 
 pub returns-in-Some-first_bad_piece-clause-printable : goal.returns-in-Some-first_bad_piece-clause-printable
-returns-in-Some-first_bad_piece-clause-printable g c = IsUtf8-bad (returns-in-Some-first_bad_piece-clause-refused g c)
+returns-in-Some-first_bad_piece-clause-printable g c = IsUtf8-bad (returns-in-Some-first_bad_piece-clause-rejected g c)
 
-pub returns-in-None-clause-refused : goal.returns-in-None-clause-refused
-returns-in-None-clause-refused g c =
+pub returns-in-None-clause-rejected : goal.returns-in-None-clause-rejected
+returns-in-None-clause-rejected g c =
     let version = g.V.Components.version in
-    IsFirstOfPieces-fault version g.met.V.Components.version_laws (pieces c.args.text.now) _ c.loop-rest.vector c.loop-rest.invariant.0 c.in-Some.rest.now c.in-Some.ensures c.in-None.ensures (reason_of version c.in-Err.fault) c.in-Err.ensures.refused
+    IsFirstOfPieces-fault version g.met.V.Components.version_laws (pieces c.args.text.now) _ c.loop-rest.vector c.loop-rest.invariant.0 c.in-Some.rest.now c.in-Some.ensures c.in-None.ensures (reason_of version c.in-Err.fault) c.in-Err.ensures.rejected
 
 pub returns-in-None-clause-printable : goal.returns-in-None-clause-printable
 returns-in-None-clause-printable g c = λ is.

@@ -3,7 +3,7 @@ use Rattle.cvss_vector.proofs.ReadLemmas.{IsPublishedBy-read}
 use Rattle.cvss_vector.proofs.answering.answer_rest.Goals as goal
 
 pub reject-requires : goal.reject-requires
-reject-requires g c = inl (c.reads_by_its_rules.ensures.read.refused c.in-Err.fault c.read_text.new.vector _ c.in-Err.ensures c.of_version.ensures).refused
+reject-requires g c = inl (c.reads_by_its_rules.ensures.read.rejected c.in-Err.fault c.read_text.new.vector _ c.in-Err.ensures c.of_version.ensures).rejected
 
 pub reject-requires-in-Some : goal.reject-requires-in-Some
 reject-requires-in-Some g c =

@@ -20,7 +20,7 @@ returns g c = λ allow_incomplete.
     let vector = c.in_ok-vector.vector in
     let whole = c.in_ok-vector.ensures.whole in
     let cut = c.requires.cut ∙ ap (λ front. front ++ pieces components) (sym empty.ensures.front) in
-    let is : IsPublished g.T.Told.scoring c.join-cvss.result (record { tenths = c.tenths.result; bounds = c.bounds.result }) = record { scored = c.tenths.ensures.value; rated = c.bounds.ensures; to_ten = c.tenths.ensures.bound } in
+    let is : IsPublished g.T.ReportedScore.scoring c.join-cvss.result (record { tenths = c.tenths.result; bounds = c.bounds.result }) = record { scored = c.tenths.ensures.value; rated = c.bounds.ensures; to_ten = c.tenths.ensures.bound } in
     IsPublishedBy-read allow_incomplete (rules.read.accepted tt vector (IsReadLeft-whole version version_laws vector components _ whole empty.result refl))
     (canonical_whole version version_laws vector components _ whole c.args.text.now cut ∙ sym (rules.text vector)) (rw c.join-cvss.ensures at is)
     (rules.complete allow_incomplete vector c.in_ok-vector.ensures.base)

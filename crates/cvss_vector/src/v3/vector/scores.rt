@@ -6,7 +6,7 @@ ghost use Rattle.cvss_base.specs.Tenths.{IsInTenths, IsFromZeroToTen};
 ghost use Rattle.cvss_score.specs.v3.Certainty.{IsCertain};
 ghost use Rattle.cvss_score.specs.v3.Scores.{iss, impact, modified_impact, exploitability, base_number, environmental_number, IsBaseScore, IsTemporalScore, IsEnvironmentalScore};
 ghost use Rattle.cvss_vector.specs.v3.VectorWeights.{weights_of};
-ghost use Rattle.cvss_base.specs.Rating.{rating_of_score};
+ghost use Rattle.cvss_base.specs.SeverityScale.{severity_of_score};
 
 use crate::v3::vector::Vector;
 use cvss_base::Severity;
@@ -122,7 +122,7 @@ impl Vector {
     /// The rating of the base score (v3.1 specification, section 5).
     pub fn severity(&self) -> Severity
         ensures { (count : ℤ) → IsBaseScore self.now.minor_version (weights_of self.now) count
-            → result ≡ rating_of_score count }
+            → result ≡ severity_of_score count }
     {
         self.base_score().severity()
     }

@@ -2,7 +2,7 @@
 
 ghost use Rattle.std.specs.Prelude.{◌≡◌, ℕ, Some};
 ghost use Rattle.cvss_vector.specs.v4.Overriding.{Objection, ReportsObjection};
-ghost use Rattle.cvss_base.specs.Refusal.{Refusal};
+ghost use Rattle.cvss_base.specs.Rejection.{Rejection};
 ghost use Rattle.cvss_base.specs.Reported.{Reports};
 ghost use Rattle.cvss_base.specs.V4Types.{v4_reason};
 ghost use Rattle.cvss_base.specs.declared.v4.MetricType.{MetricType};
@@ -17,20 +17,20 @@ use std::fmt;
 /// Why texts get no rows. Places are counted from 0.
 #[derive(Clone, Debug, Drop, PartialEq, Eq)]
 pub enum TriageError {
-    /// The override at this place is refused as a component of a vector is.
+    /// The override at this place is rejected as a component of a vector is.
     Override { index: usize, error: Error },
     /// The override at this place is a metric that is not environmental.
     NotEnvironmental { index: usize },
     /// The text at this place is no vector.
     Text { index: usize, error: Error },
-    /// There was no memory for the rows, or for the text of a refusal.
+    /// There was no memory for the rows, or for the text of a rejection.
     OutOfMemory,
 }
 
 impl TriageError {
-    /// The error that the text at this place is refused.
+    /// The error that the text at this place is rejected.
     pub(crate) fn of_text(index: usize, error: Error) -> TriageError
-        ensures { (reason : Refusal MetricType) → Reports v4_reason reason error
+        ensures { (reason : Rejection MetricType) → Reports v4_reason reason error
             → ReportsFault (InText index reason) result }
     {
         match error {
@@ -41,17 +41,17 @@ impl TriageError {
 }
 
 impl From<OverrideError> for TriageError {
-    ghost from_gives = { λ refused reported. (place : ℕ) (objection : Objection)
-        → ReportsObjection place objection refused → ReportsFault (InOverride place objection) reported };
+    ghost from_gives = { λ rejected reported. (place : ℕ) (objection : Objection)
+        → ReportsObjection place objection rejected → ReportsFault (InOverride place objection) reported };
 
-    fn from(refused: OverrideError) -> Self {
-        match refused {
+    fn from(rejected: OverrideError) -> Self {
+        match rejected {
             OverrideError::NotEnvironmental { index } => TriageError::NotEnvironmental { index },
-            OverrideError::Refused {
+            OverrideError::Rejected {
                 error: Error::OutOfMemory,
                 ..
             } => TriageError::OutOfMemory,
-            OverrideError::Refused { index, error } => TriageError::Override { index, error },
+            OverrideError::Rejected { index, error } => TriageError::Override { index, error },
         }
     }
 }

@@ -2,9 +2,9 @@
 
 ghost use Rattle.std.specs.Prelude.{◌≡◌, ◌⊎◌, ℕ, IfOk, IfErr, OnOk, IsErrAnd, length, map};
 ghost use Rattle.cvss_base.specs.declared.v4.MetricType.{MetricType};
-ghost use Rattle.cvss_base.specs.Refusal.{Refusal};
+ghost use Rattle.cvss_base.specs.Rejection.{Rejection};
 ghost use Rattle.cvss_vector.specs.v4.Triage.{AreRanked, AreRows};
-ghost use Rattle.cvss_vector.specs.v4.TriageFaults.{Fault, InText, IsFirstFault, IsFirstRefused, HasNoRefusalBefore, ReportsFault, ReportsFirstFault, ReportsFirstRefused};
+ghost use Rattle.cvss_vector.specs.v4.TriageFaults.{Fault, InText, IsFirstFault, IsFirstRejected, HasNoRejectionBefore, ReportsFault, ReportsFirstFault, ReportsFirstRejected};
 ghost use Rattle.cvss_vector.specs.declared.v4.triage.error.TriageError.TheVariants.{OutOfMemory};
 
 use crate::v4::Vector;
@@ -20,18 +20,18 @@ use std::alloc::Global;
 ///
 /// # Errors
 ///
-/// The first override that is refused, by place, or else the first text that is; `OutOfMemory`
+/// The first override that is rejected, by place, or else the first text that is; `OutOfMemory`
 /// where a growth was refused.
 pub fn apply(alloc: Global, texts: &[&str], overrides: &[&str]) -> Result<Vec<Row>, TriageError>
     // Accepted: one row for each text, in order.
     ensures ranked { IfOk result (λ rows. AreRanked (map (λ text. text.now) texts.now)
         (map (λ text. text.now) overrides.now) rows.items) }
-    // Refused: for the first fault, and wherever there is one. Memory is the answer to a fault of
+    // Rejected: for the first fault, and wherever there is one. Memory is the answer to a fault of
     // an override only where the reason carries text.
-    ensures refused { IfErr result (λ reported. (reported ≡ OutOfMemory)
+    ensures rejected { IfErr result (λ reported. (reported ≡ OutOfMemory)
         ⊎ ReportsFirstFault (map (λ text. text.now) texts.now)
         (map (λ text. text.now) overrides.now) reported) }
-    ensures refuses { (fault : Fault)
+    ensures rejects { (fault : Fault)
         → IsFirstFault (map (λ text. text.now) texts.now)
         (map (λ text. text.now) overrides.now) fault
         → IsErrAnd result (ReportsFault fault) }
@@ -46,12 +46,12 @@ pub fn apply(alloc: Global, texts: &[&str], overrides: &[&str]) -> Result<Vec<Ro
 fn rows_of(alloc: Global, texts: &[&str], overrides: &Vector) -> Result<Vec<Row>, TriageError>
     ensures rows { IfOk result (λ rows.
         AreRows overrides.now (map (λ text. text.now) texts.now) rows.items) }
-    ensures unrefused { OnOk result (HasNoRefusalBefore (map (λ text. text.now) texts.now)
+    ensures unrejected { OnOk result (HasNoRejectionBefore (map (λ text. text.now) texts.now)
         (length (map (λ text. text.now) texts.now))) }
-    ensures refused { IfErr result (λ reported. (reported ≡ OutOfMemory)
-        ⊎ ReportsFirstRefused (map (λ text. text.now) texts.now) reported) }
-    ensures refuses { (place : ℕ) (reason : Refusal MetricType)
-        → IsFirstRefused (map (λ text. text.now) texts.now) place reason
+    ensures rejected { IfErr result (λ reported. (reported ≡ OutOfMemory)
+        ⊎ ReportsFirstRejected (map (λ text. text.now) texts.now) reported) }
+    ensures rejects { (place : ℕ) (reason : Rejection MetricType)
+        → IsFirstRejected (map (λ text. text.now) texts.now) place reason
         → IsErrAnd result (ReportsFault (InText place reason)) }
 {
     let mut rows = Vec::with_capacity(alloc, texts.len())?;

@@ -1,7 +1,7 @@
 //! What triage says of one text.
 
 ghost use Rattle.std.specs.Prelude.{◌≡◌, IfOk, string_bytes};
-ghost use Rattle.cvss_base.specs.Rating.{rating_of_score};
+ghost use Rattle.cvss_base.specs.SeverityScale.{severity_of_score};
 ghost use Rattle.cvss_vector.specs.v4.Vector.{v4};
 ghost use Rattle.cvss_base.specs.Version.{IsComplete};
 
@@ -38,7 +38,7 @@ impl Row {
 
     /// The rating of the score (v4.0 specification, section 6).
     pub fn severity(&self) -> Severity
-        ensures { result ≡ rating_of_score self.now.score }
+        ensures { result ≡ severity_of_score self.now.score }
     {
         Score::new(self.score, Nomenclature::CvssBE).severity()
     }

@@ -4,7 +4,7 @@ ghost use Rattle.std.specs.Prelude.{◌≡◌, Some, IfOk, IfErr, OnOk, IsOk, Is
 ghost use Rattle.cvss_vector.specs.v4.Overriding.{AreOverrides, Objection, HasNoObjectionBefore, IsFirstObjection, ReportsObjection, ReportsFirstObjection, override_error_text};
 ghost use Rattle.cvss_vector.specs.v4.private.OverridingSteps.{IsPrintableFault, objection_of};
 
-use crate::refusing::error_of_version;
+use crate::rejecting::error_of_version;
 use crate::v4::overrides::{OverrideFault, read_overrides};
 use crate::v4::vector::Vector;
 use cvss_base::Error;
@@ -16,8 +16,8 @@ use std::fmt;
 pub enum OverrideError {
     /// The metric at this place is of another group.
     NotEnvironmental { index: usize },
-    /// The text at this place is refused as a component of a vector is.
-    Refused { index: usize, error: Error },
+    /// The text at this place is rejected as a component of a vector is.
+    Rejected { index: usize, error: Error },
 }
 
 impl fmt::Display for OverrideError {
@@ -28,7 +28,7 @@ impl fmt::Display for OverrideError {
             OverrideError::NotEnvironmental { index } => {
                 write!(f, "override {index}: no environmental CVSSv4 metric")
             }
-            OverrideError::Refused { index, error } => write!(f, "override {index}: {error}"),
+            OverrideError::Rejected { index, error } => write!(f, "override {index}: {error}"),
         }
     }
 }
@@ -57,10 +57,10 @@ impl Vector {
         ensures faultless { OnOk result
             (HasNoObjectionBefore (map (λ text. text.now) overrides.now)
             (length (map (λ text. text.now) overrides.now))) }
-        // Refused: the first text with which something is wrong, and wherever there is one.
-        ensures refused { IfErr result
+        // Rejected: the first text with which something is wrong, and wherever there is one.
+        ensures rejected { IfErr result
             (ReportsFirstObjection (map (λ text. text.now) overrides.now)) }
-        ensures refuses { (place : ℕ) (objection : Objection)
+        ensures rejects { (place : ℕ) (objection : Objection)
             → IsFirstObjection (map (λ text. text.now) overrides.now) place objection
             → IsErrAnd result (ReportsObjection place objection) }
     {
@@ -78,7 +78,7 @@ fn reported(alloc: Global, index: usize, fault: OverrideFault<'_>) -> OverrideEr
 {
     match fault {
         OverrideFault::OtherGroup => OverrideError::NotEnvironmental { index },
-        OverrideFault::Component(fault) => OverrideError::Refused {
+        OverrideFault::Component(fault) => OverrideError::Rejected {
             index,
             error: error_of_version::<Vector>(alloc, fault),
         },

@@ -68,7 +68,7 @@ impl fmt::Display for Vector {
     }
 }
 
-// The text tells more than the places of the values.
+// The text reports more than the places of the values.
 impl fmt::Debug for Vector {
     ghost debug_output = { λ vector. Some (canonical_text v4 vector) };
 

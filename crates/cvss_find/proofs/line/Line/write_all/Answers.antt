@@ -1,16 +1,16 @@
-use Rattle.cvss_scan.specs.MentionsLeft.{as_placed, mentions_left}
+use Rattle.cvss_scan.specs.CandidatesLeft.{as_placed, candidates_left}
 use Rattle.cvss_find.proofs.ReportingLemmas.{Reports-next, Reports-start, shown_all}
 use Rattle.cvss_find.specs.private.Reporting.{asked_of}
 use Rattle.cvss_find.proofs.line.Line.write_all.Goals as goal
 
-pub loop-mention-init : goal.loop-mention-init
-loop-mention-init c = Reports-start (asked_of c.args.self) c.args.answers.now.bytes.items (mentions_left c.of-mentions.result) c.of-mentions.ensures
+pub loop-candidate-init : goal.loop-candidate-init
+loop-candidate-init c = Reports-start (asked_of c.args.self) c.args.answers.now.bytes.items (candidates_left c.of-candidates.result) c.of-candidates.ensures
 
-pub loop-mention-preserved : goal.loop-mention-preserved
-loop-mention-preserved c =
-    Reports-next (asked_of c.args.self) (mentions_left c.loop-mention.mentions) _ (as_placed c.in-Some.mention)
-    c.args.answers.now.bytes.items c.loop-mention.answers.bytes.items _ c.loop-mention.accepted _
-    c.loop-mention.invariant c.in-Some.ensures.steps c.in_ok-accepted.ensures
+pub loop-candidate-preserved : goal.loop-candidate-preserved
+loop-candidate-preserved c =
+    Reports-next (asked_of c.args.self) (candidates_left c.loop-candidate.candidates) _ (as_placed c.in-Some.candidate)
+    c.args.answers.now.bytes.items c.loop-candidate.answers.bytes.items _ c.loop-candidate.accepted _
+    c.loop-candidate.invariant c.in-Some.ensures.steps c.in_ok-accepted.ensures
 
 pub returns : goal.returns
-returns c = shown_all (asked_of c.args.self) (mentions_left c.loop-mention.mentions) _ _ c.loop-mention.accepted c.loop-mention.invariant c.in_default.ensures.steps
+returns c = shown_all (asked_of c.args.self) (candidates_left c.loop-candidate.candidates) _ _ c.loop-candidate.accepted c.loop-candidate.invariant c.in_default.ensures.steps

@@ -1,17 +1,17 @@
 use Rattle.std.proofs.Common.{subst}
 use Rattle.std.proofs.lemmas.Result.{IfOk-weaker}
-use Rattle.cvss_scan.specs.MentionsLeft.{IsFirstFound, NoneFound, as_placed, mentions_left}
+use Rattle.cvss_scan.specs.CandidatesLeft.{IsFirstFound, NoneFound, as_placed, candidates_left}
 use Rattle.cvss_find.proofs.ReportingLemmas.{shown_first, shown_none}
 use Rattle.cvss_find.specs.private.Reporting.{asked_of}
 use Rattle.cvss_find.proofs.line.Line.write_first.Goals as goal
 
 pub returns-in-Some : goal.returns-in-Some
 returns-in-Some c =
-    let mention = as_placed c.in-Some.mention in
-    let left = mentions_left c.next.new.self in
+    let candidate = as_placed c.in-Some.candidate in
+    let left = candidates_left c.next.new.self in
     IfOk-weaker c.report.result _ _
-    (λ accepted written. shown_first (asked_of c.args.self) mention left c.args.answers.now.bytes.items _ accepted
-    (subst (λ mentions. IsFirstFound mentions mention left) c.of.ensures c.in-Some.ensures.steps) written)
+    (λ accepted written. shown_first (asked_of c.args.self) candidate left c.args.answers.now.bytes.items _ accepted
+    (subst (λ candidates. IsFirstFound candidates candidate left) c.of.ensures c.in-Some.ensures.steps) written)
     c.report.ensures
 
 pub returns-in-None : goal.returns-in-None

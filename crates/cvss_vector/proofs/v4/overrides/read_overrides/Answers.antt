@@ -10,16 +10,16 @@ pub loop-cut-preserved : goal.loop-cut-preserved
 loop-cut-preserved g c =
     HasReadOverrides-more (g.T.Texts.texts c.args.texts) _ c.loop-cut.given c.loop-cut.invariant c.in-Some.cut.0.now _ c.in-Some.ensures.cut c.read_override.new.given c.in_default-read_override.ensures.read
 
-pub returns-in-Err-clause-refused : goal.returns-in-Err-clause-refused
-returns-in-Err-clause-refused g c =
+pub returns-in-Err-clause-rejected : goal.returns-in-Err-clause-rejected
+returns-in-Err-clause-rejected g c =
     let texts = g.T.Texts.texts c.args.texts in
     let read = c.loop-cut.invariant.read in
     IsFirstObjection-next texts _ c.loop-cut.given c.loop-cut.invariant c.in-Some.cut.0.now _ c.in-Some.ensures.cut _
     (omega (arith, c.count.ensures, c.count-in-Err.ensures, ap length read.cut, length-append read.before (g.T.Texts.texts c.loop-cut.left)))
-    (objection_of c.in-Err.fault) c.in-Err.ensures.refused
+    (objection_of c.in-Err.fault) c.in-Err.ensures.rejected
 
 pub returns-in-Err-clause-accepts : goal.returns-in-Err-clause-accepts
-returns-in-Err-clause-accepts g c = λ vector are. absurd (no_overrides _ _ _ (returns-in-Err-clause-refused g c) vector are)
+returns-in-Err-clause-accepts g c = λ vector are. absurd (no_overrides _ _ _ (returns-in-Err-clause-rejected g c) vector are)
 
 pub returns-clause-accepted : goal.returns-clause-accepted
 returns-clause-accepted g c = AreOverrides-all (g.T.Texts.texts c.args.texts) _ c.loop-cut.given c.loop-cut.invariant c.in_default.ensures.cut

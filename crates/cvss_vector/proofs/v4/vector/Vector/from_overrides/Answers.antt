@@ -12,10 +12,10 @@ returns-in-Ok-clause-given c = λ vector are version.
 
 pub returns-in-Err-clause-given : goal.returns-in-Err-clause-given
 returns-in-Err-clause-given c = λ vector are version.
-    let is = c.in-Err.ensures.refused in
+    let is = c.in-Err.ensures.rejected in
     absurd ((no_objection_held _ vector are).none c.in-Err.index _ is.within is.is)
 
-pub returns-in-Err-clause-refuses : goal.returns-in-Err-clause-refuses
-returns-in-Err-clause-refuses c = λ place objection is.
-    let same = first_objections_same _ c.in-Err.index place (objection_of c.in-Err.fault) objection c.in-Err.ensures.refused is in
+pub returns-in-Err-clause-rejects : goal.returns-in-Err-clause-rejects
+returns-in-Err-clause-rejects c = λ place objection is.
+    let same = first_objections_same _ c.in-Err.index place (objection_of c.in-Err.fault) objection c.in-Err.ensures.rejected is in
     subst (λ each. ReportsObjection each objection c.reported.result) same.0 (subst (λ each. ReportsObjection c.in-Err.index each c.reported.result) same.1 c.reported.ensures)
