@@ -38,7 +38,7 @@ def counts():
     yield "docs/ARCHITECTURE.md", r"these (\S+) functions as a static library", [functions]
     yield "docs/BINDINGS.md", r"a static library of (\S+) functions", [functions]
     yield ("docs/BINDINGS.md", r"(?s)each of the (\S+) stored lines .* each of (\S+) texts .* explanations of (\S+) vectors",
-           [lines(f"bindings/stored/{name}") for name in ("facts", "texts", "explanations")])
+           [lines(f"tests/stored/{name}") for name in ("facts", "texts", "explanations")])
     yield "conformance/README.md", r"^(\S+) texts with exact answers", [sum(rows for rows, _ in kit.values())]
     for name, counted in kit.items():
         yield "conformance/README.md", rf"^\| `{name}` \| (\S+) \| (\S+) \|", list(counted)

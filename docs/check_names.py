@@ -20,7 +20,7 @@ from check_shelves import pages
 ROOT = Path(__file__).resolve().parent.parent
 DOCUMENTS = [*(ROOT / f"{name}.md" for name in ("README", "CONTRIBUTING", "SECURITY", "CHANGELOG")),
              *sorted((ROOT / "docs").glob("*.md")), ROOT / "conformance/README.md", ROOT / "bindings/python/README.md",
-             ROOT / "bindings/js/README.md"]
+             ROOT / "bindings/js/README.md", *sorted((ROOT / "tests").glob("**/README.md"))]
 # not in a checkout: what builds make, and the crate that another repository is shown to add
 ELSEWHERE = re.compile(r"(^|/)(out|target)(/|$)|^crates/gate(/|$)")
 # proved callers and tests, of which the library promises nothing
@@ -28,7 +28,7 @@ WITHOUT_PROMISES = {"cvss_examples", "cvss_tests"}
 
 LINK = re.compile(r"\]\((?!https?:|#)([^)#]+)")
 SECTION = re.compile(r'\]\((?!https?:)([^)#]+)\), "([^"]+)"')
-PATH = re.compile(r"(?<![\w/.$<-])(?:crates|reference|bench|bindings|conformance|docs|examples)/(?:[\w./{},-]|\*(?!\*))*[\w/}*]")
+PATH = re.compile(r"(?<![\w/.$<-])(?:crates|reference|bench|bindings|conformance|docs|examples|release|tests)/(?:[\w./{},-]|\*(?!\*))*[\w/}*]")
 FILE = re.compile(r"`((?:[\w*.-]+/)*[\w*-]+\.(?:antt|rt|py|sh|md|svg|txt|tsv|rs|h|c|go|edit))`")
 PAGE = r"(?:(?:laws|private|v[234])/)?[A-Z]\w*"
 PAGES = rf"({PAGE}(?:\.antt)?(?:(?:,| and) {PAGE})*)"

@@ -51,7 +51,7 @@ def differences(made, dist):
 def main():
     made, dist = map(Path, sys.argv[1:3])
     if not dist.is_dir():
-        sys.exit("dist/ is missing: run ./package and commit dist/")
+        sys.exit("dist/ is missing: run release/package and commit dist/")
     found = list(differences(made, dist))
     size = sum(map(len, kept(made).values()))
     if size > LARGEST:
@@ -63,7 +63,7 @@ def main():
         print(f"dist/ was made with other tools ({others}): of {count} compiled files the bytes are not compared")
         return
     if found:
-        sys.exit("\n".join([*found, "dist/ is not what these sources build: run ./package and commit dist/"]))
+        sys.exit("\n".join([*found, "dist/ is not what these sources build: run release/package and commit dist/"]))
     print(f"dist/ is what these sources build: {len(kept(made))} files, {size} bytes")
 
 

@@ -1,6 +1,6 @@
 /*
  * Sets metrics in vectors, makes vectors of metrics and scores vectors by nomenclature, as each row of standard input
- * asks. bindings/sql/expected.py writes such rows with what is expected. Exits with 0 if all results are these.
+ * asks. tests/stored/expected.py writes such rows with what is expected. Exits with 0 if all results are these.
  */
 #define _POSIX_C_SOURCE 200809L
 #include "cvss.h"

@@ -1,5 +1,5 @@
 /*
- * Prints the facts of each line of standard input, as bindings/stored/facts.py does. Ends with status 3 where another function
+ * Prints the facts of each line of standard input, as tests/stored/facts.py does. Ends with status 3 where another function
  * disagrees with cvss_parse, or something is written that must be left as it was.
  */
 #define _POSIX_C_SOURCE 200809L

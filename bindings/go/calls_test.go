@@ -14,7 +14,7 @@ import (
 
 var escape = regexp.MustCompile(`\\x(..)`)
 
-// unescaped is a column of a row that bindings/sql/expected.py has written; "-" if there is none.
+// unescaped is a column of a row that tests/stored/expected.py has written; "-" if there is none.
 func unescaped(column string) string {
 	if column == `\N` {
 		return "-"
@@ -59,12 +59,12 @@ func completed(own [2]string) [2]string {
 	return own
 }
 
-// rows are those of bindings/stored/calls, or of the file that the variable CVSS_ROWS names.
+// rows are those of tests/stored/calls, or of the file that the variable CVSS_ROWS names.
 func rows(t *testing.T) [][]string {
 	t.Helper()
 	path := os.Getenv("CVSS_ROWS")
 	if path == "" {
-		path = "../stored/calls"
+		path = "../../tests/stored/calls"
 	}
 	text, err := os.ReadFile(path)
 	if err != nil {

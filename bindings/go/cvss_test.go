@@ -27,7 +27,7 @@ func lines(t *testing.T, path string) []string {
 func storedLines(t *testing.T, name string) []string {
 	t.Helper()
 	stored := lines(t, "crates/test_vectors/"+name)
-	count := len(lines(t, "bindings/stored/facts"))
+	count := len(lines(t, "tests/stored/facts"))
 	if len(stored) < count {
 		t.Fatalf("%d lines in %s, and %d facts", len(stored), name, count)
 	}
@@ -46,7 +46,7 @@ func scored(score cvss.Score, isScored bool, severity cvss.Severity, hasSeverity
 
 var allNomenclatures = []cvss.Nomenclature{cvss.B, cvss.BE, cvss.BT, cvss.BTE}
 
-// scoresOf are the facts of bindings/stored/facts about scores.
+// scoresOf are the facts of tests/stored/facts about scores.
 func scoresOf(vector cvss.Vector) []string {
 	temporal, hasTemporal := vector.TemporalScore()
 	temporalSeverity, hasTemporalSeverity := vector.TemporalSeverity()
@@ -77,7 +77,7 @@ func orDash(text string) string {
 	return text
 }
 
-// facts are what is known of a text, as bindings/stored/facts.py prints it.
+// facts are what is known of a text, as tests/stored/facts.py prints it.
 func facts(text string, parse func(string) (cvss.Vector, error)) string {
 	vector, err := parse(text)
 	var rejected *cvss.ParseError
@@ -99,7 +99,7 @@ func facts(text string, parse func(string) (cvss.Vector, error)) string {
 // The errors of the incomplete vectors of v3 were written by hand. Parse rejects these and no others that ParseIncomplete
 // accepts.
 func TestIncompleteVectorsAreRejected(t *testing.T) {
-	for _, row := range lines(t, "bindings/stored/incomplete") {
+	for _, row := range lines(t, "tests/stored/incomplete") {
 		text, expected, _ := strings.Cut(row, " ")
 		if got := facts(text, cvss.Parse); got != expected {
 			t.Errorf("%q: %q, and not %q", text, got, expected)
@@ -182,8 +182,8 @@ func TestAnIncompleteVectorCanBeUsed(t *testing.T) {
 
 // The facts and the lines are those of the second implementation in reference/.
 func TestStoredLines(t *testing.T) {
-	expected := lines(t, "bindings/stored/facts")
-	scoreLines := lines(t, "bindings/stored/score_lines")
+	expected := lines(t, "tests/stored/facts")
+	scoreLines := lines(t, "tests/stored/score_lines")
 	given := storedLines(t, "stdin")
 	if len(scoreLines) != len(given) {
 		t.Fatalf("%d lines of %d", len(scoreLines), len(given))
@@ -212,9 +212,9 @@ func TestStoredLines(t *testing.T) {
 
 // A line of an incomplete vector has its score if that is allowed, and other lines are the same.
 func TestStoredLinesMayBeIncomplete(t *testing.T) {
-	scoreLines, given := lines(t, "bindings/stored/score_lines"), storedLines(t, "stdin")
+	scoreLines, given := lines(t, "tests/stored/score_lines"), storedLines(t, "stdin")
 	all := strings.Split(string(cvss.ScoreLinesIncomplete([]byte(strings.Join(given, "\n")+"\n"))), "\n")
-	for i, row := range lines(t, "bindings/stored/facts") {
+	for i, row := range lines(t, "tests/stored/facts") {
 		expected := scoreLines[i]
 		if words := strings.Split(row, " "); len(words) > 5 && words[3] == "incomplete" {
 			expected = strings.Join([]string{words[0], words[4], words[5]}, " ")
@@ -300,7 +300,7 @@ func TestAnEmptyTextIsRejected(t *testing.T) {
 
 // The records were written by hand from FIRST's JSON schemas.
 func TestRecords(t *testing.T) {
-	for _, record := range lines(t, "bindings/stored/records") {
+	for _, record := range lines(t, "tests/stored/records") {
 		var members struct{ VectorString string }
 		if err := json.Unmarshal([]byte(record), &members); err != nil {
 			t.Fatal(err)
@@ -314,7 +314,7 @@ func TestRecords(t *testing.T) {
 
 // The explanations are those of the second implementation in reference/, where no number has more than seven decimals.
 func TestExplanations(t *testing.T) {
-	for _, explanation := range lines(t, "bindings/stored/explanations") {
+	for _, explanation := range lines(t, "tests/stored/explanations") {
 		var members struct{ Vector string }
 		if err := json.Unmarshal([]byte(explanation), &members); err != nil {
 			t.Fatal(err)

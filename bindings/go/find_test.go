@@ -21,7 +21,7 @@ func report(line int, match cvss.Match) string {
 // The matches in the stored texts are those of the second implementation in reference/.
 func TestStoredTextsHaveTheirMatches(t *testing.T) {
 	var reports []string
-	for i, text := range lines(t, "bindings/stored/texts") {
+	for i, text := range lines(t, "tests/stored/texts") {
 		incomplete := cvss.FindIncomplete([]byte(text))
 		for j, match := range cvss.Find([]byte(text)) {
 			if !strings.HasPrefix(text[match.Offset:], match.Text) {
@@ -37,7 +37,7 @@ func TestStoredTextsHaveTheirMatches(t *testing.T) {
 			}
 		}
 	}
-	expected := lines(t, "bindings/stored/found")
+	expected := lines(t, "tests/stored/found")
 	for i := range expected {
 		if i >= len(reports) || reports[i] != expected[i] {
 			t.Fatalf("%q is not among the matches", expected[i])

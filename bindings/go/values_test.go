@@ -10,7 +10,7 @@ import (
 
 // The version, nomenclature, score and metrics of each stored line are those of the second implementation in reference/.
 func TestTextsHaveTheirValues(t *testing.T) {
-	facts := lines(t, "bindings/stored/facts")
+	facts := lines(t, "tests/stored/facts")
 	for i, text := range storedLines(t, "stdin") {
 		values, ok := cvss.ValuesOfIncomplete(text)
 		score, isScored := cvss.ScoreOfIncomplete(text)

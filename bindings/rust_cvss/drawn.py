@@ -13,7 +13,7 @@ from pathlib import Path
 
 ROOT = Path(__file__).resolve().parents[2]
 sys.dont_write_bytecode = True  # leaves nothing in the tree
-sys.path[:0] = [str(ROOT / folder) for folder in ("reference", "bench/inputs", "bindings/sql")]
+sys.path[:0] = [str(ROOT / folder) for folder in ("reference", "tests/inputs")]
 
 import drawing
 import lines

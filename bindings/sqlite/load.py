@@ -12,7 +12,7 @@ from pathlib import Path
 
 ROOT = Path(__file__).resolve().parents[2]
 sys.dont_write_bytecode = True  # leaves nothing in the tree
-sys.path.insert(0, str(ROOT / "bindings" / "sql"))
+sys.path.insert(0, str(ROOT / "tests" / "stored"))
 
 from expected import COLUMNS, GIVEN, SCORES, columns_of, is_utf8
 

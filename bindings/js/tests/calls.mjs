@@ -114,7 +114,7 @@ function checkMarks() {
   console.log(`JavaScript: ${compared} rows about calls, 0 wrong answers`);
 }
 
-// A column of a row that bindings/sql/expected.py has written, as bytes; null where there is none.
+// A column of a row that tests/stored/expected.py has written, as bytes; null where there is none.
 function unescaped(column) {
   if (column === "\\N") return null;
   return Buffer.from(column.replace(/\\x(..)/g, (_, code) => String.fromCharCode(parseInt(code, 16))), "latin1");
@@ -133,7 +133,7 @@ function outcome(make) {
 // Metrics that are set, vectors that are made of metrics, what errors quote, and the four scores of v4.0, beside the second
 // implementation. The variable CVSS_ROWS names a file with other rows.
 function checkCalls() {
-  const rows = textsOf(process.env.CVSS_ROWS ?? "bindings/stored/calls");
+  const rows = textsOf(process.env.CVSS_ROWS ?? "tests/stored/calls");
   let compared = 0;
   for (const row of rows) {
     const [text, metrics, asked, components, ...columns] = row.split("\t").map(unescaped);

@@ -26,14 +26,14 @@ export function linesOf(path) {
 }
 
 export const textsOf = (path) => linesOf(path).map(String);
-export const facts = textsOf("bindings/stored/facts");
+export const facts = textsOf("tests/stored/facts");
 // the stored lines without a mark, which are the first
 export const stored = linesOf("crates/test_vectors/stdin").slice(0, facts.length);
 export const vectors = stored.map((line) => Vector.parse(line, INCOMPLETE)).flatMap(({ ok, vector }) => (ok ? [vector] : []));
 
 const scored = (number, severity) => (number === null ? "- -" : `${number.toFixed(1)} ${severity}`);
 
-// What is known of a text, as bindings/stored/facts.py prints it.
+// What is known of a text, as tests/stored/facts.py prints it.
 export function factsOf(text, options) {
   const { ok, vector, error } = Vector.parse(text, options);
   if (!ok) return `${KINDS.indexOf(error.kind)} ${error.metric ?? "-"} ${error.message}`;

@@ -12,7 +12,7 @@ const lineOfMatch = ({ vector, error }) =>
 
 function checkStoredTexts() {
   const byBytes = [];
-  const texts = linesOf("bindings/stored/texts");
+  const texts = linesOf("tests/stored/texts");
   texts.forEach((line, row) => {
     const matches = [...find(line)];
     for (const each of matches) {
@@ -28,7 +28,7 @@ function checkStoredTexts() {
     assert.deepEqual(all.map(({ index, text: own }) => [index, own]), matches.map(({ index, text: own }) => [index, own]));
     all.forEach((each) => assert.equal(lineOfMatch(each), scoreLine(each.text, INCOMPLETE)));
   });
-  assert.deepEqual(byBytes, textsOf("bindings/stored/found"));
+  assert.deepEqual(byBytes, textsOf("tests/stored/found"));
   console.log(`JavaScript: ${texts.length} texts, ${byBytes.length} matches, 0 wrong answers`);
 }
 

@@ -8,7 +8,7 @@ import { Vector, find, metrics, score, scoreLine, severityOf } from "cvss-proved
 import { INCOMPLETE, facts, factsOf, isIncomplete, scoreLineOf, stored, textsOf, vectors } from "./common.mjs";
 
 function checkStoredLines() {
-  const lines = textsOf("bindings/stored/score_lines");
+  const lines = textsOf("tests/stored/score_lines");
   const ported = textsOf("crates/test_vectors/stdout").slice(0, facts.length);
   assert.equal(lines.length, facts.length);
   stored.forEach((line, index) => {
@@ -52,7 +52,7 @@ function checkNames(vector, number) {
 // Each call that reads a text or metrics rejects incomplete vectors of v3, in words that were written by hand, and no others;
 // and accepts them if it is asked to.
 function checkIncomplete() {
-  const rows = textsOf("bindings/stored/incomplete").map((line) => line.split(/ (.*)/s));
+  const rows = textsOf("tests/stored/incomplete").map((line) => line.split(/ (.*)/s));
   const messages = {};
   for (const [text, rejection] of rows) {
     const [, , metric, message] = /^(7) (\S+) (.*)$/.exec(rejection);
@@ -84,10 +84,10 @@ function checkIncomplete() {
 }
 
 function checkRecords() {
-  for (const line of textsOf("bindings/stored/records")) {
+  for (const line of textsOf("tests/stored/records")) {
     assert.deepEqual(new Vector(JSON.parse(line).vectorString, INCOMPLETE).record(), JSON.parse(line));
   }
-  const explanations = textsOf("bindings/stored/explanations");
+  const explanations = textsOf("tests/stored/explanations");
   for (const line of explanations) assert.deepEqual(new Vector(JSON.parse(line).vector, INCOMPLETE).explain(), JSON.parse(line));
   for (const vector of vectors) {
     const record = vector.record();

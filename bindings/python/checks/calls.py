@@ -21,7 +21,7 @@ def mapping_of(given: bytes) -> Optional[Dict[str, str]]:
 
 
 def unescaped(column: bytes) -> Optional[bytes]:
-    """A column of a row that bindings/sql/expected.py has written."""
+    """A column of a row that tests/stored/expected.py has written."""
     return None if column == b"\\N" else re.sub(rb"\\x(..)", lambda found: bytes([int(found[1], 16)]), column)
 
 

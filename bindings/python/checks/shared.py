@@ -11,7 +11,7 @@ from typing import Any, Callable, Dict, List, Optional, Set, Tuple, Type, TypeVa
 from cvss_proved import CvssError, Text, Vector, Version
 
 ROOT = Path(sys.argv[1]).resolve()
-STORED = ROOT / "bindings" / "stored"
+STORED = ROOT / "tests" / "stored"
 
 KINDS = (
     "",

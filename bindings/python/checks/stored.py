@@ -21,7 +21,7 @@ def scored(score: Optional[float], severity: Optional[str]) -> str:
 
 
 def facts(text: bytes) -> str:
-    """What is known of a text, as bindings/stored/facts.py writes it."""
+    """What is known of a text, as tests/stored/facts.py writes it."""
     try:
         vector = Vector(text, allow_incomplete=True)
     except CvssError as error:

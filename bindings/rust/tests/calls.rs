@@ -8,7 +8,7 @@ use cvss_proved::{Cvss, ParseError, Score, Severity, Version};
 use std::path::Path;
 use std::{env, fs};
 
-/// A column of a row that `bindings/sql/expected.py` has written.
+/// A column of a row that `tests/stored/expected.py` has written.
 fn unescaped(column: &str) -> Option<Vec<u8>> {
     if column == "\\N" {
         return None;
@@ -65,7 +65,7 @@ fn assert_index(cvss: &Cvss, metrics: &[(&str, &str)], error: &ParseError) {
     }
 }
 
-/// A row of `bindings/stored/calls`.
+/// A row of `tests/stored/calls`.
 struct Row(Vec<Option<Vec<u8>>>);
 
 impl Row {
@@ -111,7 +111,7 @@ impl Row {
 /// names a file with other rows.
 #[test]
 fn calls_have_their_results() {
-    let stored = Path::new(env!("CARGO_MANIFEST_DIR")).join("../stored/calls");
+    let stored = Path::new(env!("CARGO_MANIFEST_DIR")).join("../../tests/stored/calls");
     let rows = fs::read_to_string(env::var_os("CVSS_ROWS").map_or(stored, Into::into)).unwrap();
     let mut tried = 0;
     for line in rows.lines() {

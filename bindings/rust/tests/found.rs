@@ -17,7 +17,7 @@ fn report(line: usize, found: &Match) -> String {
 
 #[test]
 fn stored_texts_have_their_matches() {
-    let folder = root().join("bindings/stored");
+    let folder = root().join("tests/stored");
     let texts = fs::read(folder.join("texts")).unwrap();
     let mut reports = String::new();
     for (index, text) in texts.split(|byte| *byte == b'\n').enumerate() {
@@ -37,7 +37,7 @@ fn stored_texts_have_their_matches() {
 
 #[test]
 fn the_same_matches_are_found_with_incomplete_vectors() {
-    let texts = fs::read(root().join("bindings/stored/texts")).unwrap();
+    let texts = fs::read(root().join("tests/stored/texts")).unwrap();
     let (complete, any): (Vec<_>, Vec<_>) =
         (find(&texts).collect(), find_incomplete(&texts).collect());
     assert_eq!(complete.len(), any.len());

@@ -11,9 +11,9 @@ pub fn root() -> PathBuf {
     Path::new(env!("CARGO_MANIFEST_DIR")).join("../..")
 }
 
-/// A file of `bindings/stored`, which is not empty.
+/// A file of `tests/stored`, which is not empty.
 pub fn stored(name: &str) -> String {
-    let text = fs::read_to_string(root().join("bindings/stored").join(name)).unwrap();
+    let text = fs::read_to_string(root().join("tests/stored").join(name)).unwrap();
     assert!(!text.is_empty(), "{name}");
     text
 }
@@ -50,7 +50,7 @@ fn scored(score: Option<Score>, severity: Option<Severity>) -> String {
     }
 }
 
-/// The facts of `bindings/stored/facts` about scores.
+/// The facts of `tests/stored/facts` about scores.
 pub fn score_facts(cvss: &Cvss) -> Vec<String> {
     let mut facts = vec![
         scored(Some(cvss.score()), Some(cvss.severity())),
@@ -65,7 +65,7 @@ pub fn score_facts(cvss: &Cvss) -> Vec<String> {
     facts
 }
 
-/// The facts of a vector, as `bindings/stored/facts.py` prints them.
+/// The facts of a vector, as `tests/stored/facts.py` prints them.
 pub fn vector_facts(cvss: &Cvss) -> String {
     let nomenclature = cvss.nomenclature();
     let is_complete = cvss.is_complete();
@@ -102,7 +102,7 @@ pub fn kind_number(error: &ParseError) -> usize {
     1 + kinds.iter().position(|kind| *kind == error.kind()).unwrap()
 }
 
-/// The facts of an error, as `bindings/stored/facts.py` prints them.
+/// The facts of an error, as `tests/stored/facts.py` prints them.
 pub fn error_facts(error: &ParseError) -> String {
     let metric = error.metric().unwrap_or("-");
     format!("{} {metric} {error}", kind_number(error))

@@ -1,0 +1,241 @@
+#!/usr/bin/env python3
+"""Tries the built command `cvss` from outside: its arguments, vectors and files in one run, its hints, streams that are
+full, and its completion.
+
+usage: tests/checks/command.py
+"""
+import os
+import re
+import subprocess
+import sys
+import tempfile
+from pathlib import Path
+
+ROOT = Path(__file__).resolve().parents[2]
+PROGRAM = ROOT / "crates/cvss_command/out/cvss_command"
+V2 = b"AV:N/AC:L/Au:N/C:N/I:N/A:C"
+V2_ANSWER = V2 + b" 7.8 high\n"
+BASE = b"CVSS:3.1/AV:N/AC:L/PR:N/UI:N/S:U/C:H/I:H/A:H"
+V4 = b"CVSS:4.0/AV:N/AC:L/AT:N/PR:N/UI:N/VC:L/VI:H/VA:N/SC:N/SI:N/SA:N"
+CUT = b"CVSS:3.1/AV:N/AC:L/PR:N/UI:N/S:U/C:H"
+CUT_ANSWER = b"error: missing mandatory CVSSv3 I (Integrity Impact) metric\n"
+NO_FILE = b": No such file or directory (os error 2)\n"
+HEADER = b"given\tvector\tversion\tbase\ttemporal\tenvironmental\tscore\tseverity\tnomenclature\terror\n"
+tried = 0
+
+
+def expect(status, out, error, *arguments, given=b"", **streams):
+    """Runs the command, and compares its status, its standard output and its standard error."""
+    global tried
+    if "stdin" not in streams:
+        streams["input"] = given
+    streams.setdefault("stdout", subprocess.PIPE)
+    done = subprocess.run([PROGRAM, *arguments], stderr=subprocess.PIPE, check=False, **streams)
+    outcome = (done.returncode, done.stdout or b"", done.stderr)
+    if outcome != (status, out, error):
+        sys.exit(f"cvss {arguments}: {outcome}, and not {(status, out, error)}")
+    tried += 1
+
+
+def assert_fits(text):
+    """A help text fits a screen."""
+    rows = text.decode().splitlines()
+    assert len(rows) <= 24 and max(map(len, rows)) <= 80, text
+
+
+def try_arguments():
+    usage = subprocess.run([PROGRAM, "--help"], stdout=subprocess.PIPE, check=True).stdout
+    for topic in [line.split()[0].decode() for line in usage.splitlines() if re.match(rb"  [a-z]+  ", line)]:
+        text = subprocess.run([PROGRAM, "help", topic], stdout=subprocess.PIPE, check=True).stdout
+        assert re.search(f"^  (.* )?cvss {topic} ".encode(), text, re.MULTILINE), f"no example of {topic}"
+        expect(0, text, b"", topic, "--help")
+        assert_fits(text)
+    assert_fits(usage)
+    expect(0, usage, b"", "help")
+    expect(0, usage, b"", "help", "help")
+    expect(0, f"cvss {(ROOT / 'VERSION').read_text().strip()}\n".encode(), b"", "--version")
+    expect(2, b"", usage)
+
+
+def try_usage_errors():
+    """One line says what is wrong with the arguments, and where help is."""
+    all_scores = " does not go with '--json', which prints all scores"
+    for arguments, problem, topic in (
+            (["scores"], "unknown command 'scores'", None), ([b"a\n"], "unknown command 'a\n'", None),
+            (["-"], "unknown command '-'", None), (["--helper"], "unknown option '--helper'", None),
+            (["-h"], "unknown option '-h'", None), (["--version", "x"], "unexpected argument 'x'", None),
+            (["--help", "score"], "unexpected argument 'score'", None), (["help", "x"], "unknown command 'x'", None),
+            (["help", "set", "y", "z"], "unexpected argument 'y'", None),
+            (["score", "--min", "x"], "unknown option '--min'", "score"),
+            (["find", "--tsv"], "unknown option '--tsv'", "find"), (["explain", "--base"], "unknown option '--base'", "explain"),
+            (["audit", "--json"], "unknown option '--json'", "audit"),
+            (["set", "E:A", "-x", "--"], "unknown option '-x'", "set"),
+            (["triage", "--base", "--min", "x"], "unknown option '--min'", "triage"),
+            (["triage", "--set"], "option '--set' needs a value", "triage"),
+            (["triage", "--keep-going", "--profile"], "option '--profile' needs a value", "triage"),
+            (["set"], "no metric to set", "set"), (["set", "--", "x"], "no metric to set", "set"),
+            (["set", "--base", "--allow-incomplete", "--", V2], "no metric to set", "set"),
+            (["set", b"E:\xff"], "a metric is not UTF-8", "set"), (["set", "E:A", b"\xff"], "a metric is not UTF-8", "set"),
+            (["score", "--base", "--json"], "--base" + all_scores, "score"),
+            (["score", "--json", "--tsv", "--base"], "--base" + all_scores, "score"),
+            (["score", "--tsv", "--base", V2], "--base" + all_scores.replace("json", "tsv"), "score"),
+            (["find", "--annotate", "--json", "--base"], "--base" + all_scores, "find")):
+        help_command = f"cvss help {topic}" if topic else "cvss help"
+        expect(2, b"", f"cvss: {problem}; see '{help_command}'\n".encode(), *arguments)
+    expect(2, b"", b"cvss: unknown command '\xff'; see 'cvss help'\n", b"\xff")
+
+
+def try_base():
+    """The score with all metrics, and the base score in place of it."""
+    all_metrics = BASE + b"/E:U/RL:O/RC:C"
+    expect(0, all_metrics + b" 8.5 high\n", b"", "score", all_metrics)
+    expect(0, all_metrics + b" 9.8 critical\n", b"", "score", "--base", all_metrics)
+    expect(0, b"1:1 " + all_metrics + b" 8.5 high\n", b"", "find", given=all_metrics)
+    expect(0, b"1:1 " + all_metrics + b" 9.8 critical\n", b"", "find", "--base", given=all_metrics)
+    expect(0, BASE + b"/CR:H/MAV:L 8.4 high\n", b"", "set", "MAV:L", "CR:H", "--", BASE)
+    expect(0, BASE + b"/CR:H/MAV:L 9.8 critical\n", b"", "set", "MAV:L", "--base", "CR:H", "--", BASE)
+    expect(0, b"8.5 high " + all_metrics + b"\t" + all_metrics + b"\n", b"", "triage", all_metrics)
+    expect(0, b"9.8 critical " + all_metrics + b"\t" + all_metrics + b"\n", b"", "triage", "--base", all_metrics)
+    expect(0, V4 + b"/E:P 7.8 high\n", b"", "score", V4 + b"/E:P")
+    expect(0, V4 + b"/E:P 8.8 high\n", b"", "score", "--base", V4 + b"/E:P")
+
+
+def try_incomplete():
+    """A v3 vector that lacks base metrics, in each subcommand that scores."""
+    expect(1, CUT_ANSWER, b"", "set", "E:U", "--", CUT)
+    expect(0, CUT + b"/E:U 6.9 medium\n", b"", "set", "E:U", "--allow-incomplete", "--", CUT)
+    expect(0, CUT + b"/E:U 7.5 high\n", b"", "set", "--allow-incomplete", "--base", "E:U", "--", CUT)
+    expect(0, CUT + b" 7.5 high\n", b"", "score", "--allow-incomplete", CUT)
+    expect(0, b"1:1 " + CUT + b" 7.5 high\n", b"", "find", "--allow-incomplete", given=CUT)
+    expect(0, b"7.5 high " + CUT + b"\t" + CUT + b"\n", b"", "triage", "--allow-incomplete", CUT)
+
+
+def try_hints():
+    """A rejected word that is nearly a vector has a hint, once a run."""
+    rejected = b"error: unknown CVSS metric name: `PR`\n"
+    bare = b"AV:N/AC:L/PR:N/UI:N/S:U/C:H/I:H/A:H"
+    version = b"cvss: hint: write `CVSS:3.1/` before it\n"
+    expect(1, rejected, version, "score", bare)
+    expect(1, rejected * 2 + V2_ANSWER, version, "score", bare, bare, V2)
+    expect(1, rejected, version, "set", "A:N", "--", bare)
+    capitals = b"cvss: hint: write its prefix in capitals, as `CVSS:3.1/`\n"
+    v4 = b"AV:N/AC:L/AT:N/PR:N/UI:N/VC:L/VI:H/VA:N/SC:N/SI:N/SA:N"
+    for prefix, metrics in ((b"cvss:3.1/", bare), (b"Cvss:3.0/", bare), (b"cvSS:4.0/", v4)):
+        expect(1, b"error: invalid CVSS string prefix: `" + prefix[:4] + b"`\n", capitals, "score", prefix + metrics)
+    for text in (b"(" + V2 + b").", b'"' + V2 + b'"', b" " + V2):
+        done = subprocess.run([PROGRAM, "score", text], capture_output=True, check=False)
+        assert (done.returncode, done.stderr) == (1, b"cvss: hint: `cvss find` finds vectors among other text\n"), done
+    for word, answer in ((CUT, CUT_ANSWER), (b"x:y", b"error: invalid CVSS metric group component: `x:y`\n")):
+        expect(1, answer, b"", "score", word)
+    expect(0, V2_ANSWER, b"", "score", V2)
+    expect(1, rejected, b"", "score", given=bare)
+
+
+def try_notes():
+    """An audit that finds no vector says so; one that is rejected, or whose reader is gone, does not."""
+    note = b"cvss: no vector was found\n"
+    for given in (b"", b"{}\n", b'[1,"x"]\n{}\n'):
+        expect(0, b"", note, "audit", given=given)
+    expect(0, b"", note, "audit", "--document", given=b"{}")
+    expect(2, b"", b"cvss: gone" + NO_FILE, "audit", "gone")
+    expect(1, b'{"error":"not JSON","line":1}\n', b"", "audit", given=b"x\n")
+    found = b'{"vectorString":"' + V2 + b'"}\n'
+    done = subprocess.run([PROGRAM, "audit"], input=found, capture_output=True, check=True)
+    assert done.stdout and not done.stderr, done
+    for subcommand in ("score", "find", "explain"):
+        expect(0, b"", b"", subcommand)
+    closed = '"$0" audit < <(sleep 0.2; echo "$1") | true; exit ${PIPESTATUS[0]}'
+    done = subprocess.run(["bash", "-c", closed, PROGRAM, found.decode()], capture_output=True, check=False)
+    assert (done.returncode, done.stderr) == (0, b""), done
+
+
+def try_operands(room):
+    """Vectors and files in one run, and what follows `--`."""
+    (room / "list").write_bytes(V2 + b"\r\n" + CUT)
+    expect(1, V2_ANSWER + CUT_ANSWER, b"", "score", "--", "list", cwd=room)
+    expect(2, V2_ANSWER, b"cvss: gone" + NO_FILE, "score", V2, "gone", cwd=room)
+    expect(2, V2_ANSWER, b"cvss: \xff\xfe: invalid filename\n", "score", b"\xff\xfe", V2, cwd=room)
+    expect(2, b"", b"cvss: --json" + NO_FILE, "score", "--", "--json", cwd=room)
+    (room / "empty").touch()
+    expect(0, V2_ANSWER, b"", "score", V2, "empty", cwd=room)
+    folder = os.open(room, os.O_RDONLY)
+    expect(2, V2_ANSWER, b"cvss: -: Is a directory (os error 21)\n", "score", "-", V2, stdin=folder)
+    os.close(folder)
+
+
+def try_long_names(room):
+    """A name of 255 bytes opens, and so does a path of more; a longer name is one that the system rejects."""
+    name = "n" * 255
+    (room / name).write_bytes(V2)
+    expect(0, V2_ANSWER, b"", "score", name, cwd=room)
+    path = Path("d" * 200) / ("e" * 200)
+    (room / path).mkdir(parents=True)
+    (room / path / "list").write_bytes(V2)
+    expect(0, V2_ANSWER, b"", "score", path / "list", cwd=room)
+    error = b"n: File name too long (os error 36)\n"
+    expect(2, b"", b"cvss: " + name.encode() + error, "score", name + "n", cwd=room)
+
+
+def try_help(room):
+    """The help on a stream that is full or closed."""
+    with open("/dev/full", "wb") as device:
+        expect(2, b"", b"cvss: standard output: No space left on device (os error 28)\n", "--help", stdout=device)
+    done = subprocess.run(["bash", "-c", '"$0" --help 2>/dev/null | true; exit ${PIPESTATUS[0]}', PROGRAM], cwd=room, check=False)
+    assert done.returncode == 0, done.returncode
+
+
+def try_header(room):
+    """The head of the columns where no line follows it."""
+    with open("/dev/full", "wb") as device:
+        expect(2, b"", b"cvss: standard output: No space left on device (os error 28)\n", "score", "--tsv", V2, stdout=device)
+    expect(2, HEADER, b"cvss: gone" + NO_FILE, "score", "--tsv", "gone", cwd=room)
+    expect(0, HEADER, b"", "score", "--tsv")
+
+
+def try_columns(room):
+    """Rows of several files and of a vector that is an argument: each has as many columns as the header."""
+    for name in ("one", "two\n"):
+        (room / name).write_bytes(V2 + b"\n")
+    row = V2 + b"\t" + V2 + b"\t2.0\t7.8\t7.8\t7.8\t7.8\thigh\t\t\n"
+    rows = b"\t" + row + b"one\t" + row + b"two\\n\t" + row
+    expect(0, b"file\t" + HEADER + rows, b"", "score", "--tsv", V2, "one", "two\n", cwd=room)
+    expect(0, HEADER + row + row, b"", "score", "--tsv", V2, "one", cwd=room)
+
+
+def try_completion():
+    """What bash completes, by the file that is installed."""
+    script = 'cvss() { "$PROGRAM" "$@"; }; . "$FILE"; COMP_WORDS=("$@"); COMP_CWORD=$(($# - 1)); _cvss; printf "%s\\n" "${COMPREPLY[@]}"'
+    environment = os.environ | {"PROGRAM": str(PROGRAM), "FILE": str(ROOT / "bindings/completion/cvss")}
+
+    def complete_words(*words):
+        done = subprocess.run(["bash", "-c", script, "bash", "cvss", *words], env=environment, capture_output=True, text=True,
+                              check=True, cwd=ROOT)
+        return done.stdout.split()
+
+    assert {"score", "set", "help", "--help", "--version"} <= set(complete_words(""))
+    assert complete_words("sc") == ["score"] and complete_words("help", "se") == ["set"]
+    assert complete_words("score", "--a") == ["--allow-incomplete"] and "--tsv" in complete_words("score", "--")
+    assert complete_words("set", "--b") == ["--base"] and "--base" not in complete_words("explain", "--")
+    assert complete_words("score", "VERS") == ["VERSION"]
+
+
+def main():
+    with tempfile.TemporaryDirectory() as folder:
+        room = Path(folder)
+        try_arguments()
+        try_usage_errors()
+        try_base()
+        try_incomplete()
+        try_hints()
+        try_notes()
+        try_operands(room)
+        try_long_names(room)
+        try_help(room)
+        try_header(room)
+        try_columns(room)
+    try_completion()
+    print(f"cvss: {tried} runs end as they should")
+
+
+if __name__ == "__main__":
+    main()

@@ -1,0 +1,208 @@
+#!/usr/bin/env python3
+"""Compares what the built `cvss find` writes with finding.py, over random texts and lines that are almost vectors, in
+files and on standard input: lines, annotated lines and objects.
+
+usage: tests/checks/compare_found.py [COUNT [SEED]]
+"""
+import json
+import random
+import subprocess
+import sys
+import tempfile
+from pathlib import Path
+
+ROOT = Path(__file__).resolve().parents[2]
+sys.path[:0] = [str(ROOT / "reference"), str(ROOT / "tests/inputs")]
+
+import finding
+import hostile
+import reference
+import texts
+
+PROGRAM = ROOT / "crates/cvss_command/out/cvss_command"
+
+# Texts, and what is found in each: its column and its score line.
+V2 = b"AV:N/AC:L/Au:N/C:N/I:N/A:P"
+V2_ANSWER = V2.decode() + " 5.0 medium"
+METRICS = b"AV:N/AC:L/PR:N/UI:N/S:U/C:H/I:H/A:H"
+V3 = b"CVSS:3.1/" + METRICS
+V3_ANSWER = V3.decode() + " 9.8 critical"
+PREFIX = "error: invalid CVSS string prefix: `cvss`"
+COMPONENT = "error: invalid CVSS metric group component: "
+MISSING = "error: missing mandatory CVSSv3 UI (User Interaction) metric"
+CUT = b"CVSS:3.1/AV:N/AC:L/PR:N"
+HINT = b"cvss: hint: write the prefix of a vector as `CVSS:3.1/`\n"
+AT_ONCE = 5_000
+SCORES = ("base", "temporal", "environmental", "score")
+CASES = [
+    (b"score 9.8 (" + V3 + b").", [(12, V3_ANSWER)]),
+    (b"x?v=" + V3.replace(b":", b"%3A").replace(b"/", b"%2F") + b"&y", [(5, V3_ANSWER)]),
+    (b"x?v=" + V3.replace(b"/", b"%2f"), [(5, V3_ANSWER)]),
+    (b"x?v=CVSS:3.1%2F" + METRICS.replace(b":", b"%3a").replace(b"/", b"%2F"), [(5, V3_ANSWER)]),
+    (b"x?v=" + V3.replace(b":", b"%3A"), [(5, V3_ANSWER)]),
+    (V3 + b"%2Fx " + V3 + b"%20" + V2 + b"%29", [(1, V3_ANSWER), (50, V3_ANSWER)]),
+    (b"[" + V2 + b"%29", [(2, V2_ANSWER)]),
+    (b"cvss:3.1/" + METRICS, [(1, PREFIX)]),
+    (b"9.8/cvss:3.1/" + METRICS, [(5, PREFIX)]),
+    (b"CVSS3.1/" + METRICS, [(1, COMPONENT + "`CVSS3.1`")]),
+    (b"(CVSSv3.1/" + METRICS, [(2, COMPONENT + "`CVSSv3.1`")]),
+    (b"7.5/" + V2, [(5, V2_ANSWER)]),
+    (b"10.0/" + V2 + b".", [(6, V2_ANSWER)]),
+    (b"vector:" + V2, [(8, V2_ANSWER)]),
+    (b"score:7.5/" + V2, [(11, V2_ANSWER)]),
+    (b"AC:L/AV:N/Au:N/C:N/I:N/A:P", [(1, V2_ANSWER)]),
+    (b"E:U/" + V2, [(1, V2.decode() + "/E:U 4.3 medium")]),
+    (CUT, [(1, MISSING)]),
+    (b"text " + CUT + b"/", [(6, COMPONENT + "``")]),
+    (b"text " + V3 + b"/", [(6, COMPONENT + "``")]),
+    (V3 + b"/ text", [(1, V3_ANSWER)]),
+    (V3 + b"//", [(1, V3_ANSWER)]),
+    (V3 + b"/.", [(1, V3_ANSWER)]),
+    (b"https://www.first.org/cvss/v3.1/user-guide CVSS:3.1 cvss3.1/av x/" + V2, []),
+]
+
+
+def run(given, *arguments):
+    return subprocess.run([PROGRAM, "find", *arguments], input=given, capture_output=True, check=False)
+
+
+def run_over(room, written, *arguments):
+    """What the program writes about these files, or about standard input."""
+    words = [PROGRAM, "find", *arguments, *written]
+    return subprocess.run(words, input=written.get("-", b""), cwd=room, capture_output=True, check=False)
+
+
+def lines_of(written):
+    """Each line of the files with its number, and with the name of its file if there are several."""
+    return [(name if len(written) > 1 else None, number, line) for name, content in written.items()
+            for number, line in enumerate(reference.lines_of(content), 1)]
+
+
+def fronted(name, answer):
+    return (b"" if name is None else name.encode() + b":") + answer
+
+
+def try_stored():
+    """The answers to stored lines."""
+    lines, answers = ((ROOT / "tests/stored" / name).read_bytes() for name in ("find.lines", "find.answers"))
+    done = run(lines, "--allow-incomplete")
+    if (done.returncode, done.stdout, done.stderr) != (1, answers, HINT):
+        sys.exit(f"cvss find: the answers to tests/stored/find.lines are {done}")
+
+
+def try_cases():
+    for text, found in CASES:
+        expected = [f"1:{column} {answer}\n" for column, answer in found]
+        actual = run(text).stdout.decode().splitlines(keepends=True)
+        if actual != expected or list(finding.answers(text)) != expected:
+            sys.exit(f"cvss find: {text}: {actual}, finding.py {list(finding.answers(text))}, and not {expected}")
+
+
+def compare(room, written, *arguments):
+    """Ends if the program writes something else or has another status; otherwise returns how many matches there are."""
+    answers = [(name, number, place, answer) for name, number, line in lines_of(written)
+               for place, answer in finding.reported(line, "--allow-incomplete" in arguments, "--base" in arguments)]
+    expected = [fronted(name, f"{number}:{place + 1} {answer}".encode()) for name, number, place, answer in answers]
+    done = run_over(room, written, *arguments)
+    actual = done.stdout.split(b"\n")[:-1]
+    for here, there in zip(actual, expected):
+        if here != there:
+            sys.exit(f"cvss find writes {here!r}, and not {there!r}")
+    if len(actual) != len(expected):
+        sys.exit(f"cvss find writes {len(actual)} lines, and not {len(expected)}")
+    rejected = any(answer.startswith("error: ") for *_, answer in answers)
+    if done.returncode != int(rejected) or not is_hint(done.stderr):
+        sys.exit(f"cvss find: status {done.returncode}, standard error {done.stderr!r}")
+    return len(expected)
+
+
+def try_annotated(room, written):
+    """Each line is repeated, with the score line of its first match or of each."""
+    lines = lines_of(written)
+    for arguments in ((), ("--all",), ("--allow-incomplete", "--base"), ("--all", "--allow-incomplete")):
+        flags = [flag in arguments for flag in ("--all", "--allow-incomplete", "--base")]
+        expected = [finding.annotated(line, *flags) for *_, line in lines]
+        done = run_over(room, written, "--annotate", *arguments)
+        actual = done.stdout.split(b"\n")
+        assert actual.pop() == b"" and len(actual) == len(lines), f"{len(actual)} lines, and not {len(lines)}"
+        for (name, *_), here, there in zip(lines, actual, expected):
+            assert here == fronted(name, there), f"cvss find --annotate {arguments} writes {here!r}, and not {there!r}"
+        rejected = any(b"\terror: " in answer[len(line):] for answer, (*_, line) in zip(expected, lines))
+        assert done.returncode == int(rejected), done.returncode
+        assert is_hint(done.stderr), done.stderr
+
+
+def try_objects(room, written):
+    """Each match is an object, whose members are compared in their order."""
+    for arguments in ((), ("--allow-incomplete",), ("--all", "--annotate")):
+        expected = [{name: value / 10 if name in SCORES and value is not None else value for name, value in found.items()}
+                    for file, number, line in lines_of(written)
+                    for found in finding.objects(number, line, "--allow-incomplete" in arguments, file)]
+        done = run_over(room, written, "--json", *arguments)
+        actual = [json.loads(line, object_pairs_hook=list) for line in done.stdout.splitlines()]
+        for found in expected:
+            found["text"] = found["text"].decode("ascii")
+        assert len(actual) == len(expected), f"{len(actual)} objects, and not {len(expected)}"
+        for here, there in zip(actual, expected):
+            assert here == list(there.items()), f"cvss find --json writes {here!r}, and not {there!r}"
+        assert done.returncode == int(any(found["error"] for found in expected)), done.returncode
+        assert is_hint(done.stderr), done.stderr
+
+
+def line(draw):
+    return draw.choice((texts.text, hostile.line))(draw).replace(b"\n", b" ")
+
+
+def is_hint(error):
+    return error in (b"", HINT)
+
+
+def try_hints():
+    """A prefix that is written in another way has a hint, once a run."""
+    for line, has in ((b"cvss:3.1/" + METRICS, True), (b"CVSS3.1/" + METRICS, True), (b"x CVSSv3.1/" + METRICS, True),
+                      (b"cvss%3A3.1%2F" + METRICS.replace(b":", b"%3A"), True), (V3, False), (CUT, False), (V2 + b"/", False),
+                      (b"x?v=" + V3.replace(b":", b"%3A").replace(b"/", b"%2F"), False), (b"cvss3.1/av", False)):
+        for arguments in ((), ("--json",), ("--annotate",)):
+            done = run(b"\n".join([line, V2, line]), *arguments)
+            assert done.stderr == (HINT if has else b""), (line, arguments, done)
+
+
+def try_files():
+    """The file of each line and of each object, where there are several, and lines of any bytes."""
+    with tempfile.TemporaryDirectory() as room:
+        line = b"\xff\t" + V2 + b"\t"
+        for name in ("a", 'b"'):
+            (Path(room) / name).write_bytes(line + b"\r\nnone")
+        done = subprocess.run([PROGRAM, "find", "--annotate", "a", 'b"'], cwd=room, capture_output=True, check=True)
+        expected = [name + rest for name in (b"a:", b'b":') for rest in (line + b"\t" + V2_ANSWER.encode(), b"none")]
+        assert done.stdout.splitlines() == expected, done
+        done = subprocess.run([PROGRAM, "find", "--json", "a", 'b"'], cwd=room, capture_output=True, check=True)
+        found = [json.loads(line) for line in done.stdout.splitlines()]
+        places = [[each[name] for name in ("file", "line", "column", "text", "score")] for each in found]
+        assert places == [[name, 1, 3, V2.decode(), 5.0] for name in ("a", 'b"')], done
+
+
+def main():
+    count = int(sys.argv[1]) if len(sys.argv) > 1 else 5_000
+    try_stored()
+    try_cases()
+    draw = random.Random(int(sys.argv[2]) if len(sys.argv) > 2 else 2)
+    drawn = answered = 0
+    with tempfile.TemporaryDirectory() as folder:
+        room = Path(folder)
+        while drawn < count:
+            written = hostile.files(draw, room, min(AT_ONCE, count - drawn), line)
+            answered += compare(room, written) + compare(room, written, "--allow-incomplete")
+            compare(room, written, "--base")
+            try_annotated(room, written)
+            try_objects(room, written)
+            drawn += len(lines_of(written))
+    assert answered > drawn / 4, f"the drawn lines have {answered} vectors: that tries too little"
+    try_hints()
+    try_files()
+    print(f"cvss find: {len(CASES)} texts, and {drawn} drawn lines with {answered} answers, which are those of"
+          " finding.py")
+
+
+if __name__ == "__main__":
+    main()
