@@ -1,8 +1,8 @@
 #!/usr/bin/env python3
 """Checks the names in the documents: that each file and each page of definitions that they name exists; that
-docs/DEFINITIONS.md names each page directly in `specs/` of a crate that makes public promises; that
-docs/OTHER_REPOSITORIES.md links exactly the crates that `cvss` uses; and that docs/ARCHITECTURE.md has a row for each
-crate, after the rows of the crates that it uses.
+docs/DEFINITIONS.md names each page directly in `specs/` of a crate that makes public promises, and in parentheses only
+names of definitions; that docs/OTHER_REPOSITORIES.md links exactly the crates that `cvss` uses; and that
+docs/ARCHITECTURE.md has a row for each crate, after the rows of the crates that it uses.
 
 A name is a link, with the section that follows it in quotation marks; a path that begins with a folder of the
 repository; a file name in back ticks; or pages after their crate, such as: `cvss_lines` specs/Runs, Lines. Words in
@@ -20,7 +20,8 @@ from check_shelves import pages
 ROOT = Path(__file__).resolve().parent.parent
 DOCUMENTS = [*(ROOT / f"{name}.md" for name in ("README", "CONTRIBUTING", "SECURITY", "CHANGELOG")),
              *sorted((ROOT / "docs").glob("*.md")), ROOT / "conformance/README.md", ROOT / "bindings/python/README.md",
-             ROOT / "bindings/js/README.md", *sorted((ROOT / "tests").glob("**/README.md"))]
+             ROOT / "bindings/js/README.md", *sorted((ROOT / "tests").glob("**/README.md")),
+             ROOT / "bench/README.md", ROOT / "reference/README.md"]
 # not in a checkout: what builds make, and the crate that another repository is shown to add
 ELSEWHERE = re.compile(r"(^|/)(out|target)(/|$)|^crates/gate(/|$)")
 # proved callers and tests, of which the library promises nothing
@@ -100,6 +101,15 @@ def wrong_links():
     yield from (f"OTHER_REPOSITORIES.md: {crate} is not needed" for crate in sorted(linked - needed))
 
 
+def wrong_words(text):
+    """The names in parentheses after words of docs/DEFINITIONS.md that are in no definition."""
+    defined = " ".join(path.read_text(encoding="utf-8") for path in (ROOT / "crates").glob("*/specs/**/*.antt"))
+    names = {name.replace("_", "").lower() for name in re.findall(r"(?:(?:pub|data|record) )+(\w+)", defined)}
+    for name in re.findall(r"(?m)^\| [^|]*\(([a-z ]+)\)[^|]* \| ", text.split("\n## The words\n")[1]):
+        if not any(name.replace(" ", "") in each for each in names):
+            yield f"DEFINITIONS.md: no definition is named {name}"
+
+
 def main():
     folders = [folder for folder in os.walk(ROOT) if not re.search(r"/(out|target|\.git)(/|$)", folder[0])]
     files = "\n".join(os.path.join(folder, name) for folder, _, names in folders for name in names)
@@ -110,7 +120,7 @@ def main():
         crate, page = re.search(r"crates/(\w+)/specs/(.*)\.antt$", str(path)).groups()
         if page != "Lib" and crate not in WITHOUT_PROMISES and (crate, page) not in listed:
             wrong.append(f"DEFINITIONS.md does not name {crate} specs/{page}")
-    sys.exit("\n".join([*wrong, *wrong_rows(), *wrong_links()]) or None)
+    sys.exit("\n".join([*wrong, *wrong_words(text), *wrong_rows(), *wrong_links()]) or None)
 
 
 if __name__ == "__main__":

@@ -317,6 +317,10 @@ def is_by_line(text):
     return not first or answer({}, first)[0] not in ([{"error": "not UTF-8"}], [{"error": "not JSON"}])
 
 
+def written(members):
+    return json.dumps(members, sort_keys=True, separators=(",", ":"), ensure_ascii=False)
+
+
 def main():
     text = sys.stdin.buffer.read()
     allow_incomplete = "--allow-incomplete" in sys.argv
@@ -327,7 +331,7 @@ def main():
         answers, agree = answer(source, document, allow_incomplete)
         clean &= agree
         for members in answers:
-            print(json.dumps(members, sort_keys=True, separators=(",", ":"), ensure_ascii=False))
+            print(written(members))
     sys.exit(0 if clean else 1)
 
 
