@@ -26,11 +26,18 @@ VERSION_NAMES = {20: "2.0", 30: "3.0", 31: "3.1", 40: "4.0"}
 OSV_TYPES = {20: "CVSS_V2", 30: "CVSS_V3", 31: "CVSS_V3", 40: "CVSS_V4"}
 METHODS = {20: "CVSSv2", 30: "CVSSv3", 31: "CVSSv31", 40: "CVSSv4"}
 TRIVY = {20: "V2", 30: "V3", 31: "V3", 40: "V40"}
-# The names of members that say the version of the object in them.
+SPDX_TYPES = {version: f"security_Cvss{name}VulnAssessmentRelationship"
+              for version, name in ((20, "V2"), (30, "V3"), (31, "V3"), (40, "V4"))}
+# The names of members that say the version of what is in them: CVE records, CSAF and GitHub, NVD's API, its old feeds.
 NAMED_VERSIONS = {
     "cvssV2_0": [20], "cvssV3_0": [30], "cvssV3_1": [31], "cvssV4_0": [40],
     "cvss_v2": [20], "cvss_v3": [30, 31], "cvss_v4": [40],
+    "cvssMetricV2": [20], "cvssMetricV30": [30], "cvssMetricV31": [31], "cvssMetricV40": [40],
+    "cvssV2": [20], "cvssV3": [30, 31], "baseMetricV2": [20], "baseMetricV3": [30, 31],
 }
+METRIC_MEMBERS = {member for table in (records.V2, records.V3, records.V4) for member, _ in table.values()}
+# A value of CycloneDX's `vector` that was meant as a vector, though it may not be one.
+LIKE_VECTOR = re.compile(r"[ (\[]?(CVSS|AV:)", re.IGNORECASE | re.ASCII)
 
 
 # Two escapes that are a surrogate pair, half of one, or any other escape.
@@ -73,6 +80,15 @@ class Vector:
             own = v3.exploitability(self.metrics), v3.base_impact(self.metrics)
         return dict(zip(("exploitabilityScore", "impactScore"), (max(0, floor(x * 10 + Fraction(1, 2))) for x in own)))
 
+    def has_member(self, member):
+        """Whether a record has to have this member: all but the version, and the scores and severities of an optional group
+        of which the vector has no metric."""
+        if member in ("temporalScore", "temporalSeverity"):
+            return any(name in self.metrics for name in scores.TEMPORAL)
+        if member in ("environmentalScore", "environmentalSeverity"):
+            return any(name in self.metrics for name in scores.ENVIRONMENTAL[self.version // 10])
+        return member != "version"
+
     def expected(self):
         """What each member of the vector's record has to say; `None` for a metric that is absent."""
         table = {20: records.V2, 40: records.V4}.get(self.version, records.V3)
@@ -111,13 +127,20 @@ def agrees(says, expected):
 
 
 def text_difference(holder, member, expected):
-    if member in holder and holder[member] != expected:
+    if holder.get(member) is not None and holder[member] != expected:
         yield difference(member, holder[member], expected)
 
 
 def number_difference(holder, member, tenths):
-    if is_number(holder.get(member)) and float(holder[member]) != tenths / 10:
-        yield difference(member, holder[member], tenths / 10)
+    says = holder.get(member)
+    is_text = isinstance(says, str) and re.match("[0-9]", says)
+    if is_text or is_number(says) and float(says) != tenths / 10:
+        yield difference(member, says, tenths / 10)
+
+
+def sub_score_differences(vector, holder):
+    for member, tenths in vector.sub_scores().items():
+        yield from number_difference(holder, member, tenths)
 
 
 def severity_difference(holder, member, vector):
@@ -130,14 +153,20 @@ def of_record(vector, holder):
     for member in sorted(holder):
         if member == "score":
             yield from number_difference(holder, member, vector.score)
-        elif member in expected and not agrees(holder[member], expected[member]):
-            yield difference(member, holder[member], expected[member])
+        elif member in expected:
+            if holder[member] is None and not vector.has_member(member):
+                continue
+            if not agrees(holder[member], expected[member]):
+                yield difference(member, holder[member], expected[member])
+        elif member in METRIC_MEMBERS and isinstance(holder[member], str) and holder[member] != "NOT_DEFINED":
+            yield difference(member, holder[member], None)
 
 
 def of_rating(vector, holder):
     yield from text_difference(holder, "method", METHODS[vector.version])
     if isinstance(holder.get("metrics"), dict):
         yield from number_difference(holder["metrics"], "baseScore", vector.score)
+        yield from sub_score_differences(vector, holder["metrics"])
     yield from number_difference(holder, "score", vector.score)
     yield from severity_difference(holder, "severity", vector)
     yield from text_difference(holder, "version", VERSION_NAMES[vector.version])
@@ -154,18 +183,22 @@ def of_trivy(version):
 def of_spdx(vector, holder):
     yield from number_difference(holder, "security_score", vector.score)
     yield from severity_difference(holder, "security_severity", vector)
+    if holder.get("type") in SPDX_TYPES.values():
+        yield from text_difference(holder, "type", SPDX_TYPES[vector.version])
 
 
 def holds_rating(holder):
-    """Whether `vector` is one of CVSS: by CycloneDX's method, or else by grype's metrics or its prefix."""
-    if holder.get("method") is not None:
-        return holder["method"] in METHODS.values()
-    text = holder["vector"]
-    return isinstance(holder.get("metrics"), dict) or isinstance(text, str) and text.startswith("CVSS:")
+    """Whether `vector` is one of CVSS: by CycloneDX's method, or else by grype's metrics or how it begins."""
+    method, text = holder.get("method"), holder["vector"]
+    if method is not None:
+        return isinstance(method, str) and method[:4].upper() == "CVSS" and method[:4].isascii()
+    return isinstance(holder.get("metrics"), dict) or isinstance(text, str) and LIKE_VECTOR.match(text) is not None
 
 
 def holds_osv(holder):
-    if holder.get("type") not in OSV_TYPES.values():
+    text = holder["score"]
+    is_prefixed = isinstance(text, str) and text.startswith("CVSS:")
+    if not isinstance(holder.get("type"), str) or holder["type"] not in OSV_TYPES.values() and not is_prefixed:
         return False
     others = holder.get("vectorString") is not None or holder.get("vector_string") is not None
     return isinstance(holder["score"], str) or not others
@@ -188,17 +221,18 @@ FORMS = [
 ]
 
 
-def of_parent(vector, name, parent):
-    """What disagrees around the object that holds a vector."""
+def of_parent(vector, name, outer, parent):
+    """What disagrees around the object that holds a vector, by the names of the two members that it is in."""
     if parent is None:
         return
-    if name in NAMED_VERSIONS and vector.version not in NAMED_VERSIONS[name]:
-        yield difference(name, name, VERSION_NAMES[vector.version])
-    if name == "cvssData":
-        if vector.version == 20:
-            yield from text_difference(parent, "baseSeverity", vector.severity_of(vector.score).upper())
-        for member, tenths in vector.sub_scores().items():
-            yield from number_difference(parent, member, tenths)
+    for each in (name, outer):
+        if each in NAMED_VERSIONS and vector.version not in NAMED_VERSIONS[each]:
+            yield difference(each, each, VERSION_NAMES[vector.version])
+    severity = "baseSeverity" if name == "cvssData" else "severity" if outer == "baseMetricV2" else None
+    if vector.version == 20 and severity is not None:
+        yield from text_difference(parent, severity, vector.severity_of(vector.score).upper())
+    if name == "cvssData" or outer in ("baseMetricV2", "baseMetricV3"):
+        yield from sub_score_differences(vector, parent)
 
 
 def id_of(holder):
@@ -212,21 +246,22 @@ def id_of(holder):
     return None
 
 
-def locations(value, at="", own_id=None, name=None, parent=None):
-    """Each location of a vector: its pointer, its text, the id, what disagrees there, and what is around."""
+def locations(value, at="", own_id=None, name=None, outer=None, parent=None):
+    """Each location of a vector: its pointer, its text, the id, what disagrees there, and what is around. The items of an
+    array are seen as the member that it is."""
     if isinstance(value, list):
         for index, each in enumerate(value):
-            yield from locations(each, f"{at}/{index}", own_id)
+            yield from locations(each, f"{at}/{index}", own_id, name, outer, parent)
     elif isinstance(value, dict):
         nearest = id_of(value)
         own_id = own_id if nearest is None else nearest
         for member, has_form, disagreeing in FORMS:
             if value.get(member) is not None and (has_form is None or has_form(value, name)):
                 yield at, value[member], own_id, lambda vector, d=disagreeing: [
-                    *d(vector, value), *of_parent(vector, name, parent)]
+                    *d(vector, value), *of_parent(vector, name, outer, parent)]
         for member in sorted(value):
             step = member.replace("~", "~0").replace("/", "~1")
-            yield from locations(value[member], f"{at}/{step}", own_id, member, value)
+            yield from locations(value[member], f"{at}/{step}", own_id, member, name, value)
 
 
 def scores_of(vector):

@@ -251,6 +251,8 @@ class Drawing:
                     members[member] = self.value(expected)
         if self.chance(0.1):
             members["score"] = self.value(known and known.score / 10)
+        if self.chance(0.2):
+            members[self.pick(*sorted(auditing.METRIC_MEMBERS))] = self.value("NOT_DEFINED")
         return members
 
     def form(self):
@@ -265,12 +267,14 @@ class Drawing:
         if kind == 1:
             return {"vector_string": text, "score": self.value(score)}
         if kind == 2:
-            return {"type": self.value(known and auditing.OSV_TYPES[known.version]), "score": text}
+            return {"type": self.value(known and auditing.OSV_TYPES[known.version]), "score": text,
+                    "vector": self.pick(None, f"({text})", f" {text}", str(text).lower())}
         if kind == 3:
             members = {"vector": text, "method": self.value(known and auditing.METHODS[known.version]), "score": self.value(score),
                     "severity": self.value(severity)}
         elif kind == 4:
-            members = {"vector": text, "version": self.value(named), "metrics": {"baseScore": self.value(score)} if self.chance(0.9) else self.pick([], None, 1)}
+            metrics = {"baseScore": self.value(score), "impactScore": self.value(known and known.sub_scores().get("impactScore", 0) / 10)}
+            members = {"vector": text, "version": self.value(named), "metrics": metrics if self.chance(0.9) else self.pick([], None, 1)}
         elif kind == 5:
             members = {}
             for version in ("V2", "V3", "V40"):
@@ -281,11 +285,12 @@ class Drawing:
         elif kind == 6:
             return {self.pick("advisory", "advisory", "other"): {"id": "RUSTSEC-1", "cvss": text}}
         elif kind == 7:
-            members = {"security_vectorString": text, "security_score": self.value(score), "security_severity": self.value(severity)}
+            members = {"security_vectorString": text, "security_score": self.value(score), "security_severity": self.value(severity),
+                    "type": self.pick(*auditing.SPDX_TYPES.values(), "security_Other", None)}
         else:
             parts = known.sub_scores() if known else {}
-            members = {self.pick("cvssData", "cvssData", "cvssV3_1", "cvss_v2", "cvss_v4"): self.record(text, known),
-                    "baseSeverity": self.value(severity and severity.upper())}
+            members = {self.pick("cvssData", "cvssData", "cvssV3_1", "cvss_v2", "cvss_v4", "cvssV2", "cvssV3"): self.record(text, known),
+                    "baseSeverity": self.value(severity and severity.upper()), "severity": self.value(severity and severity.upper())}
             for member in ("exploitabilityScore", "impactScore"):
                 members[member] = self.value(parts[member] / 10 if member in parts else None)
         return {name: value for name, value in members.items() if self.chance(0.9)}
@@ -299,6 +304,8 @@ class Drawing:
             for _ in range(self.random.randrange(3)):
                 name = self.pick("a", "b/c", "d~e", "cvssData", "advisory", "é", "", "cvss_v3", "metrics")
                 inner = self.document(depth + 1)
+                if self.chance(0.2):
+                    name = self.pick(*auditing.NAMED_VERSIONS)
                 members[name] = inner if self.chance(0.6) else [self.pick(0, "x", None), inner]
         return members
 

@@ -21,6 +21,12 @@ import reference
 OF_CVE = {20: "cvssV2_0", 30: "cvssV3_0", 31: "cvssV3_1", 40: "cvssV4_0"}
 OF_CSAF = {20: "cvss_v2", 30: "cvss_v3", 31: "cvss_v3", 40: "cvss_v4"}
 OF_NVD = {20: "cvssMetricV2", 30: "cvssMetricV30", 31: "cvssMetricV31", 40: "cvssMetricV40"}
+# What NVD's feeds have, which its API replaced.
+OF_FEED = {20: ("baseMetricV2", "cvssV2"), 30: ("baseMetricV3", "cvssV3"), 31: ("baseMetricV3", "cvssV3")}
+# A member of the schemas of other versions alone, for each version.
+OTHER_METRICS = {20: ("attackVector", "scope", "Safety"), 30: ("accessVector", "authentication", "Automatable"),
+                 31: ("accessComplexity", "targetDistribution", "vulnIntegrityImpact"),
+                 40: ("accessVector", "scope", "availabilityImpact")}
 LINE_VERSIONS = {20: "v2", 30: "v3.0", 31: "v3.1", 40: "v4"}
 WORDS = """NONE LOW MEDIUM HIGH CRITICAL High none low medium high critical NETWORK LOCAL UNCHANGED PARTIAL REQUIRED
 X""".split()
@@ -77,7 +83,9 @@ class Planted:
     def wrong(self, value):
         """Another value of the same kind."""
         if isinstance(value, float):
-            choices = [self.draw.randrange(101) / 10, value + 0.05, value - 1, 0, 10, 11]
+            choices = [self.draw.randrange(101) / 10, value + 0.05, value - 1, 0, 10, 11, str(value)]
+        elif value in auditing.SPDX_TYPES.values():
+            choices = auditing.SPDX_TYPES.values()
         elif value in auditing.METHODS.values():
             choices = auditing.METHODS.values()
         else:
@@ -105,16 +113,23 @@ class Planted:
             if expected is None:
                 if self.chance(0.1):
                     holder[member] = "NOT_DEFINED"
+            elif not known.has_member(member) and self.chance(0.2):
+                holder[member] = None
             elif member in ("version", "baseScore", "baseSeverity") or self.chance(0.4):
                 holder[member] = expected
-        return holder, [(holder, name) for name in holder if name != "vectorString"]
+        return holder, [(holder, name) for name in holder if name != "vectorString" and holder[name] is not None]
 
     def named_record(self, names):
-        """A record under the name of its version, or, as an error, of another."""
+        """A record under the name of its version, or, as an error, of another; or with a metric of another version."""
         text, known, fault = self.vector()
         holder, places = self.record(text, known)
         name = names[known.version]
         already = ()
+        if fault is None and self.chance(self.rate / 3):
+            other = self.draw.choice(OTHER_METRICS[known.version])
+            holder[other] = self.draw.choice(WORDS)
+            self.finish(holder, fault, places, (other,))
+            return {name: holder}
         if fault is None and self.chance(self.rate / 3):
             name = self.draw.choice([other for other in names.values() if other != name])
             already = (name,)
@@ -142,8 +157,13 @@ class Planted:
         if known.version == 20:
             entry["baseSeverity"] = known.severity_of(known.score).upper()
         places += [(entry, name) for name in entry if name not in ("source", "type", "cvssData")]
-        self.finish(holder, fault, places)
-        return OF_NVD[known.version], entry
+        name = OF_NVD[known.version]
+        already = ()
+        if fault is None and self.chance(self.rate / 3):
+            name = self.draw.choice([other for other in OF_NVD.values() if other != name])
+            already = (name,)
+        self.finish(holder, fault, places, already)
+        return name, entry
 
     def nvd(self):
         def vulnerability():
@@ -154,12 +174,31 @@ class Planted:
         return {"resultsPerPage": 2, "format": "NVD_CVE", "version": "2.0",
                 "vulnerabilities": self.several(vulnerability)}
 
+    def feed(self):
+        """NVD's old feeds."""
+        def item():
+            impact = {}
+            for versions in ((20,), (30, 31)):
+                text, known, fault = self.vector(versions)
+                holder, places = self.record(text, known)
+                outer, name = OF_FEED[known.version]
+                entry = {member: tenths / 10 for member, tenths in known.sub_scores().items()}
+                if known.version == 20:
+                    entry["severity"] = known.severity_of(known.score).upper()
+                places += [(entry, member) for member in entry]
+                self.finish(holder, fault, places)
+                impact[outer] = {name: holder, **entry}
+            return {"cve": {"CVE_data_meta": {"ID": self.number()}}, "impact": impact}
+        return {"CVE_data_type": "CVE", "CVE_data_version": "4.0", "CVE_Items": self.several(item)}
+
     def osv_severity(self):
         text, known, fault = self.vector()
         holder = {"type": auditing.OSV_TYPES[known.version], "score": text}
         already = ()
         if fault is None and self.chance(self.rate):
             others = [other for other in auditing.OSV_TYPES.values() if other != holder["type"]]
+            if text.startswith("CVSS:"):
+                others += ["CVSS_V31", "cvss_v4", "CVSSv3"]
             holder["type"] = self.draw.choice(others)
             already = ("type",)
         self.finish(holder, fault, [], already)
@@ -209,9 +248,10 @@ class Planted:
     def grype_score(self):
         text, known, fault = self.vector()
         holder = {"source": "nvd@nist.gov", "version": auditing.VERSION_NAMES[known.version], "vector": text,
-                  "metrics": {"baseScore": known.score / 10, "exploitabilityScore": 1, "impactScore": 2},
-                  "vendorMetadata": {}}
-        self.finish(holder, fault, [(holder, "version"), (holder["metrics"], "baseScore")])
+                  "metrics": {"baseScore": known.score / 10}, "vendorMetadata": {}}
+        holder["metrics"] |= {member: tenths / 10 for member, tenths in known.sub_scores().items()}
+        places = [(holder["metrics"], member) for member in holder["metrics"]]
+        self.finish(holder, fault, [(holder, "version"), *places])
         return holder
 
     def grype(self):
@@ -247,10 +287,10 @@ class Planted:
 
     def assessment(self):
         text, known, fault = self.vector()
-        holder = {"type": "security_CvssV3VulnAssessmentRelationship", "spdxId": f"urn:{self.number()}",
+        holder = {"type": auditing.SPDX_TYPES[known.version], "spdxId": f"urn:{self.number()}",
                   "security_vectorString": text, "security_score": known.score / 10,
                   "security_severity": known.severity_of(known.score)}
-        self.finish(holder, fault, [(holder, "security_score"), (holder, "security_severity")])
+        self.finish(holder, fault, [(holder, name) for name in ("security_score", "security_severity", "type")])
         return holder
 
     def spdx(self):
@@ -263,7 +303,7 @@ class Planted:
         return made
 
 
-FORMS = "cve", "nvd", "osv", "csaf", "github", "cyclonedx", "grype", "trivy", "cargo_audit", "spdx"
+FORMS = "cve", "nvd", "feed", "osv", "csaf", "github", "cyclonedx", "grype", "trivy", "cargo_audit", "spdx"
 
 
 def pointers(value, at=""):

@@ -107,7 +107,7 @@ Enters-object step context value old new holder around asked members is own_is a
   places =
       let own = members_view holder.now.entries in
       let seen_places : Context → List Form → List (String Global × Value) → List Place = λ seen each entries.
-      filter_map (place_as seen own) each ++ places_in_members seen.1 own (members_view entries) in
+      filter_map (place_as seen own) each ++ places_in_members seen own (members_view entries) in
       ap (map (under (step_text step)))
       (ap₂ (λ seen each. seen_places seen each members) own_is all ∙ ap (seen_places (own_context context own) forms) same ∙ sym (ap (places_within context) is));
   steps = omega (arith, ap length all, ap (λ each. steps_in_members (members_view each)) same, ap steps_in is);

@@ -11,7 +11,7 @@ use Rattle.std.specs.Option.{IfSome}
 use Rattle.std.specs.Ordering.{match_ordering}
 use Rattle.serde_json.specs.Data.{Data, array, object, Items, no_items, item, Members, no_members, member}
 use Rattle.serde_json.specs.Find.{get_item, get_member}
-use Rattle.cvss_document.specs.Places.{Context, Place, below, escaped, forms, own_context, place_as, places_in, places_in_items, places_in_members, places_of, places_within, vector_as}
+use Rattle.cvss_document.specs.Places.{Context, Place, below, escaped, forms, member_context, own_context, place_as, places_in, places_in_items, places_in_members, places_of, places_within, vector_as}
 use Rattle.cvss_document.specs.laws.Pointers.{LeadsTo, here, by_item, by_member, HasNamesOnce, ItemsHaveNamesOnce, MembersHaveNamesOnce}
 use Rattle.cvss_document.specs.declared.place.Form.{Form}
 
@@ -50,40 +50,40 @@ own_places context own (form ∷ forms) Q each =
 mutual
   in_data : (context : Context) (value : Data) → HasNamesOnce value → (Q : Place → Type 0)
       → ((place : Place) → LeadsTo place.0 value (object place.3) → Q place) → All Q (places_within context value)
-  in_data context (array items) once Q each = in_items context.1 items items 0 (λ index found is. ap (λ sought. get_item sought items) (zero-add index) ∙ is) once Q each
+  in_data context (array items) once Q each = in_items context items items 0 (λ index found is. ap (λ sought. get_item sought items) (zero-add index) ∙ is) once Q each
   in_data context (object members) once Q each =
       let own = own_context context members in
-      All-append Q (places_of own members) (places_in_members own.1 members members)
+      All-append Q (places_of own members) (places_in_members own members members)
       (own_places own members forms Q (λ form text. each ([], form, text, members, own) (here (object members))))
-      (in_members own.1 members members (λ name found is. is) once Q each)
+      (in_members own members members (λ name found is. is) once Q each)
   in_data context _ once Q each = All-nil Q
 
-  in_items : (id : Option (List ℕ)) (all rest : Items) (start : ℕ)
+  in_items : (context : Context) (all rest : Items) (start : ℕ)
       → ((index : ℕ) (found : Data) → get_item index rest ≡ Some found → get_item (start + index) all ≡ Some found)
       → ItemsHaveNamesOnce rest → (Q : Place → Type 0)
-      → ((place : Place) → LeadsTo place.0 (array all) (object place.3) → Q place) → All Q (places_in_items id start rest)
-  in_items id all no_items start held once Q each = All-nil Q
-  in_items id all (item value rest) start held once Q each =
+      → ((place : Place) → LeadsTo place.0 (array all) (object place.3) → Q place) → All Q (places_in_items context start rest)
+  in_items context all no_items start held once Q each = All-nil Q
+  in_items context all (item value rest) start held once Q each =
       let at_start : get_item start all ≡ Some value = ap (λ index. get_item index all) (omega arith) ∙ held 0 value refl in
-      All-append Q _ (places_in_items id (start + 1) rest)
-      (All-map Q (below (decimal start)) (places_within (None, id) value)
-      (in_data (None, id) value once.0 (λ place. Q (below (decimal start) place))
+      All-append Q _ (places_in_items context (start + 1) rest)
+      (All-map Q (below (decimal start)) (places_within context value)
+      (in_data context value once.0 (λ place. Q (below (decimal start) place))
       (λ place leads. each (below (decimal start) place) (by_item start all value (object place.3) place.0 at_start leads))))
-      (in_items id all rest (start + 1)
+      (in_items context all rest (start + 1)
       (λ index found is. ap (λ index. get_item index all) (omega arith) ∙ held (suc index) found is) once.1 Q each)
 
-  in_members : (id : Option (List ℕ)) (all rest : Members)
+  in_members : (context : Context) (all rest : Members)
       → ((name : List ℕ) (found : Data) → get_member name rest ≡ Some found → get_member name all ≡ Some found)
       → MembersHaveNamesOnce rest → (Q : Place → Type 0)
-      → ((place : Place) → LeadsTo place.0 (object all) (object place.3) → Q place) → All Q (places_in_members id all rest)
-  in_members id all no_members held once Q each = All-nil Q
-  in_members id all (member name value rest) held once Q each =
-      All-append Q _ (places_in_members id all rest)
-      (All-map Q (below (escaped name)) (places_within (Some (name, all), id) value)
-      (in_data (Some (name, all), id) value once.1.0 (λ place. Q (below (escaped name) place))
+      → ((place : Place) → LeadsTo place.0 (object all) (object place.3) → Q place) → All Q (places_in_members context all rest)
+  in_members context all no_members held once Q each = All-nil Q
+  in_members context all (member name value rest) held once Q each =
+      All-append Q _ (places_in_members context all rest)
+      (All-map Q (below (escaped name)) (places_within (member_context context all name) value)
+      (in_data (member_context context all name) value once.1.0 (λ place. Q (below (escaped name) place))
       (λ place leads. each (below (escaped name) place)
       (by_member name all value (object place.3) place.0 (held name value (first_found name value rest)) leads))))
-      (in_members id all rest
+      (in_members context all rest
       (λ sought found is. held sought found (found_at (slice_cmp nat_cmp sought name) name sought value found rest refl once.0 is))
       once.1.1 Q each)
 

@@ -1,7 +1,7 @@
 -- Where vectors are in a JSON document, and in which form: FIRST's schemas, GitHub's advisories, OSV's records,
 -- CycloneDX, grype, Trivy, RustSec's advisories and SPDX 3. Locations are JSON Pointers: RFC 6901.
-use Rattle.std.specs.Prelude.{ℕ, ◌+◌, ◌==◌, ◌||◌, Bool, false, List, [], ◌∷◌, ◌++◌, codes, map, flat_map, bytes_eq, if◌then◌else◌, is_some, Option, Some, None, option_map, option_and_then, unwrap_or}
-use Rattle.std.specs.Char.{encode_utf8}
+use Rattle.std.specs.Prelude.{ℕ, ◌+◌, ◌==◌, ◌&&◌, ◌||◌, Bool, false, List, [], ◌∷◌, ◌++◌, codes, map, flat_map, bytes_eq, if◌then◌else◌, is_some, Option, Some, None, option_map, option_and_then, unwrap_or}
+use Rattle.std.specs.Char.{encode_utf8, to_ascii_uppercase}
 use Rattle.std.specs.Fmt.{decimal}
 use Rattle.std.specs.List.{filter_map, list_any, starts_with}
 use Rattle.std.specs.Option.{option_or}
@@ -49,13 +49,22 @@ id_of members =
     (option_or (text_at (codes "VulnerabilityID") members)
     (text_at (codes "spdxId") members))))))
 
--- the name of the member that an object is, and the members of the object that has it
+-- the name of a member, the members of the object that has it, and the name of the member that this object is
 abbrev pub Around : Type 0
-Around = List ℕ × Members
+Around = List ℕ × Members × Option (List ℕ)
 
--- what a value is a member of, if that is an object, and the id of the nearest object around it that has one
+-- the member that a value is, if it is one or in an array that is one, and the id of the nearest object around it that
+-- has one
 abbrev pub Context : Type 0
 Context = Option Around × Option (List ℕ)
+
+-- the name of the member that a value is
+abbrev pub name_in : Context → Option (List ℕ)
+name_in context = option_map (λ around. around.0) context.0
+
+-- the context of the value of a member with this name, by that of the object
+abbrev pub member_context : Context → Members → List ℕ → Context
+member_context context members name = (Some (name, members, name_in context), context.1)
 
 -- what is around an object's own vectors, to which the object itself is the nearest
 abbrev pub own_context : Context → Members → Context
@@ -69,32 +78,59 @@ vector_at name members = option_map as_str (given_at name members)
 abbrev pub is_osv_type : List ℕ → Bool
 is_osv_type reported = is_among reported (codes "CVSS_V2" ∷ codes "CVSS_V3" ∷ codes "CVSS_V4" ∷ [])
 
--- a score whose type is CVSS's, as OSV has it
-abbrev pub osv_score : Members → Option Data
-osv_score members = if unwrap_or (option_map is_osv_type (text_at (codes "type") members)) false then given_at (codes "score") members else None
-
 -- the object holds a vector's text as FIRST's schemas or GitHub's advisories have it
 abbrev pub has_string : Members → Bool
 has_string members = is_some (given_at (codes "vectorString") members) || is_some (given_at (codes "vector_string") members)
 
--- the methods of CycloneDX that are versions of CVSS
+-- the text begins with these capitals, in any ASCII case
+abbrev pub begins_with : List ℕ → List ℕ → Bool
+begins_with capitals text = starts_with (λ x y. x == y) (map to_ascii_uppercase text) capitals
+
+-- a method that is named as CycloneDX names versions of CVSS, in any ASCII case
 abbrev pub is_cvss_method : List ℕ → Bool
-is_cvss_method method = is_among method (codes "CVSSv2" ∷ codes "CVSSv3" ∷ codes "CVSSv31" ∷ codes "CVSSv4" ∷ [])
+is_cvss_method method = begins_with (codes "CVSS") method
 
 -- the value is a text with the prefix of CVSS v3 and v4
 abbrev pub is_prefixed : Data → Bool
 is_prefixed value = unwrap_or (option_map (λ text. starts_with (λ x y. x == y) text (codes "CVSS:")) (as_str value)) false
+
+-- the type and the score, where one of them says that it is CVSS's, as OSV has them
+abbrev pub is_osv : List ℕ → Data → Bool
+is_osv reported score = is_osv_type reported || is_prefixed score
+
+-- a score of CVSS beside a type, as OSV has it
+abbrev pub osv_score : Members → Option Data
+osv_score members =
+    option_and_then (λ reported. option_and_then (λ score. if is_osv reported score then Some score else None) (given_at (codes "score") members))
+    (text_at (codes "type") members)
+
+-- the text begins as vectors do, in any ASCII case
+abbrev pub begins_as_vector : List ℕ → Bool
+begins_as_vector text = begins_with (codes "CVSS") text || begins_with (codes "AV:") text
+
+-- a space, a parenthesis or a bracket before a vector
+abbrev pub is_opening : ℕ → Bool
+is_opening byte = byte == 32 || (byte == 40 || byte == 91)
+
+-- the text was meant as a vector: it begins as vectors do, or does so after one of these
+abbrev pub is_like_vector : List ℕ → Bool
+is_like_vector [] = false
+is_like_vector (byte ∷ text) = begins_as_vector (byte ∷ text) || (is_opening byte && begins_as_vector text)
+
+-- the value is such a text
+abbrev pub is_meant : Data → Bool
+is_meant value = unwrap_or (option_map is_like_vector (as_str value)) false
 
 -- the object has a `method` that is a version of CVSS
 abbrev pub has_cvss_method : Members → Bool
 has_cvss_method members = unwrap_or (option_map is_cvss_method (text_at (codes "method") members)) false
 
 -- a vector with this value is one of CVSS: its `method` is, or there is no method, and there are metrics, as grype has
--- them, or the text has the prefix
+-- them, or the text was meant as a vector
 abbrev pub is_cvss_rating : Members → Data → Bool
 is_cvss_rating members vector =
     if is_some (given_at (codes "method") members) then has_cvss_method members
-    else is_some (object_at (codes "metrics") members) || is_prefixed vector
+    else is_some (object_at (codes "metrics") members) || is_meant vector
 
 -- the vector of a rating, as CycloneDX and grype have it
 abbrev pub rating_vector : Members → Option Data
@@ -127,7 +163,7 @@ Place = List ℕ × Form × Option (List ℕ) × Members × Context
 
 -- a place and what is around it, as the code holds them
 abbrev pub around_view : code_around.Around → Around
-around_view around = (around.name.now, members_view around.object.now.entries)
+around_view around = (around.name.now, members_view around.object.now.entries, option_map (λ outer. outer.now) around.outer)
 
 abbrev pub context_view : code_context.Context → Context
 context_view context = (option_map around_view context.around, option_map (λ id. id.now) context.id)
@@ -173,20 +209,21 @@ abbrev mutual
   places_within context (boolean _) = []
   places_within context (number _) = []
   places_within context (string _) = []
-  places_within context (array items) = places_in_items context.1 0 items
+  places_within context (array items) = places_in_items context 0 items
   places_within context (object members) =
       places_of (own_context context members) members
-      ++ places_in_members (own_context context members).1 members members
+      ++ places_in_members (own_context context members) members members
 
-  pub places_in_items : Option (List ℕ) → ℕ → Items → List Place
-  places_in_items id index no_items = []
-  places_in_items id index (item value rest) =
-      map (below (decimal index)) (places_within (None, id) value) ++ places_in_items id (index + 1) rest
+  pub places_in_items : Context → ℕ → Items → List Place
+  places_in_items context index no_items = []
+  places_in_items context index (item value rest) =
+      map (below (decimal index)) (places_within context value) ++ places_in_items context (index + 1) rest
 
-  pub places_in_members : Option (List ℕ) → Members → Members → List Place
-  places_in_members id all no_members = []
-  places_in_members id all (member name value rest) =
-      map (below (escaped name)) (places_within (Some (name, all), id) value) ++ places_in_members id all rest
+  pub places_in_members : Context → Members → Members → List Place
+  places_in_members context all no_members = []
+  places_in_members context all (member name value rest) =
+      map (below (escaped name)) (places_within (member_context context all name) value)
+      ++ places_in_members context all rest
 
 -- all places in a document
 abbrev pub places_in : Data → List Place

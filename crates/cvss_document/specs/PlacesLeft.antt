@@ -1,5 +1,5 @@
 -- What the walk over a document has still to give of the places where vectors are in it.
-use Rattle.std.specs.Prelude.{◌≡◌, ℕ, List, [], ◌∷◌, ◌++◌, codes, drop, map, Option, None, Some, option_map}
+use Rattle.std.specs.Prelude.{◌≡◌, ℕ, List, [], ◌∷◌, ◌++◌, codes, drop, map, Option, None, Some}
 use Rattle.std.specs.Fmt.{decimal}
 use Rattle.std.specs.List.{filter_map}
 use Rattle.serde_json.specs.View.{items_view, members_view}
@@ -20,10 +20,10 @@ step_text (Item index) = codes "/" ++ decimal index
 
 -- the places in what is still to be visited in a value, seen from the value
 abbrev pub places_in_rest : Rest → List Place
-places_in_rest (Items items index id) = places_in_items (option_map (λ id. id.now) id) index (items_view (drop index items.now))
+places_in_rest (Items items index context) = places_in_items (context_view context) index (items_view (drop index items.now))
 places_in_rest (Object holder context forms members) =
     filter_map (place_as (context_view context) (members_view holder.now.entries)) forms.now
-    ++ places_in_members (context_view context).1 (members_view holder.now.entries) (members_view members)
+    ++ places_in_members (context_view context) (members_view holder.now.entries) (members_view members)
 
 -- a place that a pointer leads to, seen from where another pointer begins that leads to its start
 abbrev pub under : List ℕ → Place → Place

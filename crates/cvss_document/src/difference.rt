@@ -1,17 +1,18 @@
 //! Where an object disagrees with the vector in it.
 
-ghost use Rattle.std.specs.Prelude.{◌≡◌, ◌∷◌, [], IfOk, OnOk, map, option_and_then, option_map};
+ghost use Rattle.std.specs.Prelude.{◌≡◌, ◌∷◌, [], IfOk, OnOk, false, map, option_and_then, option_map, unwrap_or};
 ghost use Rattle.std.specs.Option.{option_to_list};
 ghost use Rattle.cvss_vector.specs.Answers.{HasScore};
-ghost use Rattle.cvss_document.specs.Differences.{AreDifferences, AreDifferencesAt, claim_view, difference_at, difference_from, difference_view, differences_at, expected_by, member_differences, osv_type, record_differences, said_view, wrong_name};
+ghost use Rattle.cvss_document.specs.Differences.{AreDifferences, AreDifferencesAt, begins_with_digit, claim_view, difference_at, difference_from, difference_view, differences_at, expected_by, expected_here, is_numeric, member_differences, osv_type, record_differences, said_view, wrong_name};
 ghost use Rattle.cvss_document.specs.Expected.{expected_value};
 ghost use Rattle.cvss_document.specs.Places.{place_view};
 ghost use Rattle.cvss_document.specs.private.Views.{Adds};
 ghost use Rattle.cvss_json_record.specs.Record.{expected_view};
+ghost use Rattle.serde_json.specs.Find.{as_str};
 ghost use Rattle.serde_json.specs.View.{members_view, view};
 
 use crate::expected::{agrees, expected_at, expected_value};
-use crate::place::{Form, Place, member};
+use crate::place::{Form, Place, given_at};
 use crate::ratings::{push_rating_members, push_spdx, push_trivy};
 use crate::sub_scores::SubScores;
 use crate::surroundings::push_around;
@@ -50,7 +51,7 @@ pub(crate) struct Scored<'a> {
 /// What a member is to say.
 #[derive(Clone, Copy)]
 pub(crate) enum Claim {
-    /// So many tenths, if it is a number.
+    /// So many tenths, if it is a number or a string that is written as one.
     Number(u8),
     /// This text.
     Text(&'static str),
@@ -83,9 +84,9 @@ pub fn differences<'a>(
 
 /// Where the document says otherwise at a place than the vector whose text is there. First the
 /// members of the object that holds it: of a record all, of the other forms those that the form has
-/// beside the vector. Then what is around the object: the version that the name of a member says
-/// which the object is, and beside `cvssData`, as NVD has it, the severity of a vector of CVSS v2 and
-/// the sub-scores of one of v2 or v3.
+/// beside the vector. Then what is around the object: the versions that the names of the two members
+/// say that it is in, and, as NVD has them, the severity of a vector of CVSS v2 and the sub-scores of
+/// one of v2 or v3.
 ///
 /// # Errors
 ///
@@ -103,7 +104,7 @@ pub fn differences_at<'a>(
     let parts = SubScores::of(cvss);
     let vector = Scored { cvss, scores };
     let mut found = Vec::new(alloc);
-    push_object(&mut found, vector, place)?;
+    push_object(&mut found, vector, parts, place)?;
     push_around(&mut found, vector, parts, place.context.around)?;
     Ok(found)
 }
@@ -112,10 +113,11 @@ pub fn differences_at<'a>(
 fn push_object<'a>(
     found: &mut Vec<Difference<'a>>,
     vector: Scored<'_>,
+    parts: Option<SubScores>,
     place: &Place<'a>,
 ) -> Result<(), AllocError>
     ensures { OnOk result (Adds found.old.items
-        (member_differences vector.entry.cvss.now vector.entry.scores place.now.form
+        (member_differences vector.entry.cvss.now vector.entry.scores parts place.now.form
         (members_view place.now.object.now.entries)) found.new.items) }
 {
     let object = place.object;
@@ -123,7 +125,7 @@ fn push_object<'a>(
         Form::Record => push_members(found, vector, object),
         Form::GitHub => push_at(found, "score", Claim::Number(vector.scores.base), object),
         Form::Osv => push_at(found, "type", Claim::Text(osv_type(vector.cvss)), object),
-        Form::Rating => push_rating_members(found, vector, object),
+        Form::Rating => push_rating_members(found, vector, parts, object),
         Form::TrivyV2 => push_trivy(found, vector, ("V2Score", "V2Vector"), object),
         Form::TrivyV3 => push_trivy(found, vector, ("V3Score", "V3Vector"), object),
         Form::TrivyV40 => push_trivy(found, vector, ("V40Score", "V40Vector"), object),
@@ -148,7 +150,7 @@ fn push_members<'a>(
     Ok(())
 }
 
-/// Adds the difference of the member of this name from what it is to say, if it is there.
+/// Adds the difference of the member of this name from what it is to say, if it is there and not null.
 pub(crate) fn push_at<'a>(
     found: &mut Vec<Difference<'a>>,
     name: &'a str,
@@ -159,7 +161,7 @@ pub(crate) fn push_at<'a>(
         (differences_at name.now (claim_view claim) (members_view object.now.entries))
         found.new.items) }
 {
-    match member(object, name) {
+    match given_at(object, name) {
         Some(said) => push_if_other(found, name, said, expected_by(claim, said)),
         None => Ok(()),
     }
@@ -171,7 +173,7 @@ fn expected_by(claim: Claim, said: &Value) -> Option<Expected>
 {
     match claim {
         Claim::Number(tenths) => {
-            if said.is_number() {
+            if is_numeric(said) {
                 Some(Expected::Score(tenths))
             } else {
                 None
@@ -185,6 +187,31 @@ fn expected_by(claim: Claim, said: &Value) -> Option<Expected>
                 Some(Expected::Text(text))
             }
         }
+    }
+}
+
+/// Whether a value is a number, or a string that is written as one.
+fn is_numeric(said: &Value) -> bool
+    ensures { result ≡ is_numeric (view said.now) }
+{
+    said.is_number() || is_number_text(said)
+}
+
+fn is_number_text(said: &Value) -> bool
+    ensures { result ≡ unwrap_or (option_map begins_with_digit (as_str (view said.now))) false }
+{
+    match said.as_str() {
+        Some(text) => begins_with_digit(text.as_bytes()),
+        None => false,
+    }
+}
+
+fn begins_with_digit(text: &[u8]) -> bool
+    ensures { result ≡ begins_with_digit text.now }
+{
+    match text {
+        [first, ..] => first.is_ascii_digit(),
+        [] => false,
     }
 }
 
@@ -210,12 +237,20 @@ fn push_member<'a>(
         (option_to_list (difference_at vector.entry.cvss.now vector.entry.scores
         (name.now, view said.now))) found.new.items) }
 {
+    push_if_other(found, name, said, expected_here(vector, name, said))
+}
+
+/// What is expected of a member, if anything: of a number at `score` that it is the vector's, and else
+/// what the vector's record says.
+fn expected_here(vector: Scored<'_>, name: &str, said: &Value) -> Option<Expected>
+    ensures { option_map expected_view result
+        ≡ expected_here vector.entry.cvss.now vector.entry.scores (name.now, view said.now) }
+{
     if name == "score" {
-        let expected = expected_by(Claim::Number(vector.scores.base), said);
-        return push_if_other(found, name, said, expected);
+        expected_by(Claim::Number(vector.scores.base), said)
+    } else {
+        expected_at(vector.cvss, &vector.scores, name, said)
     }
-    let expected = expected_at(vector.cvss, &vector.scores, name);
-    push_if_other(found, name, said, expected)
 }
 
 /// Adds the difference between what is said and what is expected, if there is one.

@@ -1,7 +1,7 @@
 //! A place where a vector is in a document.
 
-ghost use Rattle.std.specs.Prelude.{◌≡◌, option_map};
-ghost use Rattle.cvss_document.specs.Places.{around_view, given_at, has_cvss_method, has_string, is_cvss_method, is_cvss_rating, is_named, is_osv_type, is_prefixed, object_at, osv_score, rating_vector, text_at, vector_as, vector_at};
+ghost use Rattle.std.specs.Prelude.{◌≡◌, codes, option_map};
+ghost use Rattle.cvss_document.specs.Places.{around_view, begins_as_vector, begins_with, context_view, given_at, has_cvss_method, has_string, is_cvss_method, is_cvss_rating, is_like_vector, is_meant, is_named, is_opening, is_osv, is_osv_type, is_prefixed, member_context, object_at, osv_score, rating_vector, text_at, vector_as, vector_at};
 ghost use Rattle.serde_json.specs.Find.{get_member};
 ghost use Rattle.serde_json.specs.View.{members_view, view};
 
@@ -62,20 +62,45 @@ pub struct Place<'a> {
 /// What is around a value in a document.
 #[derive(Clone, Copy)]
 pub struct Context<'a> {
-    /// What the value is a member of, if that is an object.
+    /// The member that the value is, if it is one or in an array that is one.
     pub around: Option<Around<'a>>,
     /// The id of the nearest object around the value that has one. To an object's own vectors that
     /// object is the nearest.
     pub id: Option<&'a str>,
 }
 
-/// An object that has another value as a member.
+/// A member, and the object that has it.
 #[derive(Clone, Copy)]
 pub struct Around<'a> {
     /// The name of the member.
     pub name: &'a str,
     /// The object that has it.
     pub object: &'a Map<String, Value>,
+    /// The name of the member that this object is, if it is one or in an array that is one.
+    pub outer: Option<&'a str>,
+}
+
+/// The context of the value of a member with this name, by that of the object.
+pub(crate) fn member_context<'a>(
+    context: Context<'a>,
+    object: &'a Map<String, Value>,
+    name: &'a str,
+) -> Context<'a>
+    ensures { context_view result
+        ≡ member_context (context_view context.entry) (members_view object.now.entries) name.now }
+{
+    let outer = match context.around {
+        Some(around) => Some(around.name),
+        None => None,
+    };
+    Context {
+        around: Some(Around {
+            name,
+            object,
+            outer,
+        }),
+        id: context.id,
+    }
 }
 
 /// The text of the vector that an object holds in a form: none inside where there is no string.
@@ -118,16 +143,25 @@ fn has_string(members: &Map<String, Value>) -> bool
     given_at(members, "vectorString").is_some() || given_at(members, "vector_string").is_some()
 }
 
-/// The score whose type is one of CVSS, as OSV has it.
+/// The score of CVSS beside a type, as OSV has it.
 fn osv_score(members: &Map<String, Value>) -> Option<&Value>
     ensures { option_map (λ value. view value.now) result
         ≡ osv_score (members_view members.now.entries) }
 {
     let reported = text_at(members, "type")?;
-    if !is_osv_type(reported) {
-        return None;
+    let score = given_at(members, "score")?;
+    if is_osv(reported, score) {
+        Some(score)
+    } else {
+        None
     }
-    given_at(members, "score")
+}
+
+/// Whether a type or the score beside it says that it is CVSS's.
+fn is_osv(reported: &str, score: &Value) -> bool
+    ensures { result ≡ is_osv reported.now (view score.now) }
+{
+    is_osv_type(reported) || is_prefixed(score)
 }
 
 fn is_osv_type(reported: &str) -> bool
@@ -151,7 +185,7 @@ fn is_cvss_rating(members: &Map<String, Value>, vector: &Value) -> bool
     if given_at(members, "method").is_some() {
         return has_cvss_method(members);
     }
-    object_at(members, "metrics").is_some() || is_prefixed(vector)
+    object_at(members, "metrics").is_some() || is_meant(vector)
 }
 
 fn has_cvss_method(members: &Map<String, Value>) -> bool
@@ -166,7 +200,57 @@ fn has_cvss_method(members: &Map<String, Value>) -> bool
 fn is_cvss_method(method: &str) -> bool
     ensures { result ≡ is_cvss_method method.now }
 {
-    matches!(method, "CVSSv2" | "CVSSv3" | "CVSSv31" | "CVSSv4")
+    begins_with_name(method.as_bytes())
+}
+
+/// Whether a value is a text that was meant as a vector.
+fn is_meant(value: &Value) -> bool
+    ensures { result ≡ is_meant (view value.now) }
+{
+    match value.as_str() {
+        Some(text) => is_like_vector(text.as_bytes()),
+        None => false,
+    }
+}
+
+/// Whether a text begins as vectors do, or does so after a space, a parenthesis or a bracket.
+fn is_like_vector(text: &[u8]) -> bool
+    ensures { result ≡ is_like_vector text.now }
+{
+    match text {
+        [first, rest @ ..] => begins_as_vector(text)
+            || is_opening(*first) && begins_as_vector(rest),
+        [] => false,
+    }
+}
+
+fn is_opening(byte: u8) -> bool
+    ensures { result ≡ is_opening byte }
+{
+    matches!(byte, b' ' | b'(' | b'[')
+}
+
+/// Whether a text begins as vectors do, in any ASCII case.
+fn begins_as_vector(text: &[u8]) -> bool
+    ensures { result ≡ begins_as_vector text.now }
+{
+    begins_with_name(text) || begins_with_metric(text)
+}
+
+/// Whether a text begins with `CVSS`, in any ASCII case.
+fn begins_with_name(text: &[u8]) -> bool
+    ensures { result ≡ begins_with (codes "CVSS") text.now }
+{
+    matches!(
+        text,
+        [b'C' | b'c', b'V' | b'v', b'S' | b's', b'S' | b's', ..]
+    )
+}
+
+fn begins_with_metric(text: &[u8]) -> bool
+    ensures { result ≡ begins_with (codes "AV:") text.now }
+{
+    matches!(text, [b'A' | b'a', b'V' | b'v', b':', ..])
 }
 
 /// Whether a value is a text with the prefix of CVSS v3 and v4.
@@ -209,7 +293,7 @@ pub(crate) fn object_at<'a>(
 }
 
 /// The value of the member with this name, unless it is null.
-fn given_at<'a>(members: &'a Map<String, Value>, name: &str) -> Option<&'a Value>
+pub(crate) fn given_at<'a>(members: &'a Map<String, Value>, name: &str) -> Option<&'a Value>
     ensures { option_map (λ value. view value.now) result
         ≡ given_at name.now (members_view members.now.entries) }
 {

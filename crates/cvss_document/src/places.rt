@@ -9,7 +9,7 @@ ghost use Rattle.serde_json.specs.View.{members_view, view};
 ghost use Rattle.cvss_document.specs.declared.places.Rest.TheVariants.{Items, Object};
 
 use crate::ids::own_context;
-use crate::place::{Around, Context, FORMS, Form, Place, vector_as};
+use crate::place::{Context, FORMS, Form, Place, member_context, vector_as};
 use crate::pointer::{Step, push_step};
 use serde_json::{Map, Value};
 use std::alloc::{AllocError, Global};
@@ -33,8 +33,8 @@ pub(crate) struct Level<'a> {
 /// What is still to be visited in a value.
 #[derive(Drop)]
 pub(crate) enum Rest<'a> {
-    /// The items of an array from this one, with the id that is the nearest around them.
-    Items(&'a [Value], usize, Option<&'a str>),
+    /// The items of an array from this one, in the context of the array.
+    Items(&'a [Value], usize, Context<'a>),
     /// An object's own vectors in these forms, and then these of its members.
     Object(&'a Map<String, Value>, Context<'a>, &'static [Form], Iter<'a, String, Value>),
 }
@@ -83,8 +83,8 @@ impl<'a> Places<'a> {
     {
         let step = level.step;
         match level.rest {
-            Rest::Items(items, index, id) => {
-                self.visit_item(step, items, index, id)?;
+            Rest::Items(items, index, context) => {
+                self.visit_item(step, items, index, context)?;
                 Ok(None)
             }
             Rest::Object(object, context, forms, members) => {
@@ -126,15 +126,14 @@ impl<'a> Places<'a> {
         step: Step<'a>,
         items: &'a [Value],
         index: usize,
-        id: Option<&'a str>,
+        context: Context<'a>,
     ) -> Result<(), AllocError>
         ensures { OnOk result (Visits
-            (self.old.levels.items ++ level_of step.entry (Items items.entry index id.entry) ∷ [])
+            (self.old.levels.items ++ level_of step.entry (Items items.entry index context.entry) ∷ [])
             [] self.new.levels.items) }
     {
         if let Some(item) = items.get(index) {
-            self.push(step, Rest::Items(items, index + 1, id))?;
-            let context = Context { around: None, id };
+            self.push(step, Rest::Items(items, index + 1, context))?;
             self.enter(Step::Item(index), item, context)?;
         }
         Ok(())
@@ -159,9 +158,11 @@ impl<'a> Places<'a> {
         if let Some((name, value)) = later.next() {
             let name = name.as_str();
             self.push(step, Rest::Object(object, context, forms, later))?;
-            let around = Some(Around { name, object });
-            let id = context.id;
-            self.enter(Step::Member(name), value, Context { around, id })?;
+            self.enter(
+                Step::Member(name),
+                value,
+                member_context(context, object, name),
+            )?;
         }
         Ok(())
     }
@@ -177,7 +178,7 @@ impl<'a> Places<'a> {
             self.old.levels.items self.new.levels.items) }
     {
         match value {
-            Value::Array(items) => self.push(step, Rest::Items(items, 0, context.id)),
+            Value::Array(items) => self.push(step, Rest::Items(items, 0, context)),
             Value::Object(object) => {
                 let own = own_context(context, object);
                 self.push(step, Rest::Object(object, own, FORMS, object.iter()))

@@ -1,12 +1,15 @@
 //! Where ratings of CycloneDX, grype, Trivy and SPDX 3 disagree with the vector in them.
 
-ghost use Rattle.std.specs.Prelude.{◌≡◌, OnOk, option_map};
-ghost use Rattle.cvss_document.specs.Differences.{claim_view, given_rating_differences, method_of, metrics_differences, severity, severity_text_of, spdx_differences, trivy_differences, trivy_name};
+ghost use Rattle.std.specs.Prelude.{◌≡◌, OnOk, codes, false, option_map, unwrap_or};
+ghost use Rattle.cvss_document.specs.Differences.{claim_view, given_rating_differences, is_spdx_type, method_of, metrics_differences, severity, severity_text_of, spdx_differences, spdx_type, spdx_type_differences, trivy_differences, trivy_name};
 ghost use Rattle.cvss_document.specs.private.Views.{Adds};
+ghost use Rattle.cvss_document.specs.Places.{text_at};
 ghost use Rattle.serde_json.specs.View.{members_view};
 
 use crate::difference::{Claim, Difference, Scored, push_at, push_name};
-use crate::place::object_at;
+use crate::place::{object_at, text_at};
+use crate::sub_scores::SubScores;
+use crate::surroundings::push_parts;
 use cvss_base::TENTH;
 use cvss_vector::Cvss;
 use serde_json::{Map, Value};
@@ -16,39 +19,42 @@ use std::alloc::AllocError;
 pub(crate) fn push_rating_members<'a>(
     found: &mut Vec<Difference<'a>>,
     vector: Scored<'_>,
+    parts: Option<SubScores>,
     object: &'a Map<String, Value>,
 ) -> Result<(), AllocError>
     ensures { OnOk result (Adds found.old.items
-        (given_rating_differences vector.entry.cvss.now vector.entry.scores
+        (given_rating_differences vector.entry.cvss.now vector.entry.scores parts
         (members_view object.now.entries)) found.new.items) }
 {
     push_at(found, "method", Claim::Text(method_of(vector.cvss)), object)?;
-    push_metrics(found, vector, object_at(object, "metrics"))?;
+    push_metrics(found, vector, parts, object_at(object, "metrics"))?;
     push_at(found, "score", Claim::Number(vector.scores.base), object)?;
     push_at(found, "severity", severity(vector), object)?;
     let version = Claim::Text(vector.cvss.version().as_str());
     push_at(found, "version", version, object)
 }
 
-/// Adds the difference of the base score in `metrics`, as grype has it.
+/// Adds the differences of the base score and the sub-scores in `metrics`, as grype has them.
 fn push_metrics<'a>(
     found: &mut Vec<Difference<'a>>,
     vector: Scored<'_>,
+    parts: Option<SubScores>,
     metrics: Option<&'a Map<String, Value>>,
 ) -> Result<(), AllocError>
     ensures { OnOk result (Adds found.old.items
-        (metrics_differences vector.entry.scores
+        (metrics_differences vector.entry.scores parts
         (option_map (λ object. members_view object.now.entries) metrics.entry)) found.new.items) }
 {
-    match metrics {
-        Some(metrics) => push_at(
-            found,
-            "baseScore",
-            Claim::Number(vector.scores.base),
-            metrics,
-        ),
-        None => Ok(()),
-    }
+    let Some(metrics) = metrics else {
+        return Ok(());
+    };
+    push_at(
+        found,
+        "baseScore",
+        Claim::Number(vector.scores.base),
+        metrics,
+    )?;
+    push_parts(found, parts, metrics)
 }
 
 /// The method that CycloneDX gives a rating by a vector.
@@ -95,7 +101,7 @@ fn trivy_name(cvss: &Cvss) -> &'static str
     }
 }
 
-/// Adds the differences of a score and a severity, as SPDX 3 has them.
+/// Adds the differences of a score, a severity and a type, as SPDX 3 has them.
 pub(crate) fn push_spdx<'a>(
     found: &mut Vec<Difference<'a>>,
     vector: Scored<'_>,
@@ -111,7 +117,52 @@ pub(crate) fn push_spdx<'a>(
         Claim::Number(vector.scores.base),
         object,
     )?;
-    push_at(found, "security_severity", severity(vector), object)
+    push_at(found, "security_severity", severity(vector), object)?;
+    push_spdx_type(found, vector.cvss, object)
+}
+
+/// Adds the difference of the type, if it is one that says a version of CVSS.
+fn push_spdx_type<'a>(
+    found: &mut Vec<Difference<'a>>,
+    cvss: &Cvss,
+    object: &'a Map<String, Value>,
+) -> Result<(), AllocError>
+    ensures { OnOk result (Adds found.old.items
+        (spdx_type_differences cvss.now (members_view object.now.entries)) found.new.items) }
+{
+    if has_spdx_type(object) {
+        return push_at(found, "type", Claim::Text(spdx_type(cvss)), object);
+    }
+    Ok(())
+}
+
+fn has_spdx_type(object: &Map<String, Value>) -> bool
+    ensures { result ≡ unwrap_or (option_map is_spdx_type
+        (text_at (codes "type") (members_view object.now.entries))) false }
+{
+    match text_at(object, "type") {
+        Some(reported) => is_spdx_type(reported),
+        None => false,
+    }
+}
+
+fn is_spdx_type(reported: &str) -> bool
+    ensures { result ≡ is_spdx_type reported.now }
+{
+    reported == "security_CvssV2VulnAssessmentRelationship"
+        || reported == "security_CvssV3VulnAssessmentRelationship"
+        || reported == "security_CvssV4VulnAssessmentRelationship"
+}
+
+/// The type that SPDX 3 gives an assessment by a vector.
+fn spdx_type(cvss: &Cvss) -> &'static str
+    ensures { result.now ≡ spdx_type cvss.now }
+{
+    match cvss {
+        Cvss::CvssV20(_) => "security_CvssV2VulnAssessmentRelationship",
+        Cvss::CvssV30(_) | Cvss::CvssV31(_) => "security_CvssV3VulnAssessmentRelationship",
+        Cvss::CvssV40(_) => "security_CvssV4VulnAssessmentRelationship",
+    }
 }
 
 /// The severity of the score that a record says of a vector, in lower case.

@@ -16,6 +16,6 @@ use cvss_vector::{v2, v3};
 pub use expected::{Expected, expected_of};
 pub use field::{Field, fields_of};
 pub use group::{is_in_v2, is_in_v3, score_member, severity_member};
-pub use record::put_record;
+pub use record::{has_member, put_record};
 pub use score::{Scores, severity_word};
 pub use text::{put_vector, spelled};

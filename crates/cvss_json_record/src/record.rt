@@ -76,7 +76,7 @@ fn value_at(cvss: &Cvss, scores: &Scores, field: Field) -> Option<Scalar<'static
 
 /// Whether the record has the member: that of an optional group's score where the vector has a metric
 /// of the group.
-fn has_member(cvss: &Cvss, field: Field) -> bool
+pub fn has_member(cvss: &Cvss, field: Field) -> bool
     ensures { result ≡ has_member cvss.now field }
 {
     match field {

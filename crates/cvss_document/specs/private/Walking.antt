@@ -37,7 +37,7 @@ abbrev mutual
 
 -- how many steps visit what is left in a value
 abbrev pub steps_in_rest : Rest → ℕ
-steps_in_rest (rest.Items items index id) = steps_in_items (items_view (drop index items.now))
+steps_in_rest (rest.Items items index context) = steps_in_items (items_view (drop index items.now))
 steps_in_rest (rest.Object holder context forms members) = length forms.now + steps_in_members (members_view members)
 
 -- how many steps visit all that is left

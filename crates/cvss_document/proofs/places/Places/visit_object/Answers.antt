@@ -19,7 +19,7 @@ returns-in_ok-push-in-Some c =
     let context = context_view c.args.context in
     let members = members_view c.args.object.now.entries in
     let own = place_as context members c.in-Some.form.now in
-    let left = places_in_members context.1 members (members_view c.args.members) in
+    let left = places_in_members context members (members_view c.args.members) in
     let places : places_in_rest old ≡ option_to_list own ++ places_in_rest rest = rw split (first_place own (filter_map (place_as context members) c.in-Some.later.now) left) in
     let fewer : steps_in_rest rest < steps_in_rest old = omega (arith, ap length split) in
     IfOk-weaker c.own_place.result _ _
