@@ -1,4 +1,4 @@
-"""Kinds of error, as the column `kind` of refused.tsv has them, from the library's messages."""
+"""Kinds of error, as the column `kind` of rejected.tsv has them, from the library's messages."""
 
 # The first word of a reason, and the kind of error that it means.
 KINDS = (

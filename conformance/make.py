@@ -1,5 +1,5 @@
 #!/usr/bin/env python3
-"""Makes the kit: scores.tsv and refused.tsv, always the same bytes.
+"""Makes the kit: scores.tsv and rejected.tsv, always the same bytes.
 
 Every answer comes from reference/reference.py, which computes on fractions. This file also has a
 simulation of calculators that compute in doubles: it finds the rows at which they go wrong, and
@@ -17,9 +17,9 @@ from pathlib import Path
 
 sys.dont_write_bytecode = True  # leaves nothing in the tree
 
-from drawing import edges, fourth, jumps, refusals, texts, weights
+from drawing import edges, fourth, jumps, rejections, texts, weights
 from drawing.jumps import IMPACTS, REQUIREMENTS, TEMPORAL, assignments
-from drawing.rows import REFUSED_COLUMNS, SCORE_COLUMNS, accepted, table, v2, v3, whole
+from drawing.rows import REJECTED_COLUMNS, SCORE_COLUMNS, accepted, table, v2, v3, whole
 
 
 def doubles(version, vector, names):
@@ -175,7 +175,7 @@ def drawn():
     scores = (texts.rows(), weights.rows(), jumps.rows(), edges.rows(), doubles_rows(),
               fourth.rows())
     return {"scores.tsv": table(SCORE_COLUMNS, chain.from_iterable(scores)),
-            "refused.tsv": table(REFUSED_COLUMNS, refusals.rows())}
+            "rejected.tsv": table(REJECTED_COLUMNS, rejections.rows())}
 
 
 def main():

@@ -3,8 +3,8 @@
 
 The command answers each text by one line with its columns, separated by spaces or tabs, or by a line
 that begins with `error` if it rejects the text. The columns are named by --columns, in the order in
-which the command writes them: canonical, version, score, temporal, environmental, nomenclature, rating,
-temporal_rating, environmental_rating, complete; and kind, the word after `error: `.
+which the command writes them: canonical, version, score, temporal, environmental, nomenclature, severity,
+temporal_severity, environmental_severity, complete; and kind, the word after `error: `.
 
 Status: 0 if each row is right, 1 if some are wrong, 2 if the command could not be run to the end.
 """
@@ -19,8 +19,8 @@ from pathlib import Path
 
 HERE = Path(__file__).resolve().parent
 NUMBERS = ("version", "score", "temporal", "environmental")
-COLUMNS = ("canonical", *NUMBERS, "nomenclature", "rating", "temporal_rating",
-           "environmental_rating", "complete", "kind")
+COLUMNS = ("canonical", *NUMBERS, "nomenclature", "severity", "temporal_severity",
+           "environmental_severity", "complete", "kind")
 
 
 class Unfit(Exception):
@@ -46,7 +46,7 @@ def version_told(row):
 
 def chosen(options):
     """The rows that are to be tried."""
-    rows = read_table(options.folder / "scores.tsv") + read_table(options.folder / "refused.tsv")
+    rows = read_table(options.folder / "scores.tsv") + read_table(options.folder / "rejected.tsv")
     known = {row["class"] for row in rows}
     for name in options.only + options.without:
         if name not in known:
@@ -62,13 +62,13 @@ def chosen(options):
 
 
 def is_same(name, answer, expected):
-    """Whether an answer is the column's: 7.0 and 7 are one number, High and high one rating."""
+    """Whether an answer is the column's: 7.0 and 7 are one number, High and high one severity."""
     if name in NUMBERS and expected != "-":
         try:
             return Decimal(answer) == Decimal(expected)
         except InvalidOperation:
             return False
-    return answer.lower() == expected.lower() if name.endswith("rating") else answer == expected
+    return answer.lower() == expected.lower() if name.endswith("severity") else answer == expected
 
 
 def fault(row, columns, line):
@@ -77,13 +77,13 @@ def fault(row, columns, line):
     scored = [name for name in columns if name != "kind"]
     if words and words[0] in ("error", "error:"):
         if "kind" not in row:
-            return "refused, and to be accepted"
+            return "rejected, and to be accepted"
         kind = words[1] if len(words) > 1 else ""
         if "kind" in columns and kind != row["kind"]:
-            return f"refused as {kind or 'nothing'}, and not as {row['kind']}"
+            return f"rejected as {kind or 'nothing'}, and not as {row['kind']}"
         return None
     if "kind" in row:
-        return f"accepted as {line.strip()[:60]}, and to be refused ({row['kind']})"
+        return f"accepted as {line.strip()[:60]}, and to be rejected ({row['kind']})"
     if len(words) != len(scored):
         return f"{len(words)} columns in place of {len(scored)}: {line.strip()[:60]}"
     wrong = [f"{name} {answer}, and not {row[name]}" for name, answer in zip(scored, words)
@@ -177,7 +177,8 @@ def parsed(arguments):
     parser.add_argument("command", nargs="+", metavar="COMMAND",
                         help="the command and its arguments")
     options = parser.parse_args(arguments)
-    options.columns = options.columns.split(",")
+    # 1.0 named the severities ratings
+    options.columns = options.columns.replace("rating", "severity").split(",")
     options.versions = options.versions.split(",") if options.versions else []
     for name in options.columns:
         if name not in COLUMNS:

@@ -26,7 +26,7 @@ class Files(unittest.TestCase):
             self.assertEqual(content, (HERE / name).read_bytes(), name)
 
     def test_have_at_most_20000_rows_and_3_megabytes(self):
-        contents = [(HERE / name).read_bytes() for name in ("scores.tsv", "refused.tsv")]
+        contents = [(HERE / name).read_bytes() for name in ("scores.tsv", "rejected.tsv")]
         self.assertLessEqual(sum(content.count(b"\n") - 1 for content in contents), 20_000)
         self.assertLessEqual(sum(map(len, contents)), 3_000_000)
 
@@ -38,7 +38,7 @@ class Files(unittest.TestCase):
         counts = Counter(row["class"] for row in run.chosen(run.parsed(["true"])))
         self.assertEqual(rows, {name: str(count) for name, count in counts.items()})
         self.assertIn(f"\n{sum(counts.values()):,} texts with exact answers", text)
-        for name in ("scores.tsv", "refused.tsv"):
+        for name in ("scores.tsv", "rejected.tsv"):
             content = (HERE / name).read_bytes()
             self.assertIn(f"| `{name}` | {content.count(10) - 1:,} | {len(content):,} |", text)
 
@@ -64,7 +64,7 @@ class Runs(unittest.TestCase):
         scores = [[SCORE, SCORE, "3.1", *["9.8"] * 3, "-", *["critical"] * 3, "yes", "first"],
                   [V2, V2, "2.0", *["7.8"] * 3, "-", *["high"] * 3, "yes", "second"]]
         self.write("scores.tsv", make.SCORE_COLUMNS, scores)
-        self.write("refused.tsv", make.REFUSED_COLUMNS, [["AV:\\xff", "value", "third"]])
+        self.write("rejected.tsv", make.REJECTED_COLUMNS, [["AV:\\xff", "value", "third"]])
 
     def write(self, name, columns, rows):
         text = "\n".join("\t".join(row) for row in [columns, *rows]) + "\n"
@@ -90,7 +90,8 @@ class Runs(unittest.TestCase):
     def test_passes_a_right_command(self):
         self.assert_told(self.answered(RIGHT), 0, "3 rows      0 wrong")
         lines = [f"{SCORE}\t9.80\tCritical", f"{V2} 7.8 high", "error: value"]
-        self.assert_told(self.answered(lines, "--columns", "canonical,score,rating,kind"), 0)
+        for severity in ("severity", "rating"):
+            self.assert_told(self.answered(lines, "--columns", f"canonical,score,{severity},kind"), 0)
 
     def test_gives_the_command_the_bytes_of_each_text(self):
         read = f"import sys; right = sys.stdin.buffer.read() == {SCORE.encode() + b'%c' % 10}" \
@@ -103,19 +104,19 @@ class Runs(unittest.TestCase):
 
     def test_tells_a_wrong_column_among_right_ones(self):
         right = [f"{SCORE} critical", f"{V2} high", "error"]
-        self.assert_told(self.answered(right, "--columns", "canonical,rating"), 0)
+        self.assert_told(self.answered(right, "--columns", "canonical,severity"), 0)
         for at, wrong in ((0, f"{SCORE} high"), (1, f"{V2}/E:ND high"), (1, f"{V2.lower()} high")):
             lines = right[:at] + [wrong] + right[at + 1:]
-            self.assert_told(self.answered(lines, "--columns", "canonical,rating"), 1, "and not")
+            self.assert_told(self.answered(lines, "--columns", "canonical,severity"), 1, "and not")
 
-    def test_tells_a_text_that_is_wrongly_refused_or_accepted(self):
-        self.assert_told(self.answered(["error", *RIGHT[1:]]), 1, "refused, and to be accepted")
-        self.assert_told(self.answered([*RIGHT[:2], "0.0"]), 1, "accepted as 0.0", "to be refused")
+    def test_tells_a_text_that_is_wrongly_rejected_or_accepted(self):
+        self.assert_told(self.answered(["error", *RIGHT[1:]]), 1, "rejected, and to be accepted")
+        self.assert_told(self.answered([*RIGHT[:2], "0.0"]), 1, "accepted as 0.0", "to be rejected")
 
-    def test_compares_the_kind_of_a_refusal_where_it_is_a_column(self):
+    def test_compares_the_kind_of_a_rejection_where_it_is_a_column(self):
         lines = [*RIGHT[:2], "error: name"]
         self.assert_told(self.answered(lines), 0)
-        self.assert_told(self.answered(lines, "--columns", "score,kind"), 1, "refused as name")
+        self.assert_told(self.answered(lines, "--columns", "score,kind"), 1, "rejected as name")
 
     def test_shows_no_more_wrong_rows_than_are_asked_for(self):
         outcome = self.answered(["1.0", *RIGHT[1:]], "--show", "0")

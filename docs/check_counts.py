@@ -28,7 +28,7 @@ def counts():
     edits = [path.parent for path in ROOT.glob("crates/*/must-fail/*.edit")]
     functions = found("bindings/c/cvss.h", r"^[a-z].* cvss_[a-z_]*\(")
     kit = {name: (lines(f"conformance/{name}") - 1, (ROOT / f"conformance/{name}").stat().st_size)
-           for name in ("scores.tsv", "refused.tsv")}
+           for name in ("scores.tsv", "rejected.tsv")}
     yield "README.md", r"`examples/vectors` has (\S+) lines", [lines("examples/vectors")]
     yield ("README.md", r"(\S+) tests and (\S+) stored lines of `test_vectors` and `test_json`",
            [found("crates/*/src/**/*.rt", r"^ *#\[test\]$"),

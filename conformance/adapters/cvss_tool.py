@@ -1,7 +1,7 @@
 #!/usr/bin/env python3
 """Answers the texts of the kit by the program cvss_tool, whose path is the argument.
 
-columns: canonical,score,rating,kind
+columns: canonical,score,severity,kind
 """
 import subprocess
 import sys

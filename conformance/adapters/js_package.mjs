@@ -1,7 +1,7 @@
 #!/usr/bin/env node
 // Answers the texts of the kit by the JavaScript package of this repository, and so by its module of WebAssembly.
 //
-// columns: canonical,version,score,temporal,environmental,nomenclature,rating,temporal_rating,environmental_rating,complete,kind
+// columns: canonical,version,score,temporal,environmental,nomenclature,severity,temporal_severity,environmental_severity,complete,kind
 
 import { readFileSync } from "node:fs";
 

@@ -1,7 +1,7 @@
 #!/usr/bin/env python3
 """Answers the texts of the kit by the Python package of this repository, and so by its C library.
 
-columns: canonical,version,score,temporal,environmental,nomenclature,rating,temporal_rating,environmental_rating,complete,kind
+columns: canonical,version,score,temporal,environmental,nomenclature,severity,temporal_severity,environmental_severity,complete,kind
 """
 import sys
 from pathlib import Path

@@ -24,9 +24,9 @@ NEUTRAL_GROUPS = ({"E": "H", "RL": "U", "RC": "C"},
                   {"CDP": "N", "TD": "H", "CR": "M", "IR": "M", "AR": "M"})
 UNDEFINED = {"2.0": "ND", "3.0": "X", "3.1": "X", "4.0": "X"}
 SCORE_COLUMNS = ["text", "canonical", "version", "score", "temporal", "environmental",
-                 "nomenclature", "rating", "temporal_rating", "environmental_rating", "complete",
+                 "nomenclature", "severity", "temporal_severity", "environmental_severity", "complete",
                  "class"]
-REFUSED_COLUMNS = ["text", "kind", "class"]
+REJECTED_COLUMNS = ["text", "kind", "class"]
 NONE = "-"
 
 
@@ -71,7 +71,7 @@ def tenths(score):
 
 @lru_cache(maxsize=None)
 def answers(version, items):
-    """The columns after the version, up to the ratings, for these metrics and spellings."""
+    """The columns after the version, up to the severities, for these metrics and spellings."""
     vector = dict(items)
     if version == "4.0":
         score = v4.score(vector)
@@ -94,12 +94,12 @@ def accepted(reason, version, vector, text=None):
     return [text.encode(), plain.encode(), version, *columns, "yes" if complete else "no", reason]
 
 
-def refused(reason, text):
+def rejected(reason, text):
     """The row of a text that is rejected, with the kind of the first error."""
     try:
         reference.read(reference.text_of(text))
-    except reference.Refused as refusal:
-        return [text, refusal.kind, reason]
+    except reference.Refused as rejection:
+        return [text, rejection.kind, reason]
     raise AssertionError(f"{text} is accepted")
 
 

@@ -193,7 +193,7 @@ def is_utf8(row):
 def kit():
     """The texts of the kit, of which one in ten has metrics."""
     draw = random.Random(62)
-    for name in ("scores.tsv", "refused.tsv"):
+    for name in ("scores.tsv", "rejected.tsv"):
         for number, row in enumerate(read_table(ROOT / "conformance" / name)):
             yield results(draw if number % 10 == 0 else None, text_of(row["text"]))
 

@@ -13,8 +13,8 @@ V3 = "CVSS:3.1/AV:N/AC:L/PR:N/UI:N/S:U/C:H/I:H/A:H"
 V2 = "AV:N/AC:L/Au:N/C:N/I:N/A:C"
 TEMPORAL = {"E", "RL", "RC"}
 BASE = {*"AV AC AT PR UI VC VI VA SC SI SA S C I A Au".split()}
-COLUMNS = {"base": ("score", "rating"), "temporal": ("temporal", "temporal_rating"),
-           "environmental": ("environmental", "environmental_rating")}
+COLUMNS = {"base": ("score", "severity"), "temporal": ("temporal", "temporal_severity"),
+           "environmental": ("environmental", "environmental_severity")}
 
 
 def rows_of(path: Path) -> List[Row]:
@@ -52,14 +52,14 @@ def kind_of(row: Row) -> str:
 def check_shown(state: Dict[str, Any], row: Row) -> None:
     """The page shows the scores, the severities and the rest of a row of the kit."""
     kind = kind_of(row)
-    score, rating = COLUMNS.get(kind, COLUMNS["base"])
+    score, severity = COLUMNS.get(kind, COLUMNS["base"])
     shown = (state["number"], state["severity"], state["vector"])
-    assert shown == (row[score], row[rating], row["canonical"]), (state, row)
+    assert shown == (row[score], row[severity], row["canonical"]), (state, row)
     words = f"{kind}: " if row["version"] == "4.0" else f"{kind.capitalize()} score"
     assert state["kind"].startswith(words), (state, row)
     if row["version"] == "4.0":
         assert [name for name, _, _ in state["scores"]] == ["CVSS-B", "CVSS-BT", "CVSS-BE", "CVSS-BTE"], state
-        assert [kind, row["score"], row["rating"]] in state["scores"], (state, row)
+        assert [kind, row["score"], row["severity"]] in state["scores"], (state, row)
     else:
         assert state["scores"] == [[name, row[own], row[rated]] for name, (own, rated) in COLUMNS.items()], (state, row)
     assert state["version"] == row["version"] and state["rejection"] == "" and not state["isInvalid"], (state, row)
@@ -89,7 +89,7 @@ def check_rejected(page: Page, root: Path) -> None:
     before = page.choose("3.1", metrics_of(V3))
     kept = ("chosen", "number", "severity", "vector", "version", "scores")
     whole = re.compile(r"(CVSS:)?(?!.*CVSS:)[A-Za-z0-9:/.]*[A-Za-z0-9]")
-    rows = [row for row in rows_of(root / "conformance" / "refused.tsv") if whole.fullmatch(row["text"])]
+    rows = [row for row in rows_of(root / "conformance" / "rejected.tsv") if whole.fullmatch(row["text"])]
     drawn = [row for row in spread(rows, 120) if row["kind"] != "missing"]
     reasons = {"component": "invalid CVSS metric group component", "prefix": "invalid CVSS string prefix",
                "version": "unsupported CVSS version", "name": "unknown CVSS metric name", "value": "invalid CVSSv",

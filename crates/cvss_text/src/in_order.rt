@@ -1,26 +1,30 @@
 //! How a text whose components are in printing order is read, once for all versions.
 
-ghost use Rattle.std.specs.Prelude.{◌≡◌, ℕ, List, IfSome, [], drop};
+ghost use Rattle.std.specs.Prelude.{◌≡◌, ℕ, List, IfSome, IsTrue, [], drop};
 ghost use Rattle.cvss_text.specs.private.Printing.{texts_with_slash};
 ghost use Rattle.cvss_text.specs.private.Walk.{HasNoValue, IsInOrderTo, IsWhole, first_missing};
 
 use crate::walk::Components;
 
 /// The vector with the components of a text, from one without values, if all of it is in printing order
-/// and no base metric is missing. It may be `None` for any text, which is then read the longer way.
+/// and no base metric is missing; and whether it has base metrics alone, as far as that is seen. It may be
+/// `None` for any text, which is then read the longer way.
 #[inline(always)]
-pub fn whole<V: Components>(empty: V, text: &[u8]) -> Option<V>
+pub fn whole<V: Components>(empty: V, text: &[u8]) -> Option<(V, bool)>
     requires { HasNoValue V.version empty }
-    ensures whole { IfSome result (IsWhole V.version (V.version.front empty) text.now) }
-    ensures base { IfSome result V.has_base }
+    ensures whole { IfSome result
+        (λ whole. IsWhole V.version (V.version.front empty) text.now whole.0) }
+    ensures base { IfSome result (λ whole. V.has_base whole.0) }
+    ensures alone { IfSome result (λ whole. IsTrue whole.1
+        → texts_with_slash V.version whole.0 (drop V.base_count V.version.printed) ≡ []) }
 {
     let (base, rest) = empty.base_in_order::<()>(text)?;
     let [_, ..] = rest else {
-        return Some(base);
+        return Some((base, true));
     };
     let (vector, rest) = with_others(base, rest);
     match rest {
-        [] => Some(vector),
+        [] => Some((vector, false)),
         _ => None,
     }
 }

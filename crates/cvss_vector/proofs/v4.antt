@@ -1,4 +1,4 @@
-mod AloneLemmas
+pub mod AloneLemmas
 mod OverridingLemmas
 mod PrintingLemmas
 mod TriageLemmas

@@ -15,7 +15,7 @@ use crate::scoring::{group_v2, group_v3};
 use crate::setting::Version;
 use crate::vector::Cvss;
 use crate::{v2, v3, v4};
-use cvss_base::{Severity, TENTH};
+use cvss_base::Severity;
 use cvss_score::v4::Nomenclature;
 
 /// A score, and its severity.
@@ -67,6 +67,7 @@ impl Evaluation {
     }
 }
 
+#[inline(always)]
 fn evaluation_of(cvss: &Cvss, tenths: Tenths) -> Evaluation
     ensures { result ≡ evaluation_of cvss.now tenths }
 {
@@ -80,15 +81,17 @@ fn evaluation_of(cvss: &Cvss, tenths: Tenths) -> Evaluation
     }
 }
 
+#[inline(always)]
 fn rated_by(cvss: &Cvss, tenths: u8) -> Rated
     ensures { result ≡ rated_by cvss.now tenths }
 {
     Rated {
         tenths,
-        severity: cvss.severity_of(i128::from(tenths) * TENTH),
+        severity: cvss.severity_of_tenths(tenths),
     }
 }
 
+#[inline(always)]
 fn optional_by(cvss: &Cvss, tenths: Option<u8>) -> Option<Rated>
     ensures { result ≡ option_map (rated_by cvss.now) tenths }
 {

@@ -1,11 +1,13 @@
 //! What is published of a vector: a score and its severity.
 
-ghost use Rattle.std.specs.Prelude.{◌≡◌, ◌≤◌};
-ghost use Rattle.cvss_vector.specs.Answers.{HasScore, IsScoreOf, severity_by, score_of_tenths};
+ghost use Rattle.std.specs.Prelude.{◌≡◌};
+ghost use Rattle.cvss_vector.specs.Answers.{HasScore, score_of_tenths, severity_by};
 ghost use Rattle.cvss_vector.specs.Published.{IsPublished, severity_within};
+ghost use Rattle.cvss_vector.specs.declared.published.Bounds.TheVariants.{OfV2, SinceV3};
 
 use crate::scoring::Scoring;
 use crate::vector::Cvss;
+use cvss_base::Severity;
 
 /// By which bounds a score is rated.
 #[derive(Clone, Copy, Debug, PartialEq, Eq)]
@@ -25,20 +27,50 @@ pub struct Published {
     pub bounds: Bounds,
 }
 
-impl Cvss {
+impl Bounds {
+    /// The severity of so many tenths.
     #[inline(always)]
-    pub(crate) fn inlined_tenths(&self) -> u8
-        requires scored { HasScore self.now }
-        ensures value { IsScoreOf self.now (score_of_tenths result) }
-        ensures bound { result ≤ 100 }
+    pub fn severity_of(self, tenths: u8) -> Severity
+        ensures { result ≡ severity_within self (score_of_tenths tenths) }
     {
         match self {
-            Cvss::CvssV20(vector) => vector.tenths(),
-            Cvss::CvssV30(vector) | Cvss::CvssV31(vector) => vector.tenths(),
-            Cvss::CvssV40(vector) => vector.tenths(),
+            Bounds::OfV2 => severity_of_v2(tenths),
+            Bounds::SinceV3 => severity_since_v3(tenths),
         }
     }
+}
 
+#[inline(always)]
+fn severity_of_v2(tenths: u8) -> Severity
+    ensures { result ≡ severity_within OfV2 (score_of_tenths tenths) }
+{
+    if tenths < 40 {
+        Severity::Low
+    } else if tenths < 70 {
+        Severity::Medium
+    } else {
+        Severity::High
+    }
+}
+
+#[inline(always)]
+fn severity_since_v3(tenths: u8) -> Severity
+    ensures { result ≡ severity_within SinceV3 (score_of_tenths tenths) }
+{
+    if tenths < 1 {
+        Severity::None
+    } else if tenths < 40 {
+        Severity::Low
+    } else if tenths < 70 {
+        Severity::Medium
+    } else if tenths < 90 {
+        Severity::High
+    } else {
+        Severity::Critical
+    }
+}
+
+impl Cvss {
     /// The bounds by which the vector's version rates scores.
     #[inline(always)]
     pub fn bounds(&self) -> Bounds
@@ -50,6 +82,14 @@ impl Cvss {
         }
     }
 
+    /// The severity that the vector's version gives a score of so many tenths.
+    #[inline(always)]
+    pub fn severity_of_tenths(&self, tenths: u8) -> Severity
+        ensures { result ≡ severity_by self.now (score_of_tenths tenths) }
+    {
+        self.bounds().severity_of(tenths)
+    }
+
     /// A score of a vector that has one, and how it is rated.
     #[inline(always)]
     pub fn published(&self, scoring: Scoring) -> Published
@@ -57,11 +97,7 @@ impl Cvss {
         ensures { IsPublished scoring self.now result }
     {
         Published {
-            tenths: match scoring {
-                Scoring::Published => self.inlined_tenths(),
-                Scoring::Overall => self.overall_tenths(),
-                Scoring::Base => self.base_tenths(),
-            },
+            tenths: self.tenths_as(scoring),
             bounds: self.bounds(),
         }
     }

@@ -8,6 +8,7 @@ use crate::metrics::Metrics;
 use crate::reading::{bytes_error_of, read, read_error_of};
 use crate::rejecting::error_of;
 use crate::rejection::ReadError;
+use crate::scoring::Scoring;
 use crate::{v2, v3, v4};
 use cvss_base::tenths::text_of as text_of_tenths;
 use cvss_base::{Error, Severity, TENTH, severity_of_score};
@@ -163,7 +164,7 @@ impl Cvss {
         ensures value { IsScoreOf self.now (score_of_tenths result) }
         ensures bound { result ≤ 100 }
     {
-        self.inlined_tenths()
+        self.tenths_as(Scoring::Published)
     }
 
     /// The score of a vector that has one, with one decimal.

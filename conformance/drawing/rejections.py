@@ -1,7 +1,7 @@
 """Texts that are rejected, each with one error, and some with two of which the first is reported."""
 from itertools import permutations
 
-from .rows import BASE, FRONTS, METRICS, options, refused
+from .rows import BASE, FRONTS, METRICS, options, rejected
 from .texts import bases, full_vector, spelled
 
 VERSIONS = ("1.0 1 2 2.0 2.1 3 3.00 03.0 3.1.0 3.2 3.10 3,1 30 31 4 4.00 4.1 5.0 v3.1 v4.0 .1 3. . "
@@ -171,4 +171,4 @@ def rows():
     for reason, draw in CLASSES:
         for version in FRONTS:
             for text in draw(version):
-                yield refused(reason, text if isinstance(text, bytes) else text.encode())
+                yield rejected(reason, text if isinstance(text, bytes) else text.encode())
