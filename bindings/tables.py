@@ -1,5 +1,5 @@
 #!/usr/bin/env python3
-"""Writes the tables of metrics, with names and words, for C, Rust and Go from bindings/metrics.json; Python reads the
+"""Writes the tables of metrics, with names and words, for C, Rust, Go and Java from bindings/metrics.json; Python reads the
 file itself. In it `base` marks the metrics that FIRST's documents make mandatory, `of` a modified metric, which has the
 values of another, and `full` a name that is longer than the title on a page.
 
@@ -147,7 +147,43 @@ def go_table():
     yield ")\n"
 
 
-TABLES = {"c/cvss_words.h": c_table, "rust/src/table.rs": rust_table, "go/table.go": go_table}
+JAVA_HEAD = f"""\
+package example.yuntabek.cvss;
+
+import static example.yuntabek.cvss.Group.BASE;
+import static example.yuntabek.cvss.Group.ENVIRONMENTAL;
+import static example.yuntabek.cvss.Group.SUPPLEMENTAL;
+import static example.yuntabek.cvss.Group.TEMPORAL;
+import static example.yuntabek.cvss.Group.THREAT;
+
+import java.util.Arrays;
+import java.util.Collections;
+import java.util.List;
+
+/** The metrics of each version. {NOTE} */
+final class Table {{
+    private Table() {{}}
+
+    private static MetricValue value(String value, String title, String description) {{
+        return new MetricValue(value, title, description);
+    }}
+"""
+
+
+def java_table():
+    yield JAVA_HEAD
+    for version in VERSIONS:
+        yield f"\n    static final List<MetricType> V{version.replace('.', '_')} = Collections.unmodifiableList(Arrays.asList("
+        for index, metric in enumerate(words.metrics(version)):
+            head = f"{quoted(metric.name)}, {quoted(metric.title)}, {metric.group.upper()}, {str(metric.is_mandatory).lower()}"
+            rows = ",\n".join(f"                    value({', '.join(map(quoted, value))})" for value in metric.values)
+            yield f"{',' * (index > 0)}\n            new MetricType({head}, {quoted(metric.question)},\n{rows})"
+        yield "));\n"
+    yield "}\n"
+
+
+TABLES = {"c/cvss_words.h": c_table, "rust/src/table.rs": rust_table, "go/table.go": go_table,
+          "java/src/main/java/example/yuntabek/cvss/Table.java": java_table}
 
 
 def main(arguments):

@@ -70,7 +70,7 @@ def check_linked(paths):
 
 def notices(path):
     """The notices in a release file that is an archive."""
-    if path.suffix in (".whl", ".zip"):
+    if path.suffix in (".whl", ".jar", ".zip"):
         with zipfile.ZipFile(path) as archive:
             return [archive.read(name) for name in archive.namelist() if Path(name).name == "NOTICE"]
     with tarfile.open(path) as archive:
@@ -88,7 +88,7 @@ def main():
     programs = re.findall(r"^(\w+) \w+$", (ROOT / "release/programs").read_text(), re.M)
     built = [ROOT / f"crates/{name}/out/{name}" for name in programs] + [ROOT / "bindings/out/libcvss.a"]
     names = check_linked(given or built)
-    archives = [path for kind in ("*.tar.xz", "*.whl", "*.tgz", "*.crate", "*.zip") for path in sorted(made.glob(kind))]
+    archives = [path for kind in ("*.tar.xz", "*.whl", "*.tgz", "*.jar", "*.crate", "*.zip") for path in sorted(made.glob(kind))]
     for path in archives:
         if notices(path) != [NOTICE]:
             sys.exit(f"{path.name} does not have the notice once")
@@ -99,7 +99,7 @@ def main():
         missing = [name for name in names if not re.search(rf"\b{name}\b", copyright_of(path))]
         if missing:
             sys.exit(f"{path.name}: its file of copyrights does not name {missing}")
-    if len(archives) < 7:
+    if len(archives) < 8:
         sys.exit(f"{made} has {len(archives)} archives")
     print(f"NOTICE names the {len(names)} ports that are linked; {len(archives)} archives and {len(packages)} packages have it")
 

@@ -19,7 +19,7 @@ sys.path.insert(0, str(ROOT / "tests"))
 from skipping import has, python_with, skip
 
 OUT = ROOT / "bindings/out"
-LANGUAGES = {name: (ROOT / f"docs/{name}.md").read_text() for name in ("C", "RUST", "PYTHON", "GO", "JAVASCRIPT")}
+LANGUAGES = {name: (ROOT / f"docs/{name}.md").read_text() for name in ("C", "RUST", "PYTHON", "GO", "JAVA", "JAVASCRIPT")}
 # what they say to those who come from another package
 FROM = {name: page.partition("\n## From ")[2] for name, page in LANGUAGES.items()}
 PAGE = "\n".join([(ROOT / "docs/BINDINGS.md").read_text(), *(page.split("\n## From ")[0] for page in LANGUAGES.values())])
@@ -126,6 +126,21 @@ def try_go():
     # vendored, it has all that it is built from
     run(["go", "mod", "vendor"], cwd=module)
     check(run(["go", "run", "-mod=vendor", "."], cwd=module), expected(block, "// "), block)
+
+
+def try_java():
+    """With the jar of the library that bindings/build has made."""
+    folder, jna = FOLDER / "java_example", os.environ.get("JNA_JAR", "/usr/share/java/jna.jar")
+    folder.mkdir()
+    jar = folder / "yuntabek-cvss.jar"
+    run([ROOT / "bindings/java/build", jar, f"linux-x86-64={OUT / 'libcvss.so.2'}"])
+    pages = (PAGE, FROM["JAVA"])
+    assert all(blocks(page, "java") for page in pages), "a page has no example of Java"
+    for block in (block for page in pages for block in blocks(page, "java")):
+        body = f"import example.yuntabek.cvss.*;\n\nclass Main {{\npublic static void main(String[] words) {{\n{block}}}\n}}\n"
+        (folder / "Main.java").write_text(body)
+        run(["javac", "-Xlint:all", "-cp", jar, "Main.java"], cwd=folder)
+        check(run(["java", "-cp", f".:{jar}:{jna}", "Main"], cwd=folder), expected(block, "// "), block)
 
 
 def try_javascript():
@@ -340,6 +355,7 @@ def check_names():
     for page, sources, others in (
         ("RUST", "rust/src/*.rs", {"serde", "format", "N", "E", "A"}),
         ("GO", "go/*.go", {"8", "9"}),
+        ("JAVA", "java/src/main/java/example/yuntabek/cvss/*.java", {"valueOf"}),
     ):
         text = "".join(path.read_text() for path in (ROOT / "bindings").glob(sources))
         unknown = [name for name in words_of(FROM[page], 2) - others if not re.search(rf"\b{name}\b", text)]
@@ -428,6 +444,8 @@ def main():
         try_rust()
     if has("go", "the example of Go"):
         try_go()
+    if has("javac", "the examples of Java"):
+        try_java()
     if has("node", "the example of JavaScript"):
         try_javascript()
     write_list()

@@ -1,5 +1,5 @@
 #!/usr/bin/env python3
-"""Writes texts with the expected results of the SQL functions, from the second implementation in reference/.
+"""Writes texts with the expected results of the calls of SQL and Java, from the second implementation in reference/.
 
 usage: expected.py kit|COUNT
        expected.py calls COUNT      prints the first column and those of CALLS, for other texts
@@ -9,7 +9,7 @@ usage: expected.py kit|COUNT
 The texts are those of the conformance kit, or COUNT hostile ones, random but always the same. Each text comes with random
 metrics to set in its vector, and a version and components to make a vector of. The columns of COLUMNS are separated by
 tabs, as COPY of PostgreSQL reads them: NULL is \\N, and a byte that is no visible ASCII character is written as \\x and
-two digits. The tests of Python, Rust and Go read rows of `calls`, of which some are in tests/stored/calls.
+two digits. The tests of Python, Rust, Go and Java read rows of `calls`, of which some are in tests/stored/calls.
 
 A result is that for vectors that may be incomplete. Of errors there are two columns: `error` is NULL if the text is a
 complete vector, and `incomplete_error` if it is any vector; likewise for the errors of metrics.
