@@ -11,10 +11,11 @@ import tarfile
 import zipfile
 from pathlib import Path
 
-KEPT = (".tar.xz", ".whl", ".tgz", ".jar", ".html", ".wasm", "SHA256SUMS", "BUILT_WITH")
-LARGEST = 2 * 1024 * 1024
+KEPT = (".tar.xz", "-windows-x86_64.zip", ".whl", ".tgz", ".jar", ".html", ".wasm", "SHA256SUMS", "BUILT_WITH")
+LARGEST = 4 * 1024 * 1024
 # What the tools make, and the sums that depend on it.
-COMPILED = ("/bin/", ".so.2", ".so", ".a", ".class", ".wasm", ".html", "/RECORD", "SHA256SUMS", "BUILT_WITH")
+COMPILED = ("/bin/", "/scripts/cvss", ".exe", ".dll", ".so.2", ".so", ".a", ".class", ".wasm", ".html", "/RECORD", "SHA256SUMS",
+            "BUILT_WITH")
 
 
 def kept(folder):
@@ -23,7 +24,7 @@ def kept(folder):
 
 def members(path):
     """The files of an archive, with their modes; what is no archive is a file by itself."""
-    if path.suffix in (".whl", ".jar"):
+    if path.suffix in (".whl", ".zip", ".jar"):
         with zipfile.ZipFile(path) as archive:
             return {info.filename: (info.external_attr, archive.read(info)) for info in archive.infolist()}
     if path.name.endswith((".tar.xz", ".tgz")):

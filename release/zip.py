@@ -10,7 +10,7 @@ from pathlib import Path
 
 def main():
     made, root, folder = sys.argv[1], Path(sys.argv[2]), sys.argv[3]
-    with zipfile.ZipFile(made, "w") as archive:
+    with zipfile.ZipFile(made, "w", compresslevel=9) as archive:
         for path in sorted(path for path in (root / folder).rglob("*") if path.is_file()):
             member = zipfile.ZipInfo(str(path.relative_to(root)))
             member.compress_type = zipfile.ZIP_DEFLATED

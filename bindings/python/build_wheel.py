@@ -1,7 +1,8 @@
 """Makes a wheel and a source archive of the package and the library, with only the standard library (PEP 517).
 
 The library is the file that the variable CVSS_LIBRARY names, or the one in a source archive, or the one that
-bindings/build has made. Both contain it, since building it needs the whole repository.
+bindings/build has made. Both contain it, since building it needs the whole repository. If the variable CVSS_PROGRAM names
+the program `cvss`, the wheel has it too, and pip installs it next to `python`.
 """
 
 import base64
@@ -9,6 +10,7 @@ import hashlib
 import io
 import os
 import re
+import stat
 import tarfile
 import zipfile
 from pathlib import Path
@@ -17,11 +19,12 @@ from typing import Dict, Optional
 _HERE = Path(__file__).resolve().parent
 _PACKAGE = _HERE / "cvss_proved"
 _FILE = "libcvss.so.2"
+_FILE_OF_WINDOWS = "cvss.dll"
 # What all languages share. A checkout has it in bindings, a source archive in the package.
 _SHARED = ("metrics.json", "calculator/cvss-calculator.html")
 _SUFFIXES = (".py", ".typed")
 # A wheel runs on what its platform names and no other: the library is linked to a C library, and to no Python. The
-# setting `platform` names another one than this machine's, such as manylinux2014_aarch64.
+# setting `platform` names others than this machine's, such as win_amd64, or manylinux2014_aarch64.musllinux_1_1_aarch64.
 _PLATFORM = f"linux_{os.uname().machine}"
 # They are at the root of a checkout, of a source archive, and next to the installed sources.
 _LICENSES = ("LICENSE-APACHE", "LICENSE-MIT", "NOTICE")
@@ -39,6 +42,7 @@ Project-URL: Standard, https://www.first.org/cvss/
 Project-URL: Rust crate cvss, https://crates.io/crates/cvss
 Classifier: License :: OSI Approved :: Apache Software License
 Classifier: License :: OSI Approved :: MIT License
+Classifier: Operating System :: Microsoft :: Windows
 Classifier: Operating System :: POSIX :: Linux
 Classifier: Programming Language :: Python :: 3
 Classifier: Typing :: Typed
@@ -86,22 +90,29 @@ def _metadata(version: str) -> bytes:
     return (_HEAD.format(version=version) + (_HERE / "README.md").read_text()).encode()
 
 
-def _package() -> Dict[str, bytes]:
+def _package(library: str = _FILE) -> Dict[str, bytes]:
     files = {
         f"cvss_proved/{source.relative_to(_PACKAGE)}": source.read_bytes()
         for source in sorted(_PACKAGE.rglob("*"))
         if source.suffix in _SUFFIXES
     }
-    files[f"cvss_proved/{_FILE}"] = _library()
+    files[f"cvss_proved/{library}"] = _library()
     return {**files, **_shared()}
 
 
-def _files(version: str, tag: str) -> Dict[str, bytes]:
-    files = _package()
+def _program(folder: str, is_for_windows: bool) -> Dict[str, bytes]:
+    path = os.environ.get("CVSS_PROGRAM")
+    return {f"{folder}/{'cvss.exe' if is_for_windows else 'cvss'}": Path(path).read_bytes()} if path else {}
+
+
+def _files(version: str, platform: str) -> Dict[str, bytes]:
+    is_for_windows = platform.startswith("win")
+    files = _package(_FILE_OF_WINDOWS if is_for_windows else _FILE)
+    files.update(_program(f"cvss_proved-{version}.data/scripts", is_for_windows))
     info = f"cvss_proved-{version}.dist-info"
     files[f"{info}/METADATA"] = _metadata(version)
-    wheel = f"Wheel-Version: 1.0\nGenerator: build_wheel\nRoot-Is-Purelib: false\nTag: {tag}\n"
-    files[f"{info}/WHEEL"] = wheel.encode()
+    tags = "".join(f"Tag: py3-none-{name}\n" for name in platform.split("."))
+    files[f"{info}/WHEEL"] = f"Wheel-Version: 1.0\nGenerator: build_wheel\nRoot-Is-Purelib: false\n{tags}".encode()
     files[f"{info}/entry_points.txt"] = _SCRIPTS.encode()
     files.update({f"{info}/{name}": text for name, text in _licenses().items()})
     files[f"{info}/RECORD"] = _record(files, info).encode()
@@ -123,13 +134,14 @@ def build_wheel(
 ) -> str:
     """Writes the wheel into a folder, and returns its name. The same files make the same bytes."""
     version = _version()
-    tag = f"py3-none-{(config_settings or {}).get('platform', _PLATFORM)}"
-    name = f"cvss_proved-{version}-{tag}.whl"
+    platform = (config_settings or {}).get("platform", _PLATFORM)
+    name = f"cvss_proved-{version}-py3-none-{platform}.whl"
     with zipfile.ZipFile(Path(wheel_directory) / name, "w") as wheel:
-        for path, content in _files(version, tag).items():
+        for path, content in _files(version, platform).items():
             member = zipfile.ZipInfo(path)
             member.compress_type = zipfile.ZIP_DEFLATED
-            member.external_attr = 0o644 << 16
+            # pip makes a script executable if the archive says that it is an executable file
+            member.external_attr = (stat.S_IFREG | (0o755 if ".data/scripts/" in path else 0o644)) << 16
             wheel.writestr(member, content, compresslevel=9)
     return name
 

@@ -11,7 +11,7 @@ import os
 from pathlib import Path
 from typing import Any, Dict, List, Optional, Tuple
 
-_FILE = "libcvss.so.2"
+_FILE = "cvss.dll" if os.name == "nt" else "libcvss.so.2"
 
 
 class Number(ctypes.Structure):

@@ -1,6 +1,7 @@
-/* What compiled Rattle programs call beside the C library: errno, and the arguments. On x86-64 the toolchain's libos_c.a
- * has these functions; it has none for ARM64, where these do the same. */
+/* What compiled Rattle programs call on Linux beside the C library: errno, and the arguments. The toolchain has these
+ * functions for glibc on x86-64; these do the same over musl, which lacks one of glibc's too. */
 #include <errno.h>
+#include <signal.h>
 #include <stddef.h>
 #include <stdint.h>
 
@@ -9,11 +10,15 @@ enum { NO_ARGUMENT = -1, NO_ROOM = -2 };
 static int count;
 static char **arguments;
 
-/* glibc passes the arguments of main to constructors too. */
-__attribute__((constructor)) static void keep(int argc, char **argv)
+/* musl passes no arguments to constructors, so that the linker calls the program's `main` from here. */
+int __real_main(int argc, char **argv);
+int __wrap_main(int argc, char **argv);
+
+int __wrap_main(int argc, char **argv)
 {
     count = argc;
     arguments = argv;
+    return __real_main(argc, argv);
 }
 
 int rattle_errno(void)
@@ -40,4 +45,13 @@ int64_t rattle_arg(size_t index, char *buffer, size_t size)
         length++;
     }
     return (int64_t)length;
+}
+
+/* The programs ignore SIGPIPE by it, which any form of `signal` does. */
+typedef void Handler(int);
+Handler *__sysv_signal(int number, Handler *handler);
+
+Handler *__sysv_signal(int number, Handler *handler)
+{
+    return signal(number, handler);
 }

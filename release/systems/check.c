@@ -1,5 +1,5 @@
-/* Prints what the functions of heap.c and system.c return where calls succeed and where they fail. On x86-64 it is
- * linked with the toolchain's own functions instead, and prints the same. Its arguments are what it asks for. */
+/* Prints what the functions of heap.c, linux.c and memory.c return where calls succeed and where they fail. It prints the
+ * same if it is linked with the toolchain's own functions and glibc. Its arguments are what it asks for. */
 #define _DEFAULT_SOURCE
 #include <stddef.h>
 #include <stdint.h>
@@ -38,6 +38,50 @@ static void print_allocations(void)
     rattle_dealloc(NULL);
 }
 
+static uint32_t sum_of(const unsigned char *bytes, size_t size)
+{
+    uint32_t sum = 2166136261u;
+    for (size_t i = 0; i < size; i++)
+        sum = (sum ^ bytes[i]) * 16777619u;
+    return sum;
+}
+
+/* What was written stays, however often a block grows, and beyond the largest that is kept. */
+static void print_grown(void)
+{
+    size_t size = 0;
+    Allocation block = rattle_alloc(0, 1);
+    while (size < (size_t)1 << 22) {
+        size_t larger = size + size / 3 + 1;
+        block = rattle_realloc(block.bytes, size, larger, 1);
+        memset(block.bytes + size, (int)(larger % 251), larger - size);
+        size = larger;
+        printf("%zu %d %u\n", size, (int)block.is_allocated, (unsigned)sum_of((unsigned char *)block.bytes, size));
+    }
+    block = rattle_realloc(block.bytes, size, 5, 1);
+    printf("%d %u\n", (int)block.is_allocated, (unsigned)sum_of((unsigned char *)block.bytes, 5));
+    rattle_dealloc(block.bytes);
+}
+
+/* Copies of each size up to 160 bytes and of some larger, between blocks that overlap in each way and that do not. */
+static void print_copies(void)
+{
+    static const size_t larger[] = {255, 256, 1000, 4099};
+    static unsigned char bytes[3 * 4200];
+    for (size_t i = 0; i < 161 + sizeof larger / sizeof *larger; i++) {
+        size_t size = i < 161 ? i : larger[i - 161];
+        uint32_t sum = 0;
+        for (size_t to = 4200 - 70; to <= 4200 + 70; to++) {
+            for (size_t j = 0; j < sizeof bytes; j++)
+                bytes[j] = (unsigned char)(j * 7 + j / 256);
+            sum += memmove(bytes + to, bytes + 4200, size) == bytes + to;
+            sum += memcpy(bytes + to % 64, bytes + 2 * 4200, size) == bytes + to % 64;
+            sum = 31 * sum + sum_of(bytes, sizeof bytes);
+        }
+        printf("%zu %u\n", size, (unsigned)sum);
+    }
+}
+
 /* What is freed is used again. */
 static void print_growth(void)
 {
@@ -62,6 +106,8 @@ int main(int count, char **arguments)
 {
     (void)arguments;
     print_allocations();
+    print_grown();
+    print_copies();
     print_growth();
     print_arguments(count);
     char byte = 0;
