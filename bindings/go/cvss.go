@@ -3,16 +3,10 @@
 // A vector has all its base metrics, unless the caller says otherwise: Parse, and every other function that reads a
 // vector, rejects a v3 vector that lacks one. Each has a twin whose name ends in Incomplete, which accepts it.
 //
-// The results come from a library whose functions are proved up to the call. This package calls it through cgo and
-// computes no score itself. bindings/build copies the library and its header into the folder of this package, for Linux
-// on x86-64 and with --target aarch64 on ARM64.
+// The results come from a library whose functions are proved up to the call; this package computes no score itself. With cgo
+// the library is compiled from one C file, or with the build tag libcvss linked from libcvss.a, for Linux on x86-64 and ARM64.
+// Without cgo it is translated to Go, and slower.
 package cvss
-
-// #cgo CFLAGS: -I${SRCDIR}
-// #cgo amd64 LDFLAGS: ${SRCDIR}/libcvss.a
-// #cgo arm64 LDFLAGS: ${SRCDIR}/libcvss_arm64.a
-// #include "library.h"
-import "C"
 
 // A Vector is a parsed vector with its scores. Two vectors are equal if their canonical texts are.
 //
@@ -34,31 +28,31 @@ type Vector struct {
 // A groupScore is a score in tenths and its severity.
 type groupScore struct{ tenths, severity int8 }
 
-func groupScoreOf(tenths, severity C.int32_t) groupScore {
+func groupScoreOf(tenths, severity int32) groupScore {
 	return groupScore{int8(tenths), int8(severity)}
 }
 
 func (s groupScore) score() Score { return scoreOf(int(s.tenths)) }
 
 // vectorFrom is the vector that the library has written, with its canonical text.
-func vectorFrom(own *C.CvssVector, text string) Vector {
+func vectorFrom(own *vectorStruct, text string) Vector {
 	vector := Vector{
 		text:       text,
 		version:    versionOf(own.version),
 		overall:    groupScoreOf(own.score, own.severity),
-		base:       groupScoreOf(own.base, own.base_severity),
-		isComplete: own.is_complete != 0,
+		base:       groupScoreOf(own.base, own.baseSeverity),
+		isComplete: own.isComplete != 0,
 	}
-	if own.nomenclature != C.CVSS_NOTHING {
+	if own.nomenclature != nothing {
 		vector.nomenclature = nomenclatureOf(own.nomenclature)
-		for i, tenths := range own.by_nomenclature {
+		for i, tenths := range own.byNomenclature {
 			vector.byNomenclature[i] = int8(tenths)
 		}
 	}
-	if own.temporal != C.CVSS_NOTHING {
+	if own.temporal != nothing {
 		vector.hasTemporal = true
-		vector.temporal = groupScoreOf(own.temporal, own.temporal_severity)
-		vector.environmental = groupScoreOf(own.environmental, own.environmental_severity)
+		vector.temporal = groupScoreOf(own.temporal, own.temporalSeverity)
+		vector.environmental = groupScoreOf(own.environmental, own.environmentalSeverity)
 	}
 	return vector
 }

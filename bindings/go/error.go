@@ -1,21 +1,18 @@
 package cvss
 
-// #include "library.h"
-import "C"
-
 // A Kind is the kind of an error.
 type Kind int
 
 // The kinds of errors.
 const (
-	InvalidComponent   Kind = C.CVSS_INVALID_COMPONENT   // a segment has no colon, or more than one
-	InvalidPrefix      Kind = C.CVSS_INVALID_PREFIX      // there is a version, but not after CVSS
-	UnsupportedVersion Kind = C.CVSS_UNSUPPORTED_VERSION // the version is none of 3.0, 3.1 and 4.0
-	UnknownMetric      Kind = C.CVSS_UNKNOWN_METRIC      // the version has no metric of this name
-	InvalidValue       Kind = C.CVSS_INVALID_VALUE       // the metric has no such value
-	DuplicateMetric    Kind = C.CVSS_DUPLICATE_METRIC    // the metric is there twice
-	MissingMetric      Kind = C.CVSS_MISSING_METRIC      // the metric is mandatory, and missing
-	NotUTF8            Kind = C.CVSS_NOT_UTF8            // the text is not UTF-8
+	InvalidComponent   Kind = 1 + iota // a segment has no colon, or more than one
+	InvalidPrefix                      // there is a version, but not after CVSS
+	UnsupportedVersion                 // the version is none of 3.0, 3.1 and 4.0
+	UnknownMetric                      // the version has no metric of this name
+	InvalidValue                       // the metric has no such value
+	DuplicateMetric                    // the metric is there twice
+	MissingMetric                      // the metric is mandatory, and missing
+	NotUTF8                            // the text is not UTF-8
 )
 
 // A ParseError says why a text or a metric is rejected: the first error in it.
@@ -38,12 +35,12 @@ type ParseError struct {
 func (e *ParseError) Error() string { return e.Message }
 
 // errorFrom is the error that the library has written, with its message.
-func errorFrom(own *C.CvssError, message string) *ParseError {
-	start := int(own.quoted_start)
+func errorFrom(own *errorStruct, message string) *ParseError {
+	start := int(own.quotedStart)
 	return &ParseError{
 		Kind:    Kind(own.kind),
-		Metric:  C.GoString(&own.metric[0]),
-		Value:   message[start : start+int(own.quoted_length)],
+		Metric:  textOf(&own.metric),
+		Value:   message[start : start+int(own.quotedLength)],
 		Message: message,
 		Index:   int(own.index),
 	}

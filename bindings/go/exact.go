@@ -1,17 +1,4 @@
-//go:build cgo
-
 package cvss
-
-// #include "library.h"
-// static bool numbers(int32_t version, _GoString_ metrics, CvssNumbers *numbers)
-// {
-//     return cvss_numbers(version, _GoStringPtr(metrics), _GoStringLen(metrics), numbers);
-// }
-// static bool temporal_with_impact(_GoString_ metrics, const CvssNumber *impact, int32_t *tenths)
-// {
-//     return cvss_temporal_with_impact(_GoStringPtr(metrics), _GoStringLen(metrics), impact, tenths);
-// }
-import "C"
 
 import (
 	"errors"
@@ -35,13 +22,13 @@ type Numbers struct {
 // NumbersOf are those of the vector of V20, V30 or V31 with these metrics, in any order. Any metric may be missing; a
 // missing base metric has no weight. The error is a *ParseError, and for V40 one of kind UnsupportedVersion.
 func NumbersOf(version Version, metrics []Metric) (Numbers, error) {
-	own := C.CvssNumbers{size: C.sizeof_CvssNumbers}
-	if !C.numbers(numberOf(version), componentsOf(metrics), &own) {
+	var own numbersStruct
+	if !libraryNumbers(numberOf(version), componentsOf(metrics), &own) {
 		return Numbers{}, metricError(version, metrics)
 	}
 	return Numbers{
 		scoreOf(int(own.base)), scoreOf(int(own.temporal)), scoreOf(int(own.environmental)),
-		ratOf(own.impact), ratOf(own.exploitability), ratOf(own.adjusted_impact),
+		ratOf(own.impact), ratOf(own.exploitability), ratOf(own.adjustedImpact),
 	}, nil
 }
 
@@ -64,8 +51,8 @@ func Rounded(number *big.Rat, version Version) (*big.Rat, error) {
 		return nil, errors.New("cvss: there is no number to round: the *big.Rat is nil")
 	}
 	own, ok := numberFrom(number)
-	var tenths C.int32_t
-	if !ok || !bool(C.cvss_rounded(numberOf(version), &own, &tenths)) {
+	var tenths int32
+	if !ok || !libraryRounded(numberOf(version), &own, &tenths) {
 		return nil, errors.New("cvss: a number that is rounded is less than a million from 0")
 	}
 	return big.NewRat(int64(tenths), 10), nil
@@ -81,24 +68,24 @@ func TemporalWithImpact(metrics []Metric, impact *big.Rat) (*big.Rat, error) {
 	if !ok {
 		return nil, errors.New("cvss: an impact is a number less than a million from 0")
 	}
-	var tenths C.int32_t
-	if !C.temporal_with_impact(componentsOf(metrics), &own, &tenths) {
+	var tenths int32
+	if !libraryTemporalWithImpact(componentsOf(metrics), &own, &tenths) {
 		return nil, metricError(V20, metrics)
 	}
 	return big.NewRat(int64(tenths), 10), nil
 }
 
-func ratOf(number C.CvssNumber) *big.Rat {
-	count := new(big.Int).Mul(big.NewInt(int64(number.trillionths)), trillion)
-	return new(big.Rat).SetFrac(count.Add(count, big.NewInt(int64(number.rest))), units)
+func ratOf(number numberStruct) *big.Rat {
+	count := new(big.Int).Mul(big.NewInt(number.trillionths), trillion)
+	return new(big.Rat).SetFrac(count.Add(count, big.NewInt(number.rest)), units)
 }
 
 // numberFrom is the library's number for a number, whose decimals after the 24th are cut off. One that is a million or more
 // from 0 has none.
-func numberFrom(number *big.Rat) (own C.CvssNumber, ok bool) {
+func numberFrom(number *big.Rat) (own numberStruct, ok bool) {
 	count := new(big.Int).Mul(number.Num(), units)
 	count.Quo(count, number.Denom())
 	trillionths, rest := new(big.Int).QuoRem(count, trillion, new(big.Int))
-	own = C.CvssNumber{trillionths: C.int64_t(trillionths.Int64()), rest: C.int64_t(rest.Int64())}
+	own = numberStruct{trillionths.Int64(), rest.Int64()}
 	return own, trillionths.CmpAbs(million) < 0
 }

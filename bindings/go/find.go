@@ -1,8 +1,5 @@
 package cvss
 
-// #include "library.h"
-import "C"
-
 // A Match is a vector in a text.
 type Match struct {
 	// Offset is the offset of its first byte in the text.
@@ -25,8 +22,8 @@ func FindIncomplete(text []byte) []Match { return find(text, ParseIncomplete) }
 
 func find(text []byte, parse func(string) (Vector, error)) []Match {
 	var matches []Match
-	state := C.CvssMatch{size: C.sizeof_CvssMatch}
-	for C.cvss_find(pointer(text), C.size_t(len(text)), &state) {
+	var state matchStruct
+	for libraryFind(text, &state) {
 		match := string(text[state.offset : state.offset+state.length])
 		vector, err := parse(match)
 		matches = append(matches, Match{int(state.offset), match, vector, err})

@@ -1,21 +1,10 @@
 package cvss
 
-// #include "library.h"
-// static size_t record(_GoString_ text, CvssError *error, void *buffer, size_t size)
-// {
-//     return cvss_record(_GoStringPtr(text), _GoStringLen(text), CVSS_ALLOW_INCOMPLETE, error, buffer, size);
-// }
-// static size_t explain(_GoString_ text, CvssError *error, void *buffer, size_t size)
-// {
-//     return cvss_explain(_GoStringPtr(text), _GoStringLen(text), CVSS_ALLOW_INCOMPLETE, error, buffer, size);
-// }
-import "C"
-
 // Record is the vector's record: the JSON object of FIRST's schema of its version, without spaces. As the schema has it,
 // baseScore of v4.0 is the score of all metrics in the vector.
 func (v Vector) Record() []byte {
-	return object(func(failure *C.CvssError, buffer []byte) int {
-		return int(C.record(v.text, failure, pointer(buffer), C.size_t(len(buffer))))
+	return object(func(failure *errorStruct, buffer []byte) int {
+		return libraryRecord(v.text, allowIncomplete, failure, buffer)
 	})
 }
 
@@ -25,16 +14,16 @@ func (v Vector) Record() []byte {
 // than 10^-6 from the exact one. It is exact if that has at most seven decimals, except for those of v3 with a changed
 // scope, which have a power.
 func (v Vector) Explain() []byte {
-	return object(func(failure *C.CvssError, buffer []byte) int {
-		return int(C.explain(v.text, failure, pointer(buffer), C.size_t(len(buffer))))
+	return object(func(failure *errorStruct, buffer []byte) int {
+		return libraryExplain(v.text, allowIncomplete, failure, buffer)
 	})
 }
 
 // object is the JSON object that a call writes. The zero Vector has none.
-func object(call func(failure *C.CvssError, buffer []byte) int) []byte {
-	failure := &C.CvssError{size: C.sizeof_CvssError}
+func object(call func(failure *errorStruct, buffer []byte) int) []byte {
+	failure := new(errorStruct)
 	object := written(make([]byte, 1<<11), func(buffer []byte) int { return call(failure, buffer) })
-	if failure.kind != C.CVSS_ACCEPTED {
+	if failure.kind != accepted {
 		return nil
 	}
 	return object

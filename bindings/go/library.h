@@ -1,12 +1,11 @@
-/* The library's header, or an error that says what is missing. The names of files are those of cvss.go. */
+/* The library's header. With the build tag libcvss an error says what is missing; the names of files are those of library_cgo.go. */
+#if defined(CVSS_LIBRARY) && defined(__has_include)
 #if !defined(__linux__) || !(defined(__x86_64__) || defined(__aarch64__))
-#error "this package is for Linux on x86-64 and ARM64: its library is built for no other system"
-#elif !defined(__has_include)
-#include "cvss.h"
-#elif defined(__x86_64__) && !(__has_include("cvss.h") && __has_include("libcvss.a"))
-#error "cvss.h or libcvss.a is missing: use share/yuntabek/go of the unpacked archive in dist/, or run bindings/build"
-#elif defined(__aarch64__) && !(__has_include("cvss.h") && __has_include("libcvss_arm64.a"))
-#error "cvss.h or libcvss_arm64.a is missing: use share/yuntabek/go of the unpacked archive in dist/, or run bindings/build"
-#else
-#include "cvss.h"
+#error "libcvss is built for Linux on x86-64 and ARM64 alone: build without the tag libcvss"
+#elif defined(__x86_64__) && !__has_include("libcvss.a")
+#error "libcvss.a is missing: use share/yuntabek/go of the unpacked archive in dist/, run bindings/build, or build without the tag libcvss"
+#elif defined(__aarch64__) && !__has_include("libcvss_arm64.a")
+#error "libcvss_arm64.a is missing: use share/yuntabek/go of the unpacked archive in dist/, run bindings/build, or build without the tag libcvss"
 #endif
+#endif
+#include "cvss.h"

@@ -1,3 +1,5 @@
+//go:build cgo
+
 package cvss_test
 
 import (
@@ -8,7 +10,7 @@ import (
 	"testing"
 )
 
-// copyOf copies the package without its tests, its library and the library's header, but with some of these files.
+// copyOf copies the package without its tests and its library, but with some of these files.
 func copyOf(t *testing.T, with ...string) string {
 	t.Helper()
 	folder := t.TempDir()
@@ -16,7 +18,7 @@ func copyOf(t *testing.T, with ...string) string {
 	if err != nil {
 		t.Fatal(err)
 	}
-	for _, name := range append(append(sources, "go.mod", "library.h"), with...) {
+	for _, name := range append(append(sources, "go.mod", "library.h", "cvss.h"), with...) {
 		if strings.HasSuffix(name, "_test.go") {
 			continue
 		}
@@ -31,21 +33,20 @@ func copyOf(t *testing.T, with ...string) string {
 	return folder
 }
 
-func TestABuildWithoutTheLibrarySaysWhereItIs(t *testing.T) {
+// With the tag libcvss the package is linked with libcvss.a; an error says where that is.
+func TestABuildWithTheTagNamesAMissingLibrary(t *testing.T) {
 	libraries, err := filepath.Glob("libcvss*.a")
 	if err != nil || len(libraries) == 0 {
-		t.Fatal(libraries, err)
+		t.Skip("bindings/build has not been run")
 	}
-	for _, with := range [][]string{nil, {"cvss.h"}, libraries} {
-		build := exec.Command("go", "build", ".")
-		build.Dir = copyOf(t, with...)
-		output, err := build.CombinedOutput()
-		if err == nil || !strings.Contains(string(output), "share/yuntabek/go of the unpacked archive in dist/, or run bindings/build") {
-			t.Errorf("%v: %v: %s", with, err, output)
-		}
+	build := exec.Command("go", "build", "-tags", "libcvss", ".")
+	build.Dir = copyOf(t)
+	output, err := build.CombinedOutput()
+	if err == nil || !strings.Contains(string(output), "share/yuntabek/go of the unpacked archive in dist/, run bindings/build") {
+		t.Errorf("%v: %s", err, output)
 	}
-	build := exec.Command("go", "build", ".")
-	build.Dir = copyOf(t, append(libraries, "cvss.h")...)
+	build = exec.Command("go", "build", "-tags", "libcvss", ".")
+	build.Dir = copyOf(t, libraries...)
 	if output, err := build.CombinedOutput(); err != nil {
 		t.Errorf("%v: %s", err, output)
 	}

@@ -1,27 +1,17 @@
 package cvss
 
-// #include "library.h"
-// static size_t score_line(_GoString_ text, uint32_t flags, void *buffer, size_t size)
-// {
-//     return cvss_score_line(_GoStringPtr(text), _GoStringLen(text), flags, buffer, size);
-// }
-import "C"
-
-import (
-	"bytes"
-	"unsafe"
-)
+import "bytes"
 
 // ScoreLine is the line that the command `cvss score` prints for a text, without its newline: the canonical text, the score
 // and its severity, or "error: " and the message.
 func ScoreLine(text string) string { return scoreLine(text, 0) }
 
 // ScoreLineIncomplete is ScoreLine, but a v3 vector may lack base metrics.
-func ScoreLineIncomplete(text string) string { return scoreLine(text, C.CVSS_ALLOW_INCOMPLETE) }
+func ScoreLineIncomplete(text string) string { return scoreLine(text, allowIncomplete) }
 
-func scoreLine(text string, flags C.uint32_t) string {
+func scoreLine(text string, flags uint32) string {
 	return string(written(make([]byte, len(text)+longestWords), func(buffer []byte) int {
-		return int(C.score_line(text, flags, pointer(buffer), C.size_t(len(buffer))))
+		return libraryScoreLine(text, flags, buffer)
 	}))
 }
 
@@ -31,14 +21,13 @@ func scoreLine(text string, flags C.uint32_t) string {
 func ScoreLines(lines []byte) []byte { return scoreLines(lines, 0) }
 
 // ScoreLinesIncomplete is ScoreLines, but v3 vectors may lack base metrics.
-func ScoreLinesIncomplete(lines []byte) []byte { return scoreLines(lines, C.CVSS_ALLOW_INCOMPLETE) }
+func ScoreLinesIncomplete(lines []byte) []byte { return scoreLines(lines, allowIncomplete) }
 
-func scoreLines(lines []byte, flags C.uint32_t) []byte {
+func scoreLines(lines []byte, flags uint32) []byte {
 	var scored []byte
 	buffer := make([]byte, 1<<16)
 	for bytes.IndexByte(lines, '\n') >= 0 {
-		var read C.size_t
-		length := C.cvss_score_lines(pointer(lines), C.size_t(len(lines)), flags, pointer(buffer), C.size_t(len(buffer)), &read)
+		length, read := libraryScoreLines(lines, flags, buffer)
 		scored = append(scored, buffer[:length]...)
 		lines = lines[read:]
 		if read == 0 {
@@ -46,12 +35,4 @@ func scoreLines(lines []byte, flags C.uint32_t) []byte {
 		}
 	}
 	return scored
-}
-
-// pointer points to the bytes of a text; it is nil if there are none.
-func pointer(text []byte) unsafe.Pointer {
-	if len(text) == 0 {
-		return nil
-	}
-	return unsafe.Pointer(&text[0])
 }

@@ -1,38 +1,5 @@
 package cvss
 
-// #include "library.h"
-// /* Scores the vector whose text is in the buffer, unless there is an error or the buffer is too small. */
-// static size_t scored(size_t length, CvssVector *vector, CvssError *error, const void *buffer, size_t size)
-// {
-//     if (error->kind == CVSS_ACCEPTED && length <= size)
-//         cvss_parse(buffer, length, CVSS_ALLOW_INCOMPLETE, vector, error, NULL, 0);
-//     return length;
-// }
-// static size_t metrics(_GoString_ text, CvssMetric *metrics, size_t count)
-// {
-//     return cvss_metrics(_GoStringPtr(text), _GoStringLen(text), CVSS_ALLOW_INCOMPLETE, metrics, count);
-// }
-// static size_t with_metrics(_GoString_ text, _GoString_ metrics, CvssVector *vector, CvssError *error, void *buffer,
-//                            size_t size)
-// {
-//     size_t length = cvss_with_metrics(_GoStringPtr(text), _GoStringLen(text), _GoStringPtr(metrics),
-//                                       _GoStringLen(metrics), CVSS_ALLOW_INCOMPLETE, error, buffer, size);
-//     return scored(length, vector, error, buffer, size);
-// }
-// static size_t from_metrics(int32_t version, _GoString_ metrics, uint32_t flags, CvssVector *vector, CvssError *error,
-//                            void *buffer, size_t size)
-// {
-//     size_t length = cvss_from_metrics(version, _GoStringPtr(metrics), _GoStringLen(metrics), flags, error, buffer, size);
-//     return scored(length, vector, error, buffer, size);
-// }
-// static size_t without_not_defined(_GoString_ text, CvssVector *vector, CvssError *error, void *buffer, size_t size)
-// {
-//     size_t length = cvss_without_not_defined(_GoStringPtr(text), _GoStringLen(text), CVSS_ALLOW_INCOMPLETE, error, buffer,
-//                                              size);
-//     return scored(length, vector, error, buffer, size);
-// }
-import "C"
-
 import (
 	"errors"
 	"strings"
@@ -46,10 +13,10 @@ type Metric struct {
 
 // Metrics are the metrics that the vector has, in the order of its canonical text.
 func (v Vector) Metrics() []Metric {
-	var own [C.CVSS_MOST_METRICS]C.CvssMetric
-	metrics := make([]Metric, C.metrics(v.text, &own[0], C.size_t(len(own))))
+	var own [mostMetrics]metricStruct
+	metrics := make([]Metric, libraryMetrics(v.text, allowIncomplete, &own))
 	for i := range metrics {
-		metrics[i] = Metric{C.GoString(&own[i].name[0]), C.GoString(&own[i].value[0])}
+		metrics[i] = Metric{textOf(&own[i].name), textOf(&own[i].value)}
 	}
 	return metrics
 }
@@ -60,7 +27,7 @@ func (v Vector) Metrics() []Metric {
 func (v Vector) WithMetrics(metrics []Metric) (Vector, error) {
 	components := componentsOf(metrics)
 	vector, err := vectorOf(len(v.text)+len(components), func(own *output, buffer []byte) int {
-		return int(C.with_metrics(v.text, components, &own.vector, &own.failure, pointer(buffer), C.size_t(len(buffer))))
+		return own.scored(libraryWithMetrics(v.text, components, allowIncomplete, &own.failure, buffer), buffer)
 	})
 	return vector, slashError(err, metrics)
 }
@@ -70,7 +37,7 @@ func (v Vector) WithMetrics(metrics []Metric) (Vector, error) {
 // given as X.
 func (v Vector) WithoutNotDefined() Vector {
 	vector, _ := vectorOf(len(v.text), func(own *output, buffer []byte) int {
-		return int(C.without_not_defined(v.text, &own.vector, &own.failure, pointer(buffer), C.size_t(len(buffer))))
+		return own.scored(libraryWithoutNotDefined(v.text, allowIncomplete, &own.failure, buffer), buffer)
 	})
 	return vector
 }
@@ -82,18 +49,17 @@ func FromMetrics(version Version, metrics []Metric) (Vector, error) {
 
 // FromMetricsIncomplete is FromMetrics, but a vector of v3 may lack base metrics.
 func FromMetricsIncomplete(version Version, metrics []Metric) (Vector, error) {
-	return fromMetrics(version, metrics, C.CVSS_ALLOW_INCOMPLETE)
+	return fromMetrics(version, metrics, allowIncomplete)
 }
 
-func fromMetrics(version Version, metrics []Metric, flags C.uint32_t) (Vector, error) {
+func fromMetrics(version Version, metrics []Metric, flags uint32) (Vector, error) {
 	number := numberOf(version)
 	if number == 0 {
 		return Vector{}, unsupported(version)
 	}
 	components := componentsOf(metrics)
 	vector, err := vectorOf(len(components), func(own *output, buffer []byte) int {
-		size := C.size_t(len(buffer))
-		return int(C.from_metrics(number, components, flags, &own.vector, &own.failure, pointer(buffer), size))
+		return own.scored(libraryFromMetrics(number, components, flags, &own.failure, buffer), buffer)
 	})
 	return vector, slashError(err, metrics)
 }

@@ -1,9 +1,4 @@
-//go:build cgo
-
 package cvss
-
-// #include "library.h"
-import "C"
 
 import (
 	"database/sql/driver"
@@ -74,7 +69,7 @@ func valuesOf[Value comparable](words map[Value]string) []Value {
 }
 
 // numberOf is the library's number of a version, and 0 of what is none.
-func numberOf(version Version) C.int32_t {
+func numberOf(version Version) int32 {
 	switch version {
 	case V20:
 		return 20
@@ -89,7 +84,7 @@ func numberOf(version Version) C.int32_t {
 }
 
 // versionOf is the version of one of the library's numbers.
-func versionOf(number C.int32_t) Version {
+func versionOf(number int32) Version {
 	switch number {
 	case 20:
 		return V20
@@ -102,7 +97,7 @@ func versionOf(number C.int32_t) Version {
 }
 
 // nomenclatureOf is the nomenclature of one of the library's numbers.
-func nomenclatureOf(number C.int32_t) Nomenclature { return nomenclatures[1+number] }
+func nomenclatureOf(number int32) Nomenclature { return nomenclatures[1+number] }
 
 // String is the version, such as 3.1.
 func (v Version) String() string { return string(v) }

@@ -1,9 +1,4 @@
-//go:build cgo
-
 package cvss
-
-// #include "library.h"
-import "C"
 
 import (
 	"bytes"
@@ -34,8 +29,8 @@ func (s Score) Severity(version Version) (severity Severity, ok bool) {
 	if own.set(float64(s)) != nil {
 		return None, false
 	}
-	number := C.cvss_severity(numberOf(version), C.int32_t(own.Tenths()))
-	if number == C.CVSS_NOTHING {
+	number := librarySeverity(numberOf(version), int32(own.Tenths()))
+	if number == nothing {
 		return None, false
 	}
 	return Severity(number), true

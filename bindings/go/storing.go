@@ -1,5 +1,3 @@
-//go:build cgo
-
 package cvss
 
 import (

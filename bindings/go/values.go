@@ -1,28 +1,17 @@
 package cvss
 
-// #include "library.h"
-// static int32_t score(_GoString_ text, uint32_t flags)
-// {
-//     return cvss_score(_GoStringPtr(text), _GoStringLen(text), flags);
-// }
-// static bool values(_GoString_ text, uint32_t flags, CvssValues *values)
-// {
-//     return cvss_values(_GoStringPtr(text), _GoStringLen(text), flags, values);
-// }
-import "C"
-
 // ScoreOf is the score of a text, as Vector.Score. It is faster than Parse, and computes no other score. If the text is
 // rejected, ok is false.
 func ScoreOf(text string) (score Score, ok bool) { return textScore(text, 0) }
 
 // ScoreOfIncomplete is ScoreOf, but a v3 vector may lack base metrics.
 func ScoreOfIncomplete(text string) (score Score, ok bool) {
-	return textScore(text, C.CVSS_ALLOW_INCOMPLETE)
+	return textScore(text, allowIncomplete)
 }
 
-func textScore(text string, flags C.uint32_t) (score Score, ok bool) {
-	tenths := C.score(text, flags)
-	if tenths == C.CVSS_NOTHING {
+func textScore(text string, flags uint32) (score Score, ok bool) {
+	tenths := libraryScore(text, flags)
+	if tenths == nothing {
 		return 0, false
 	}
 	return scoreOf(int(tenths)), true
@@ -44,20 +33,20 @@ func ValuesOf(text string) (values Values, ok bool) { return textValues(text, 0)
 
 // ValuesOfIncomplete is ValuesOf, but a v3 vector may lack base metrics.
 func ValuesOfIncomplete(text string) (values Values, ok bool) {
-	return textValues(text, C.CVSS_ALLOW_INCOMPLETE)
+	return textValues(text, allowIncomplete)
 }
 
-func textValues(text string, flags C.uint32_t) (values Values, ok bool) {
-	own := C.CvssValues{size: C.sizeof_CvssValues}
-	if !C.values(text, flags, &own) {
+func textValues(text string, flags uint32) (values Values, ok bool) {
+	var own valuesStruct
+	if !libraryValues(text, flags, &own) {
 		return Values{}, false
 	}
 	values = Values{Version: versionOf(own.version), Score: scoreOf(int(own.score))}
-	if own.nomenclature != C.CVSS_NOTHING {
+	if own.nomenclature != nothing {
 		values.Nomenclature = nomenclatureOf(own.nomenclature)
 	}
 	for i, metric := range typesOf(values.Version) {
-		values.Metrics = append(values.Metrics, Metric{metric.Name, C.GoString(&own.fields[i][0])})
+		values.Metrics = append(values.Metrics, Metric{metric.Name, textOf(&own.fields[i])})
 	}
 	return values, true
 }

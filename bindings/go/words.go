@@ -1,5 +1,3 @@
-//go:build cgo
-
 package cvss
 
 // A Group is the group of a metric: v2 and v3 have temporal metrics, and v4.0 threat and supplemental ones.

@@ -1,8 +1,8 @@
 """Makes a wheel and a source archive of the package and the library, with only the standard library (PEP 517).
 
-The library is the file that the variable CVSS_LIBRARY names, or the one in a source archive, or the one that
-bindings/build has made. Both contain it, since building it needs the whole repository. If the variable CVSS_PROGRAM names
-the program `cvss`, the wheel has it too, and pip installs it next to `python`.
+The library of a wheel is the file that the variable CVSS_LIBRARY names, or the one that bindings/build has made, or is
+compiled from one C file, which the source archive has: by the compiler in the variable CC, or cc, with CFLAGS. If the
+variable CVSS_PROGRAM names the program `cvss`, the wheel has it too, and pip installs it next to `python`.
 """
 
 import base64
@@ -10,8 +10,12 @@ import hashlib
 import io
 import os
 import re
+import shlex
 import stat
+import subprocess
+import sysconfig
 import tarfile
+import tempfile
 import zipfile
 from pathlib import Path
 from typing import Dict, Optional
@@ -25,7 +29,9 @@ _SHARED = ("metrics.json", "calculator/cvss-calculator.html")
 _SUFFIXES = (".py", ".typed")
 # A wheel runs on what its platform names and no other: the library is linked to a C library, and to no Python. The
 # setting `platform` names others than this machine's, such as win_amd64, or manylinux2014_aarch64.musllinux_1_1_aarch64.
-_PLATFORM = f"linux_{os.uname().machine}"
+_PLATFORM = re.sub("[-.]", "_", sysconfig.get_platform())
+# The C file and its header, in a source archive and in a checkout.
+_SOURCES = {"cvss.c": "onefile", "cvss.h": "c"}
 # They are at the root of a checkout, of a source archive, and next to the installed sources.
 _LICENSES = ("LICENSE-APACHE", "LICENSE-MIT", "NOTICE")
 _ROOTS = (_HERE, _HERE.parent, _HERE.parent.parent)
@@ -61,13 +67,36 @@ def _version() -> str:
     return found.group(1)
 
 
+def _source(name: str) -> Path:
+    own = _HERE / name
+    return own if own.is_file() else _HERE.parent / _SOURCES[name] / name
+
+
+def _compiled() -> bytes:
+    with tempfile.TemporaryDirectory() as folder:
+        made = Path(folder) / _FILE
+        command = shlex.split(os.environ.get("CC", "cc")) + ["-std=c99", "-O2", "-shared"]
+        command += ["-fPIC"] if os.name == "posix" else []
+        command += shlex.split(os.environ.get("CFLAGS", ""))
+        command += [f"-I{_source('cvss.h').parent}", str(_source("cvss.c")), "-o", str(made)]
+        try:
+            subprocess.run(command, check=True)
+        except (OSError, subprocess.CalledProcessError) as error:
+            raise SystemExit(
+                f"the library cannot be compiled: {error}. Install a C compiler, or set the variable CC to one with the "
+                "options of gcc"
+            ) from error
+        return made.read_bytes()
+
+
 def _library() -> bytes:
-    own = _PACKAGE / _FILE
-    built = own if own.is_file() else _HERE.parent / "out" / _FILE
-    path = Path(os.environ.get("CVSS_LIBRARY", str(built)))
-    if not path.is_file():
-        raise SystemExit(f"{path} is missing: run bindings/build, or set the variable CVSS_LIBRARY to the library's path")
-    return path.read_bytes()
+    named = os.environ.get("CVSS_LIBRARY")
+    path = Path(named) if named else _HERE.parent / "out" / _FILE
+    if path.is_file():
+        return path.read_bytes()
+    if named:
+        raise SystemExit(f"{path} is missing: set the variable CVSS_LIBRARY to the library's path, or unset it")
+    return _compiled()
 
 
 def _shared() -> Dict[str, bytes]:
@@ -90,13 +119,12 @@ def _metadata(version: str) -> bytes:
     return (_HEAD.format(version=version) + (_HERE / "README.md").read_text()).encode()
 
 
-def _package(library: str = _FILE) -> Dict[str, bytes]:
+def _package() -> Dict[str, bytes]:
     files = {
         f"cvss_proved/{source.relative_to(_PACKAGE)}": source.read_bytes()
         for source in sorted(_PACKAGE.rglob("*"))
         if source.suffix in _SUFFIXES
     }
-    files[f"cvss_proved/{library}"] = _library()
     return {**files, **_shared()}
 
 
@@ -107,7 +135,8 @@ def _program(folder: str, is_for_windows: bool) -> Dict[str, bytes]:
 
 def _files(version: str, platform: str) -> Dict[str, bytes]:
     is_for_windows = platform.startswith("win")
-    files = _package(_FILE_OF_WINDOWS if is_for_windows else _FILE)
+    files = _package()
+    files[f"cvss_proved/{_FILE_OF_WINDOWS if is_for_windows else _FILE}"] = _library()
     files.update(_program(f"cvss_proved-{version}.data/scripts", is_for_windows))
     info = f"cvss_proved-{version}.dist-info"
     files[f"{info}/METADATA"] = _metadata(version)
@@ -152,6 +181,7 @@ def build_sdist(sdist_directory: str, config_settings: Optional[Dict[str, str]] 
     folder = f"cvss_proved-{version}"
     files = {name: (_HERE / name).read_bytes() for name in ("README.md", "build_wheel.py", "pyproject.toml")}
     files.update(_package())
+    files.update({name: _source(name).read_bytes() for name in _SOURCES})
     files.update(_licenses())
     files["PKG-INFO"] = _metadata(version)
     with tarfile.open(Path(sdist_directory) / f"{folder}.tar.gz", "w:gz", format=tarfile.PAX_FORMAT) as archive:

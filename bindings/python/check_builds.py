@@ -1,4 +1,4 @@
-"""Tests what build_wheel.py makes: a wheel and a source archive, each with the licences and the library.
+"""Tests what build_wheel.py makes: a wheel with the licences and the library, and a source archive with the C file.
 
 Usage: check_builds.py ROOT FOLDER. ROOT is the folder of the checkout; the two files are written into FOLDER, and stay.
 """
@@ -67,14 +67,17 @@ def check_wheel(root: Path, files: Dict[str, bytes]) -> None:
 
 
 def check_archive(root: Path, archive: Path, folder: Path, wheel: Dict[str, bytes]) -> None:
-    """Of the archive alone the same wheel is made."""
+    """Of the archive alone the same wheel is made, except the library, which is compiled, and its digest."""
     with tarfile.open(archive) as opened:
         opened.extractall(folder)
     sources = folder / archive.name[: -len(".tar.gz")]
     files = {str(path.relative_to(folder)): path.read_bytes() for path in sources.rglob("*") if path.is_file()}
     check_metadata(files[f"{sources.name}/PKG-INFO"], root, files, sources.name)
+    assert not [name for name in files if name.endswith(".so.2")] and f"{sources.name}/cvss.c" in files
     os.environ.pop("CVSS_LIBRARY", None)
-    assert wheel_files(built(sources, "build_wheel", folder)) == wheel
+    compiled = wheel_files(built(sources, "build_wheel", folder))
+    others = [name for name in wheel if not name.endswith(("/libcvss.so.2", "/RECORD"))]
+    assert compiled.keys() == wheel.keys() and [compiled[name] for name in others] == [wheel[name] for name in others]
 
 
 if __name__ == "__main__":
@@ -82,4 +85,4 @@ if __name__ == "__main__":
     content = wheel_files(built(checkout / "bindings/python", "build_wheel", made))
     check_wheel(checkout, content)
     check_archive(checkout, built(checkout / "bindings/python", "build_sdist", made), made, content)
-    print("Python: the wheel and the source archive have the licences and the library")
+    print("Python: the wheel and the source archive have the licences, and the library or its C file")

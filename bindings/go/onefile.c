@@ -1,0 +1,3 @@
+//go:build cgo && !libcvss
+
+#include "../onefile/cvss.c"
