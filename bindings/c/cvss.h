@@ -285,12 +285,15 @@ size_t cvss_score_lines(const void *texts, size_t length, uint32_t flags, void *
  *   CvssMatch match = CVSS_MATCH_INIT;
  *   while (cvss_find(text, length, &match)) { .. }
  *
- * A run is a longest stretch of ASCII letters, digits, ':', '/', '.' and '%'. It is split before each prefix: "CVSS:", or a
- * misspelled one such as "cvss:3.1/AV:", "CVSS3.1/AV:" or "CVSSv3.1/AV:", or a percent-encoded one. A part ends before its
- * first '%' if a '/' comes before that, and is taken without the ':', '/' and '.' at its end; if it begins with no prefix,
- * also without a label such as "vector:" or "7.5/" before "AV:". What is left is a match if it is a valid vector; or if it
- * begins with "CVSS:" and has a '/', or with another prefix: it was probably meant as a vector, and cvss_parse says why it is
- * none. The next call goes on after the whole part. The bytes before `next` are not read: a run that it cuts begins there.
+ * A run is a longest stretch of ASCII letters, digits, ':', '/', '.' and '%', and of backslashes before a '/'. It is split
+ * before each prefix: "CVSS:", or a misspelled one such as "cvss:3.1/AV:", "CVSS3.1/AV:" or "CVSSv3.1/AV:", or a
+ * percent-encoded one. A part ends before its first '%' or backslash if a '/' comes before that. Otherwise, if it begins with
+ * a prefix or "AV", it ends before the first '%' that encodes neither ':' nor '/' if a '/', encoded or not, comes before that.
+ * It is taken without the ':', '/', '.' and backslashes at its end; if it begins with no prefix, also without a label such as "vector:" or "7.5/" before "AV:". What is
+ * left is a match if it is a valid vector; or if it was probably meant as one, and then cvss_parse says why it is none: it
+ * begins with "CVSS:" and has a '/', or with another prefix; with "AV:" and has "/PR:" or "/UI:", as a vector of v3 or v4.0
+ * without its prefix; or with "AV:" and has "/Au:" of which the ':' or the '/' is encoded. An encoded match is not decoded.
+ * The next call goes on after the whole part. The bytes before `next` are not read: a run that it cuts begins there.
  */
 bool cvss_find(const void *text, size_t length, CvssMatch *match);
 

@@ -9,7 +9,8 @@ type Match struct {
 	// Vector is the vector, or the zero Vector if the text of the match is rejected.
 	Vector Vector
 	// Err is nil; or a *ParseError, if the match is no valid vector but was probably meant as one: it begins with CVSS:
-	// and has a slash, or its prefix is written in another way (cvss:3.1/AV:N, CVSS3.1/AV:N) or percent-encoded.
+	// and has a slash, its prefix is written in another way (cvss:3.1/AV:N, CVSS3.1/AV:N) or missing (AV:N/AC:L/PR:N), or
+	// it is encoded as in a link or in JSON.
 	Err error
 }
 

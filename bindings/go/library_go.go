@@ -22,6 +22,7 @@ const (
 // A memory is what the translated functions may use in one call: the stack, with structs above it, and what they are given.
 type memory struct {
 	stackPointer uint64
+	isInCall     uint32
 	parts        [8][]byte
 	own          [stackSize + 512]byte
 	text         []byte
@@ -50,6 +51,7 @@ func inMemory(text, metrics string, buffer []byte, call func(m *memory)) {
 	m.text = append(m.text[:0], text...)
 	m.metrics = append(m.metrics[:0], metrics...)
 	m.stackPointer = firstAt
+	m.isInCall = 0
 	m.parts = [8][]byte{1: m.own[:], 2: m.text, 3: m.metrics, 4: constantBytes, 5: buffer}
 	call(m)
 	m.parts = [8][]byte{}

@@ -188,7 +188,8 @@ export function scoreLine(text: Text, options?: Options): string;
 
 /**
  * The vectors in any text, in order. A rejected text is a match too if it was probably meant as a vector: if it begins with
- * `CVSS:` and has a slash, or its prefix is misspelled (`cvss:3.1/AV:N`, `CVSS3.1/AV:N`) or percent-encoded.
+ * `CVSS:` and has a slash, its prefix is misspelled (`cvss:3.1/AV:N`, `CVSS3.1/AV:N`) or missing (`AV:N/AC:L/PR:N`), or it
+ * is encoded as in a link or in JSON.
  */
 export function find(text: Text, options?: Options): IterableIterator<Match>;
 

@@ -11,6 +11,7 @@ enum { VECTOR_SIZE = 64, ERROR_SIZE = 40, VALUES_SIZE = 272, NUMBERS_SIZE = 64, 
 static void begin(Memory *m, const void *text, size_t length, const void *buffer, u64 size)
 {
     m->stack_pointer = STRUCT(m) & ~(u64)15;
+    m->is_in_call = 0;
     m->text.start = ADDRESS(text);
     m->text.size = length;
     m->metrics.start = m->metrics.size = 0;

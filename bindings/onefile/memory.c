@@ -31,6 +31,7 @@ typedef struct Span {
 /* What a call may use: its stack with the structs above it, and what the caller has given. */
 typedef struct Memory {
     u64 stack_pointer;
+    u32 is_in_call;
     Span text;
     Span metrics;
     Span buffer;

@@ -93,14 +93,14 @@ class Function:
     # values
 
     def type_of(self, name):
-        return "u64" if name == "instance->w2c_g0" else self.types[name[4:]]
+        return self.words.globals[name][0] if name in self.words.globals else self.types[name[4:]]
 
     def value(self, name, kind=None):
         """What is written for a variable or a number."""
         if name[0].isdigit():
             return self.words.number(re.match(r"\d+", name).group(), "u64" if name.endswith("ull") else "u32")
-        if name == "instance->w2c_g0":
-            return self.words.stack_pointer
+        if name in self.words.globals:
+            return self.words.globals[name][1]
         made, reads_memory = self.waiting.pop(name[4:], (name[4:], False))
         self.reads_memory |= reads_memory
         return made
@@ -133,9 +133,10 @@ class Function:
             self.write_readers(name)
             self.lines.append(self.words.assign(name, made))
             return
-        if target == "instance->w2c_g0":
-            self.write_waiting(lambda made, _: self.words.stack_pointer in made)
-            self.lines.append(self.words.assign(self.words.stack_pointer, made))
+        if target in self.words.globals:
+            _, word = self.words.globals[target]
+            self.write_waiting(lambda made, _: word in made)
+            self.lines.append(self.words.assign(word, made))
             return
         self.write_readers(name)
         self.lines.append(self.words.assign(name, made))
@@ -177,7 +178,8 @@ class Function:
 
     def read_call(self, _, target, name, given):
         made = self.words.call(name, self.given(given))
-        self.write_waiting(lambda made, reads_memory: reads_memory or self.words.stack_pointer in made)
+        words = [word for _, word in self.words.globals.values()]
+        self.write_waiting(lambda made, reads_memory: reads_memory or any(word in made for word in words))
         if target:
             self.forget(target[4:])
             self.write_readers(target[4:])

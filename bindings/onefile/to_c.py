@@ -51,7 +51,8 @@ static u64 leading_zeros(u64 x, u64 bits)
 
 
 class C:
-    stack_pointer = "m->stack_pointer"
+    # the module's globals, with their types: its stack pointer, and whether a call is going on
+    globals = {"instance->w2c_g0": ("u64", "m->stack_pointer"), "instance->w2c_g1": ("u32", "m->is_in_call")}
     unreachable = "abort();"
 
     def number(self, digits, kind):

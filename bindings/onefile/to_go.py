@@ -50,7 +50,8 @@ func (m *memory) memory_copy(to, from, n uint64) { copy(m.written(to)[:n], m.rea
 
 
 class Go:
-    stack_pointer = "m.stackPointer"
+    # as in C
+    globals = {"instance->w2c_g0": ("u64", "m.stackPointer"), "instance->w2c_g1": ("u32", "m.isInCall")}
     unreachable = 'panic("cvss: unreachable")'
 
     def number(self, digits, kind):

@@ -120,6 +120,7 @@ def try_hints():
     expect(1, rejected, version, "set", "A:N", "--", bare)
     capitals = b"cvss: hint: write its prefix in capitals, as `CVSS:3.1/`\n"
     v4 = b"AV:N/AC:L/AT:N/PR:N/UI:N/VC:L/VI:H/VA:N/SC:N/SI:N/SA:N"
+    expect(1, b"error: unknown CVSS metric name: `AT`\n", b"cvss: hint: write `CVSS:4.0/` before it\n", "score", v4)
     for prefix, metrics in ((b"cvss:3.1/", bare), (b"Cvss:3.0/", bare), (b"cvSS:4.0/", v4)):
         expect(1, b"error: invalid CVSS string prefix: `" + prefix[:4] + b"`\n", capitals, "score", prefix + metrics)
     for text in (b"(" + V2 + b").", b'"' + V2 + b'"', b" " + V2):
@@ -203,9 +204,9 @@ def try_columns(room):
 
 
 def try_completion():
-    """What bash completes, by the file that is installed."""
-    script = 'cvss() { "$PROGRAM" "$@"; }; . "$FILE"; COMP_WORDS=("$@"); COMP_CWORD=$(($# - 1)); _cvss; printf "%s\\n" "${COMPREPLY[@]}"'
-    environment = os.environ | {"PROGRAM": str(PROGRAM), "FILE": str(ROOT / "bindings/completion/cvss")}
+    """What bash completes, by the file that is installed, which runs no program; and which words each shell has."""
+    script = 'cvss() { exit 1; }; . "$FILE"; COMP_WORDS=("$@"); COMP_CWORD=$(($# - 1)); _cvss; printf "%s\\n" "${COMPREPLY[@]}"'
+    environment = os.environ | {"FILE": str(ROOT / "bindings/completion/cvss")}
 
     def complete_words(*words):
         done = subprocess.run(["bash", "-c", script, "bash", "cvss", *words], env=environment, capture_output=True, text=True,
@@ -217,6 +218,19 @@ def try_completion():
     assert complete_words("score", "--a") == ["--allow-incomplete"] and "--tsv" in complete_words("score", "--")
     assert complete_words("set", "--b") == ["--base"] and "--base" not in complete_words("explain", "--")
     assert complete_words("score", "VERS") == ["VERSION"]
+    usage = subprocess.run([PROGRAM, "help"], stdout=subprocess.PIPE, text=True, check=True).stdout
+    commands = re.findall(r"^  ([a-z]+)  ", usage, re.MULTILINE)
+    zsh, fish = ((ROOT / "bindings/completion" / name).read_text() for name in ("_cvss", "cvss.fish"))
+    assert complete_words("help", "") == sorted(commands)
+    assert re.findall(r"^        '([a-z]+):", zsh, re.MULTILINE) == commands
+    assert re.search(r"^set -l commands (.*)$", fish, re.MULTILINE)[1].split() == commands
+    of_fish = re.findall(r"_from ([a-z ]+)' -l ([a-z-]+)", fish)
+    for command in commands:
+        text = subprocess.run([PROGRAM, "help", command], stdout=subprocess.PIPE, text=True, check=True).stdout
+        options = set(re.findall("--[a-z][a-z-]*", text.partition("\n\n")[0]))
+        assert set(complete_words(command, "--")) == options | {"--help"}, command
+        assert set(re.search(rf"^        {command}\) options=\((.*)\)", zsh, re.MULTILINE)[1].split()) == options, command
+        assert {f"--{name}" for names, name in of_fish if command in names.split()} == options, command
 
 
 def main():

@@ -31,7 +31,11 @@ PREFIX = "error: invalid CVSS string prefix: `cvss`"
 COMPONENT = "error: invalid CVSS metric group component: "
 MISSING = "error: missing mandatory CVSSv3 UI (User Interaction) metric"
 CUT = b"CVSS:3.1/AV:N/AC:L/PR:N"
-HINT = b"cvss: hint: write the prefix of a vector as `CVSS:3.1/`\n"
+ENCODED = V3.replace(b":", b"%3A").replace(b"/", b"%2F")
+ENCODED_V2 = V2.replace(b":", b"%3A").replace(b"/", b"%2F")
+UNKNOWN = "error: unknown CVSS metric name: "
+METRICS_V4 = b"AV:N/AC:L/AT:N/PR:N/UI:N/VC:H/VI:L/VA:L/SC:N/SI:N/SA:N"
+LOOSE, LACKING, LACKING_V4 = (finding.HINTS[name].encode() for name in ("loose", "3.1", "4.0"))
 AT_ONCE = 5_000
 SCORES = ("base", "temporal", "environmental", "score")
 CASES = [
@@ -42,6 +46,32 @@ CASES = [
     (b"x?v=" + V3.replace(b":", b"%3A"), [(5, V3_ANSWER)]),
     (V3 + b"%2Fx " + V3 + b"%20" + V2 + b"%29", [(1, V3_ANSWER), (50, V3_ANSWER)]),
     (b"[" + V2 + b"%29", [(2, V2_ANSWER)]),
+    (b"?v=" + ENCODED + b"%20" + ENCODED, [(4, V3_ANSWER), (4 + len(ENCODED) + 3, V3_ANSWER)]),
+    (ENCODED + b"%26x%3Dy", [(1, V3_ANSWER)]),
+    (b"CVSS:3.1%2F" + METRICS.replace(b"/", b"%2f") + b"%", [(1, V3_ANSWER)]),
+    (b"CVSS%3A3.1/" + METRICS + b"%20and", [(1, V3_ANSWER)]),
+    (b"CVSS%3a3.1%2F" + METRICS, [(1, V3_ANSWER)]),
+    (b"CVSS:3.1%20" + METRICS, [(1, "error: unsupported CVSS version: 3.1%20AV:N")]),
+    (b"?v=" + ENCODED_V2, [(4, V2_ANSWER)]),
+    (V2.replace(b"/", b"%2F") + b"%29", [(1, V2_ANSWER)]),
+    (V2.replace(b":", b"%3A"), [(1, V2_ANSWER)]),
+    (b"u=https%3A%2F%2Fx%20v:" + V2, [(23, V2_ANSWER)]),
+    (ENCODED_V2 + b"L", [(1, "error: invalid CVSSv2 A (Availability Impact) metric: `PL`")]),
+    (b'{"vectorString":"' + V3.replace(b"/", b"\\/") + b'"}', [(18, V3_ANSWER)]),
+    (b'"' + V2.replace(b"/", b"\\/") + b'\\/"', [(2, V2_ANSWER)]),
+    (b'"' + METRICS.replace(b"/", b"\\/") + b'\\n"', [(2, UNKNOWN + "`PR`")]),
+    (b"x\\" + V2 + b"\\n" + V3 + b"\\ CVSS:3.1\\nhttps://example.org/", [(3, V2_ANSWER), (31, V3_ANSWER)]),
+    (METRICS, [(1, UNKNOWN + "`PR`")]),
+    (b"CVE-2024-1;" + METRICS + b";9.8", [(12, UNKNOWN + "`PR`")]),
+    (b"CVSS3#" + METRICS, [(7, UNKNOWN + "`PR`")]),
+    (b"score:9.8/" + METRICS + b".", [(11, UNKNOWN + "`PR`")]),
+    (ENCODED.partition(b"%2F")[2], [(1, UNKNOWN + "`PR`")]),
+    (METRICS_V4, [(1, UNKNOWN + "`AT`")]),
+    (b"?vector=" + METRICS + b"&version=3.1&source=NIST", [(9, V3_ANSWER)]),
+    (b"?vector=" + METRICS + b"&version=3.0", [(9, V3_ANSWER.replace("3.1", "3.0", 1))]),
+    (b"?vector=" + METRICS + b"&version=2.0", [(9, UNKNOWN + "`PR`")]),
+    (b"?vector=" + V2 + b"&version=3.1", [(9, V2_ANSWER)]),
+    (b"AV:N/AC:L AV:N PR:N/UI:N x/AV:N/PR:N a/PR:N/UI:N MAV:N/PR:N", []),
     (b"cvss:3.1/" + METRICS, [(1, PREFIX)]),
     (b"9.8/cvss:3.1/" + METRICS, [(5, PREFIX)]),
     (b"CVSS3.1/" + METRICS, [(1, COMPONENT + "`CVSS3.1`")]),
@@ -78,6 +108,11 @@ def lines_of(written):
             for number, line in enumerate(reference.lines_of(content), 1)]
 
 
+def assumed_by(arguments):
+    """The version that is assumed of vectors without their prefix, if one is."""
+    return next((word.partition("=")[2] for word in arguments if word.startswith("--assume=")), None)
+
+
 def fronted(name, answer):
     return (b"" if name is None else name.encode() + b":") + answer
 
@@ -86,7 +121,7 @@ def try_stored():
     """The answers to stored lines."""
     lines, answers = ((ROOT / "tests/stored" / name).read_bytes() for name in ("find.lines", "find.answers"))
     done = run(lines, "--allow-incomplete")
-    if (done.returncode, done.stdout, done.stderr) != (1, answers, HINT):
+    if (done.returncode, done.stdout, done.stderr) != (1, answers, LOOSE):
         sys.exit(f"cvss find: the answers to tests/stored/find.lines are {done}")
 
 
@@ -101,7 +136,7 @@ def try_cases():
 def compare(room, written, *arguments):
     """Ends if the program writes something else or has another status; otherwise returns how many matches there are."""
     answers = [(name, number, place, answer) for name, number, line in lines_of(written)
-               for place, answer in finding.reported(line, "--allow-incomplete" in arguments, "--base" in arguments)]
+               for place, answer in finding.reported(line, "--allow-incomplete" in arguments, "--base" in arguments, assumed_by(arguments))]
     expected = [fronted(name, f"{number}:{place + 1} {answer}".encode()) for name, number, place, answer in answers]
     done = run_over(room, written, *arguments)
     actual = done.stdout.split(b"\n")[:-1]
@@ -111,7 +146,8 @@ def compare(room, written, *arguments):
     if len(actual) != len(expected):
         sys.exit(f"cvss find writes {len(actual)} lines, and not {len(expected)}")
     rejected = any(answer.startswith("error: ") for *_, answer in answers)
-    if done.returncode != int(rejected) or not is_hint(done.stderr):
+    hint = finding.hint((line for *_, line in lines_of(written)), "--allow-incomplete" in arguments, assumed_by(arguments))
+    if done.returncode != int(rejected) or done.stderr.decode() != hint:
         sys.exit(f"cvss find: status {done.returncode}, standard error {done.stderr!r}")
     return len(expected)
 
@@ -154,17 +190,18 @@ def line(draw):
 
 
 def is_hint(error):
-    return error in (b"", HINT)
+    return error in (b"", LOOSE, LACKING, LACKING_V4)
 
 
 def try_hints():
-    """A prefix that is written in another way has a hint, once a run."""
-    for line, has in ((b"cvss:3.1/" + METRICS, True), (b"CVSS3.1/" + METRICS, True), (b"x CVSSv3.1/" + METRICS, True),
-                      (b"cvss%3A3.1%2F" + METRICS.replace(b":", b"%3A"), True), (V3, False), (CUT, False), (V2 + b"/", False),
-                      (b"x?v=" + V3.replace(b":", b"%3A").replace(b"/", b"%2F"), False), (b"cvss3.1/av", False)):
+    """A prefix that is written in another way or is missing has a hint, once a run."""
+    for line, hint in ((b"cvss:3.1/" + METRICS, LOOSE), (b"CVSS3.1/" + METRICS, LOOSE), (b"x CVSSv3.1/" + METRICS, LOOSE),
+                       (b"cvss%3A3.1%2F" + METRICS.replace(b":", b"%3A"), LOOSE), (V3, b""), (CUT, b""), (V2 + b"/", b""),
+                       (b"x?v=" + ENCODED, b""), (b"cvss3.1/av", b""), (METRICS, LACKING), (METRICS[:-3] + b"X:H", b""),
+                       (ENCODED.partition(b"%2F")[2] + b"%20", LACKING), (METRICS_V4, LACKING_V4), (ENCODED_V2 + b"L", b"")):
         for arguments in ((), ("--json",), ("--annotate",)):
             done = run(b"\n".join([line, V2, line]), *arguments)
-            assert done.stderr == (HINT if has else b""), (line, arguments, done)
+            assert done.stderr == hint, (line, arguments, done)
 
 
 def try_files():
@@ -193,7 +230,8 @@ def main():
         while drawn < count:
             written = hostile.files(draw, room, min(AT_ONCE, count - drawn), line)
             answered += compare(room, written) + compare(room, written, "--allow-incomplete")
-            compare(room, written, "--base")
+            compare(room, written, "--base", "--assume=3.1")
+            compare(room, written, "--allow-incomplete", "--assume=3.0")
             try_annotated(room, written)
             try_objects(room, written)
             drawn += len(lines_of(written))

@@ -19,14 +19,15 @@ CVSSv3.1: critical AV:N/AC:L CVSS:3.1 CVSS:4.0/ CVSS CVSS:/ CVSS:// CVSS:3.1/. C
 XCVSS:3.1/AV:N CVSS:CVSS:CVSS:3.1/AV:N VSS:3.1 /CVSS:. .:/ a:b ://""".split()
 LOOSE = ["cvss:3.1/", "CVSS3.1/", "CVSSv3.0/", "Cvss:4.0/", "cvss4.0/", "CVSS:3.1%2F", "CVSS%3A3.1/", "CVSS%3A4.0%2F"]
 LINKS = ["https://www.first.org/cvss/calculator/3.1#", "https://example.org/calculator?vector=",
-         "https://example.org/CVSS:3.1/AV:N/", "[score](", "<a href=\"#", "score:", "9.8/", "v3:", "7.5/", "vector:", "score:10.0/", "x:7.5/", "?v="]
+         "https://example.org/CVSS:3.1/AV:N/", "[score](", "<a href=\"#", "score:", "9.8/", "v3:", "7.5/", "vector:", "score:10.0/", "x:7.5/", "?v=", "CVSS3#",
+         "https://nvd.nist.gov/vuln-metrics/cvss/v3-calculator?vector="]
 STRANGE = ["\u00e9", "\u017f", "\uff21\uff36:N", "\u201c", "\u00a0", "\u2215", "\U0001f600", "\0", "\r",
            "\x7f", "\x1b[1m"]
 BROKEN = [b"\xff", b"\x80", b"\xc3", b"\xe2\x80", b"\xed\xa0\x80", b"\xc0\xaf"]
 JOINTS = ([b" "] * 6 + [b""] * 3 + [mark.encode() for mark in "./:,;()[]{}<>\"'`#=&|_-\t\\"]
           + [b"\r", b"\0", b"/CVSS:", b"://", b"..."])
 VECTOR_BYTES = "CVSS:", "CVSS:3.1/", "/", ":", ".", "AV:N", "av:n", "A:H", "C", "V", "S", "3.1", "x"
-ENDS = ["", "", "", "", ".", ":", "/", "...", "/.", ":/", "//", "IGH", "/X:Y", "/E"]
+ENDS = ["", "", "", "", ".", ":", "/", "...", "/.", ":/", "//", "IGH", "/X:Y", "/E", "&version=3.1", "&version=3.0&x", "&version=2.0"]
 
 
 def vector(draw):
@@ -35,9 +36,12 @@ def vector(draw):
     text = lines.line(draw, draw.choice(("v2", "v3.0", "v3.1", "v4")), kind)
     if draw.random() < 0.25:
         text = text[:draw.randrange(len(text) + 1)]
+    if draw.random() < 0.1:
+        text = text.partition("/")[2] if text.startswith("CVSS") else text
     if draw.random() < 0.2:
         text = draw.choice(LOOSE) + text.partition("/")[2] if draw.random() < 0.5 else text
-        text = text.replace(":", draw.choice((":", "%3A", "%3a"))).replace("/", draw.choice(("/", "%2F", "%2f")))
+        text = text.replace(":", draw.choice((":", "%3A", "%3a"))).replace("/", draw.choice(("/", "%2F", "%2f", "\\/")))
+        text += draw.choice(("", "", "%20", "%26x%3Dy", "%2F", "%"))
     return text + draw.choice(ENDS)
 
 

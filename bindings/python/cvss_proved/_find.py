@@ -77,8 +77,8 @@ def find(text: Text, *, allow_incomplete: bool = False) -> Union[Iterator[Match[
 
     Each is a `Match` with `offset`, from 0, in characters of a `str` and otherwise in bytes; `text`; and `vector`. If the
     text of the match was probably meant as a vector and is rejected, `vector` is None, and `error` says why. That is so if it
-    begins with `CVSS:` and has a slash, or if its prefix is spelled in another way (`cvss:3.1/AV:N`, `CVSS3.1/AV:N`) or
-    percent-encoded. A v3 vector that was cut off is rejected, too, unless `allow_incomplete` is true.
+    begins with `CVSS:` and has a slash, if its prefix is spelled in another way (`cvss:3.1/AV:N`, `CVSS3.1/AV:N`) or missing
+    (`AV:N/AC:L/PR:N`), or if it is encoded as in a link or in JSON. A v3 vector that was cut off is rejected, too, unless `allow_incomplete` is true.
 
     >>> for match in find("scored 7.8 (AV:N/AC:L/Au:N/C:N/I:N/A:C), or CVSS:3.1/AV:Q."):
     ...     print(match.offset, match.text, repr(match.vector or match.error))

@@ -13,8 +13,9 @@ pub struct Match<'a> {
     /// The text of the match, which is ASCII.
     pub text: &'a str,
     /// The vector; or why the match is rejected, if it is no valid vector but was probably meant as
-    /// one: it begins with `CVSS:` and has a slash, or its prefix is written in another way
-    /// (`cvss:3.1/AV:N`, `CVSS3.1/AV:N`) or percent-encoded.
+    /// one: it begins with `CVSS:` and has a slash, its prefix is written in another way
+    /// (`cvss:3.1/AV:N`, `CVSS3.1/AV:N`) or missing (`AV:N/AC:L/PR:N`), or it is encoded as in a link
+    /// or in JSON.
     pub found: Result<Cvss, ParseError>,
 }
 

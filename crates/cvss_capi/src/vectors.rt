@@ -2,7 +2,7 @@
 
 ghost use Rattle.std.specs.Prelude.{◌≡◌, None, length};
 ghost use Rattle.cvss_explain.specs.Explanation.{IsExplanationText};
-ghost use Rattle.cvss_json_record.specs.Record.{IsRecordText};
+ghost use Rattle.cvss_report.specs.Record.{IsRecordText};
 ghost use Rattle.cvss_vector.specs.Answers.{text_of};
 ghost use Rattle.cvss_vector.specs.Evaluation.{IsOverallScore};
 ghost use Rattle.cvss_vector.specs.declared.vector.Cvss.{Cvss};

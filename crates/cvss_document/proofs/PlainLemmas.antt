@@ -14,11 +14,11 @@ use Rattle.cvss_base.specs.Version.{Version, canonical_text, component_of, compo
 use Rattle.cvss_base.specs.declared.v2.MetricType.TheVariants as metric_v2
 use Rattle.cvss_base.specs.declared.v3.MetricType.TheVariants as metric_v3
 use Rattle.cvss_base.specs.declared.v4.MetricType.TheVariants as metric_v4
-use Rattle.cvss_json_write.specs.Json.{decimal_text, place_units, places, places_text, tenths_text}
+use Rattle.cvss_json.specs.Json.{decimal_text, place_units, places, places_text, tenths_text}
 use Rattle.cvss_vector.specs.v2.Vector.{v2}
 use Rattle.cvss_vector.specs.v3.Vector.{v3}
 use Rattle.cvss_vector.specs.v4.Vector.{v4}
-use Rattle.cvss_json_record.proofs.WordLemmas.{either, is_clear, is_plain}
+use Rattle.cvss_report.proofs.WordLemmas.{either, is_clear, is_plain}
 
 both : (one other : List ℕ) → is_plain one ≡ true → is_plain other ≡ true → is_plain (one ++ other) ≡ true
 both one other first second = list_all-append is_clear one other ∙ ap₂ (λ (a b : Bool). a && b) first second

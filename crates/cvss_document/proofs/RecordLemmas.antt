@@ -13,23 +13,23 @@ use Rattle.serde_json.specs.Data.{Data, float, number, string}
 use Rattle.serde_json.specs.Read.{number_of}
 use Rattle.cvss_vector.specs.Answers.{text_of}
 use Rattle.cvss_vector.specs.declared.vector.Cvss.{Cvss}
-use Rattle.cvss_json_write.specs.Json as object
-use Rattle.cvss_json_write.specs.Json.{string_text, tenths_text}
+use Rattle.cvss_json.specs.Json as object
+use Rattle.cvss_json.specs.Json.{string_text, tenths_text}
 use Rattle.cvss_document.proofs.PlainLemmas.{plain_text}
-use Rattle.cvss_json_record.proofs.WordLemmas.{either, expected_fits, is_clear, is_expected, is_other, is_plain, name_fits}
-use Rattle.cvss_json_record.specs.Fields.{name_of}
-use Rattle.cvss_json_record.specs.Record as written
-use Rattle.cvss_json_record.specs.Record.{Expected, text, score, nothing, expected_of, expected_text, has_member, severity_expected, spelled_at, word_expected}
-use Rattle.cvss_json_record.specs.declared.field.Field.{Field}
-use Rattle.cvss_json_record.specs.declared.field.Field.TheVariants.{V2, V3, V4, Score, Severity, Text}
+use Rattle.cvss_report.proofs.WordLemmas.{either, expected_fits, is_clear, is_expected, is_other, is_plain, name_fits}
+use Rattle.cvss_report.specs.Fields.{name_of}
+use Rattle.cvss_report.specs.Record as written
+use Rattle.cvss_report.specs.Record.{Expected, text, score, nothing, expected_of, expected_text, has_member, severity_expected, spelled_at, word_expected}
+use Rattle.cvss_report.specs.declared.field.Field.{Field}
+use Rattle.cvss_report.specs.declared.field.Field.TheVariants.{V2, V3, V4, Score, Severity, Text}
 use Rattle.cvss_vector.specs.declared.group.Group.TheVariants.{Base, Temporal, Environmental}
-use Rattle.cvss_json_record.specs.declared.score.Scores.{Scores}
-use Rattle.cvss_json_record.specs.Groups.{tenths_at}
-use Rattle.cvss_json_record.specs.laws.Members.{ascend}
-use Rattle.cvss_json_record.specs.Words.{Row}
-use Rattle.cvss_json_record.specs.WordsV2 as words_v2
-use Rattle.cvss_json_record.specs.WordsV3 as words_v3
-use Rattle.cvss_json_record.specs.WordsV4 as words_v4
+use Rattle.cvss_report.specs.declared.score.Scores.{Scores}
+use Rattle.cvss_report.specs.Groups.{tenths_at}
+use Rattle.cvss_report.specs.laws.Members.{ascend}
+use Rattle.cvss_report.specs.Words.{Row}
+use Rattle.cvss_report.specs.WordsV2 as words_v2
+use Rattle.cvss_report.specs.WordsV3 as words_v3
+use Rattle.cvss_report.specs.WordsV4 as words_v4
 use Rattle.cvss_json_tree.specs.Objects.{Member}
 use Rattle.cvss_json_tree.specs.Texts.{IsTextOf}
 use Rattle.cvss_json_tree.specs.laws.ObjectTexts.{AreInOrder, AreMemberTexts, IsUnescaped}

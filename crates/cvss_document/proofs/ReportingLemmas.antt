@@ -11,14 +11,14 @@ use Rattle.cvss_vector.specs.Dispatch.{DenotesCvss}
 use Rattle.cvss_vector.specs.declared.vector.Cvss.{Cvss}
 use Rattle.cvss_vector.specs.declared.vector.Cvss.TheVariants.{CvssV20}
 use Rattle.cvss_laws.specs.any.GivenBack.{IsGivenBack}
-use Rattle.cvss_json_write.specs.Json.{Member, comma_if, member_text, rest_of_object, string_text, tenths_text}
-use Rattle.cvss_json_record.specs.Fields.{fields_of, name_of}
-use Rattle.cvss_json_record.specs.Record.{Expected, text, score, nothing, IsRecordText, expected_of, expected_text, has_member, member_at}
-use Rattle.cvss_json_record.specs.declared.field.Field.{Field}
-use Rattle.cvss_json_record.specs.declared.field.Field.TheVariants.{Text}
-use Rattle.cvss_json_record.specs.declared.score.Scores.{Scores}
+use Rattle.cvss_json.specs.Json.{Member, comma_if, member_text, rest_of_object, string_text, tenths_text}
+use Rattle.cvss_report.specs.Fields.{fields_of, name_of}
+use Rattle.cvss_report.specs.Record.{Expected, text, score, nothing, IsRecordText, expected_of, expected_text, has_member, member_at}
+use Rattle.cvss_report.specs.declared.field.Field.{Field}
+use Rattle.cvss_report.specs.declared.field.Field.TheVariants.{Text}
+use Rattle.cvss_report.specs.declared.score.Scores.{Scores}
 use Rattle.cvss_document.proofs.PlainLemmas.{plain_text, plain_tenths}
-use Rattle.cvss_json_record.proofs.WordLemmas.{either, expected_fits, is_clear, is_expected, is_other, is_plain, is_text, name_fits}
+use Rattle.cvss_report.proofs.WordLemmas.{either, expected_fits, is_clear, is_expected, is_other, is_plain, is_text, name_fits}
 
 abbrev is_quote : ℕ → Bool
 is_quote byte = nat_eq byte 34

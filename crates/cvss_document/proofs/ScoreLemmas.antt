@@ -13,7 +13,7 @@ use Rattle.json.specs.Word.{after_number}
 use Rattle.serde_json.specs.Data.{Num, float, null, number}
 use Rattle.serde_json.specs.Find.{of_float}
 use Rattle.serde_json.specs.Read.{number_of}
-use Rattle.cvss_json_write.specs.Json.{decimal_text, places_text, tenths_text}
+use Rattle.cvss_json.specs.Json.{decimal_text, places_text, tenths_text}
 use Rattle.cvss_document.specs.Scores.{score_number, score_value}
 
 is_finite : ℕ → Bool

@@ -11,8 +11,8 @@ use Rattle.serde_json.specs.Data.{Data, Members, no_members, member, string}
 use Rattle.serde_json.specs.Find.{as_number, as_str}
 use Rattle.serde_json.specs.View.{view}
 use Rattle.cvss_document.specs.Expected.{agrees, expected_at, expected_value, is_text}
-use Rattle.cvss_json_record.specs.Record.{Expected, text, score, severity_word}
-use Rattle.cvss_json_record.specs.Groups.{AreScoresOf}
+use Rattle.cvss_report.specs.Record.{Expected, text, score, severity_word}
+use Rattle.cvss_report.specs.Groups.{AreScoresOf}
 use Rattle.cvss_json_tree.specs.Objects.{Member}
 use Rattle.cvss_document.specs.Places.{Around, Place, given_at, is_among, object_at, text_at}
 use Rattle.cvss_document.specs.SubScores.{AreSubScoresOf}
@@ -25,7 +25,7 @@ use Rattle.cvss_document.specs.declared.difference.Said.TheVariants.{Value, Name
 use Rattle.cvss_document.specs.declared.place.Form.{Form}
 use Rattle.cvss_document.specs.declared.place.Form.TheVariants.{Record, GitHub, Osv, Rating, TrivyV2, TrivyV3, TrivyV40, RustSec, Spdx}
 use Rattle.cvss_document.specs.declared.sub_scores.SubScores.{SubScores}
-use Rattle.cvss_json_record.specs.declared.score.Scores.{Scores}
+use Rattle.cvss_report.specs.declared.score.Scores.{Scores}
 
 -- a member's name, what it says, and what would agree
 abbrev pub Difference : Type 0

@@ -8,14 +8,14 @@ use Rattle.cvss_metric.specs.v4.Table as table_v4
 use Rattle.cvss_vector.specs.declared.vector.Cvss.{Cvss}
 use Rattle.serde_json.specs.Data.{Data, null, string}
 use Rattle.serde_json.specs.Find.{as_null, as_number, as_str, to_float}
-use Rattle.cvss_json_record.specs.Fields.{fields_of, name_of}
-use Rattle.cvss_json_record.specs.Record.{Expected, text, score, nothing, expected_of, has_member}
-use Rattle.cvss_json_record.specs.WordsV2 as words_v2
-use Rattle.cvss_json_record.specs.WordsV3 as words_v3
-use Rattle.cvss_json_record.specs.WordsV4 as words_v4
-use Rattle.cvss_json_record.specs.declared.field.Field.{Field}
-use Rattle.cvss_json_record.specs.declared.field.Field.TheVariants.{Version}
-use Rattle.cvss_json_record.specs.declared.score.Scores.{Scores}
+use Rattle.cvss_report.specs.Fields.{fields_of, name_of}
+use Rattle.cvss_report.specs.Record.{Expected, text, score, nothing, expected_of, has_member}
+use Rattle.cvss_report.specs.WordsV2 as words_v2
+use Rattle.cvss_report.specs.WordsV3 as words_v3
+use Rattle.cvss_report.specs.WordsV4 as words_v4
+use Rattle.cvss_report.specs.declared.field.Field.{Field}
+use Rattle.cvss_report.specs.declared.field.Field.TheVariants.{Version}
+use Rattle.cvss_report.specs.declared.score.Scores.{Scores}
 use Rattle.cvss_document.specs.Scores.{score_number, score_value}
 
 -- the value is the string of this text

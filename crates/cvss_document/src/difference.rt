@@ -7,7 +7,7 @@ ghost use Rattle.cvss_document.specs.Differences.{AreDifferences, AreDifferences
 ghost use Rattle.cvss_document.specs.Expected.{expected_value};
 ghost use Rattle.cvss_document.specs.Places.{place_view};
 ghost use Rattle.cvss_document.specs.private.Views.{Adds};
-ghost use Rattle.cvss_json_record.specs.Record.{expected_view};
+ghost use Rattle.cvss_report.specs.Record.{expected_view};
 ghost use Rattle.serde_json.specs.Find.{as_str};
 ghost use Rattle.serde_json.specs.View.{members_view, view};
 
@@ -16,7 +16,7 @@ use crate::place::{Form, Place, given_at};
 use crate::ratings::{push_rating_members, push_spdx, push_trivy};
 use crate::sub_scores::SubScores;
 use crate::surroundings::push_around;
-use cvss_json_record::{Expected, Scores};
+use cvss_report::{Expected, Scores};
 use cvss_vector::Cvss;
 use serde_json::{Map, Value};
 use std::alloc::{AllocError, Global};

@@ -2,12 +2,12 @@
 
 ghost use Rattle.std.specs.Prelude.{◌≡◌, option_map, IfOk};
 ghost use Rattle.cvss_document.specs.Expected.{agrees, expected_at, expected_of_other, expected_of_own, expected_value, is_metric, is_metric_v2, is_metric_v3, is_metric_v4, is_optional};
-ghost use Rattle.cvss_json_record.specs.Record.{expected_view};
+ghost use Rattle.cvss_report.specs.Record.{expected_view};
 ghost use Rattle.serde_json.specs.View.{view};
 
 use crate::scores::{score_number, score_value};
-use cvss_json_record::names::NOT_DEFINED;
-use cvss_json_record::{Expected, Field, Scores, expected_of, fields_of, has_member, names};
+use cvss_report::names::NOT_DEFINED;
+use cvss_report::{Expected, Field, Scores, expected_of, fields_of, has_member, names};
 use cvss_text::walk::Components;
 use cvss_vector::{Cvss, v2, v3, v4};
 use serde_json::Value;

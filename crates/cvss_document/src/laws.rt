@@ -7,7 +7,7 @@ ghost use Rattle.cvss_base.specs.Equality.{ClonesAlways, ClonesByValue, EqualsBy
 ghost use Rattle.cvss_document.specs.Places.{places_in};
 ghost use Rattle.cvss_document.specs.laws.Pointers.{HasNamesOnce, LeadsTo};
 ghost use Rattle.cvss_document.specs.laws.Records.{AreInRange, record_members};
-ghost use Rattle.cvss_json_record.specs.Record.{IsRecordText};
+ghost use Rattle.cvss_report.specs.Record.{IsRecordText};
 ghost use Rattle.cvss_laws.specs.any.GivenBack.{IsGivenBack};
 ghost use Rattle.cvss_json_tree.specs.Objects.{object_of};
 ghost use Rattle.cvss_json_tree.specs.Texts.{IsTextOf};
@@ -39,7 +39,7 @@ pub fn records_read_back()
         → AreInRange reported.scores
         → IsTextOf (object_of (record_members cvss reported.scores)) text }
 {
-    cvss_json_record::laws::members_are_in_order();
+    cvss_report::laws::members_are_in_order();
     cvss_json_tree::laws::written_objects_read_back();
 }
 

@@ -10,7 +10,7 @@ ghost use Rattle.serde_json.specs.View.{members_view};
 use crate::difference::{Claim, Difference, Scored, push_at, push_name};
 use crate::place::Around;
 use crate::sub_scores::SubScores;
-use cvss_json_record::severity_word;
+use cvss_report::severity_word;
 use cvss_vector::Cvss;
 use serde_json::{Map, Value};
 use std::alloc::AllocError;

@@ -1,6 +1,6 @@
 -- The letters of effective values: CVSS v4.0 specification, sections 2 to 4.
 use Rattle.std.specs.Prelude.{ℕ, List, [], ◌∷◌, codes, map}
-use Rattle.cvss_json_write.specs.Json.{Member, string_text}
+use Rattle.cvss_json.specs.Json.{Member, string_text}
 use Rattle.cvss_base.specs.declared.v4.MetricType.{MetricType}
 use Rattle.cvss_base.specs.declared.v4.MetricType.TheVariants.{AC, AR, AT, AV, CR, E, IR, PR, SA, SC, SI, UI, VA, VC, VI}
 use Rattle.cvss_base.specs.V4Types.{name_of}

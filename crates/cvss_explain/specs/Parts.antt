@@ -5,7 +5,7 @@ use Rattle.std.specs.Fmt.{decimal}
 use Rattle.cvss_vector.specs.Answers.{severity_by, score_of_tenths, text_of}
 use Rattle.cvss_vector.specs.declared.vector.Cvss.{Cvss}
 use Rattle.cvss_base.specs.SeverityText.{text_of as severity_text}
-use Rattle.cvss_json_write.specs.Json.{Member, object_text, string_text, tenths_text}
+use Rattle.cvss_json.specs.Json.{Member, object_text, string_text, tenths_text}
 use Rattle.cvss_vector.specs.Evaluation.{version_of, version_text}
 
 -- members, with the number of the line that is explained before them, if it is one of a list

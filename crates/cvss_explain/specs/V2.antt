@@ -6,7 +6,7 @@ use Rattle.cvss_base.specs.declared.v2.MetricType.TheVariants.{A, AC, AR, AV, Au
 use Rattle.cvss_base.specs.V2Types.{name_of}
 use Rattle.cvss_vector.specs.declared.v2.vector.Vector.{Vector}
 use Rattle.cvss_vector.specs.v2.Weights.{weight_in, weights_of}
-use Rattle.cvss_json_write.specs.Json.{Member, decimal_text, tenths_text}
+use Rattle.cvss_json.specs.Json.{Member, decimal_text, tenths_text}
 use Rattle.cvss_explain.specs.Parts.{ways_text}
 use Rattle.cvss_explain.specs.NumbersV2.{AreBaseNumbers, AreEnvironmentalNumbers, AreTemporalNumbers}
 use Rattle.cvss_explain.specs.declared.v2.numbers.BaseNumbers.{BaseNumbers}

@@ -10,7 +10,7 @@ use Rattle.cvss_vector.specs.declared.v3.vector.Vector.{Vector}
 use Rattle.cvss_score.specs.declared.v3.weights.Weights.{Weights}
 use Rattle.cvss_score.specs.v3.Weighing.{weight_in}
 use Rattle.cvss_vector.specs.v3.VectorWeights.{weights_of}
-use Rattle.cvss_json_write.specs.Json.{Member, decimal_text, string_text, tenths_text}
+use Rattle.cvss_json.specs.Json.{Member, decimal_text, string_text, tenths_text}
 use Rattle.cvss_explain.specs.Parts.{score_member, severity_member, ways_text}
 use Rattle.cvss_explain.specs.NumbersV3.{AreBaseNumbers, AreEnvironmentalNumbers, AreTemporalNumbers}
 use Rattle.cvss_explain.specs.declared.v3.numbers.BaseNumbers.{BaseNumbers}

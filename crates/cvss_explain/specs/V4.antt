@@ -3,7 +3,7 @@ use Rattle.std.specs.Prelude.{◌≡◌, ℕ, ◌-◌, List, [], ◌∷◌, code
 use Rattle.std.specs.Fmt.{decimal}
 use Rattle.cvss_vector.specs.declared.vector.Cvss.{Cvss}
 use Rattle.cvss_vector.specs.v4.Nomenclature.{nomenclature_of, text_of as nomenclature_text}
-use Rattle.cvss_json_write.specs.Json.{array_text, decimal_text, object_text, string_text, tenths_text}
+use Rattle.cvss_json.specs.Json.{array_text, decimal_text, object_text, string_text, tenths_text}
 use Rattle.cvss_score.specs.v4.Explanation.{IsExplanation}
 use Rattle.cvss_vector.specs.v4.Merging.{effective_of}
 use Rattle.cvss_score.specs.declared.v4.nomenclature.Nomenclature.{Nomenclature}

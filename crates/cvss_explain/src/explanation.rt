@@ -5,7 +5,7 @@ ghost use Rattle.cvss_vector.specs.Answers.{HasScore};
 ghost use Rattle.cvss_explain.specs.Explanation.{IsExplanationText};
 
 use crate::{v2, v3, v4};
-use cvss_json_write::Page;
+use cvss_json::Page;
 use cvss_vector::Cvss;
 
 /// Writes why a vector has its scores: an object with its canonical text and version, the score with all

@@ -4,11 +4,11 @@
 ghost use Rattle.std.specs.Prelude.{◌≡◌, ◌+◌, ◌<◌, ◌≤◌, ◌++◌, length, pos};
 ghost use Rattle.cvss_explain.specs.Decimal.{nearest_to};
 ghost use Rattle.cvss_explain.specs.V4.{group_text, groups_text, levels, members_text};
-ghost use Rattle.cvss_json_write.specs.declared.member.Scalar.TheVariants.{Decimal};
-ghost use Rattle.cvss_json_write.specs.Scalars.{scalar_room, scalar_text};
+ghost use Rattle.cvss_json.specs.declared.member.Scalar.TheVariants.{Decimal};
+ghost use Rattle.cvss_json.specs.Scalars.{scalar_room, scalar_text};
 
 use crate::decimal::of_parts;
-use cvss_json_write::{Page, Scalar, Scalars, put_object};
+use cvss_json::{Page, Scalar, Scalars, put_object};
 use cvss_score::v4::scoring::classes::MacroVector;
 use cvss_score::v4::scoring::explanation::GroupExplanation;
 use cvss_vector::v4::Explanation;

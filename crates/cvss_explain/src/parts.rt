@@ -4,8 +4,8 @@ ghost use Rattle.std.specs.Prelude.{◌≡◌, ◌+◌, ◌≤◌, ◌++◌, [],
 ghost use Rattle.cvss_vector.specs.Answers.{severity_by, score_of_tenths};
 ghost use Rattle.cvss_base.specs.SeverityText.{text_of as severity_text};
 ghost use Rattle.cvss_explain.specs.private.Values.{members_view, part_member, part_room, value_room, value_text};
-ghost use Rattle.cvss_json_write.specs.Json.{object_text};
-ghost use Rattle.cvss_json_write.specs.Scalars.{member_room, rooms};
+ghost use Rattle.cvss_json.specs.Json.{object_text};
+ghost use Rattle.cvss_json.specs.Scalars.{member_room, rooms};
 
 use crate::groups::{levels, put_groups};
 use crate::v2::numbers as numbers_v2;
@@ -13,8 +13,8 @@ use crate::v3::numbers as numbers_v3;
 use crate::v4::{EFFECTIVE, Letters};
 use crate::{v2, v3};
 use cvss_base::TENTH;
-use cvss_json_record::put_vector;
-use cvss_json_write::{Member, Members, Page, Scalar, Scalars, put_name, put_object};
+use cvss_json::{Member, Members, Page, Scalar, Scalars, put_name, put_object};
+use cvss_report::put_vector;
 use cvss_score::v4::scoring::classes::MacroVector;
 use cvss_score::v4::scoring::effective::Effective;
 use cvss_vector::Cvss;

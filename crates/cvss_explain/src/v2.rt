@@ -3,7 +3,7 @@
 ghost use Rattle.std.specs.Prelude.{◌≡◌, ◌≤◌, [], Some};
 ghost use Rattle.cvss_explain.specs.V2.{IsExplanationText, base_members, environmental_members, temporal_members, weight_member};
 ghost use Rattle.cvss_explain.specs.private.Values.{members_view};
-ghost use Rattle.cvss_json_write.specs.Scalars.{member_room, rooms};
+ghost use Rattle.cvss_json.specs.Scalars.{member_room, rooms};
 
 pub mod counts;
 pub mod numbers;
@@ -11,7 +11,7 @@ pub mod numbers;
 use crate::parts::{Explained, Value};
 use MetricType::*;
 use cvss_base::v2::MetricType;
-use cvss_json_write::{Member, Members, Page, Scalar, put_member, put_object};
+use cvss_json::{Member, Members, Page, Scalar, put_member, put_object};
 use cvss_vector::Cvss;
 use cvss_vector::v2::Vector;
 use numbers::{BaseNumbers, EnvironmentalNumbers, TemporalNumbers};

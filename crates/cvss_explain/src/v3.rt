@@ -3,15 +3,15 @@
 ghost use Rattle.std.specs.Prelude.{◌≡◌, ◌≤◌, ◌+◌, ◌*◌, [], length, pos};
 ghost use Rattle.cvss_explain.specs.V3.{IsExplanationText, base_members, environmental_members, scope_letter, scored_members, weights_members};
 ghost use Rattle.cvss_explain.specs.private.Values.{members_view};
-ghost use Rattle.cvss_json_write.specs.Json.{decimal_text};
-ghost use Rattle.cvss_json_write.specs.Scalars.{member_room, member_view, rooms};
+ghost use Rattle.cvss_json.specs.Json.{decimal_text};
+ghost use Rattle.cvss_json.specs.Scalars.{member_room, member_view, rooms};
 ghost use Rattle.cvss_vector.specs.v3.VectorWeights.{weights_of};
 
 pub mod counts;
 pub mod numbers;
 
 use crate::parts::{Explained, Value, severity};
-use cvss_json_write::{Member, Page, Scalar, put_object};
+use cvss_json::{Member, Page, Scalar, put_object};
 use cvss_vector::Cvss;
 use cvss_vector::v3::Vector;
 use numbers::{BaseNumbers, EnvironmentalNumbers, Scored};

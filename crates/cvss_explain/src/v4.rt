@@ -9,7 +9,7 @@ mod effective;
 
 use crate::groups::fraction;
 use crate::parts::{Explained, Value};
-use cvss_json_write::{Page, Scalar, put_object};
+use cvss_json::{Page, Scalar, put_object};
 use cvss_vector::Cvss;
 use cvss_vector::v4::Vector;
 pub(crate) use effective::{EFFECTIVE, Letters};

@@ -13,7 +13,7 @@ use Rattle.cvss_explain.specs.Explanation.{IsExplanationText}
 use Rattle.cvss_lines.specs.Answers.{Rule, by_one_text}
 use Rattle.cvss_json_tree.specs.Texts.{IsTextOf}
 use Rattle.cvss_json_tree.specs.Objects.{Member, object_of}
-use Rattle.cvss_rows.specs.Cells.{object_start}
+use Rattle.cvss_report.specs.Cells.{object_start}
 use Rattle.serde_json.specs.Data.{Data, number as number_value, string, unsigned}
 
 -- the number of the line

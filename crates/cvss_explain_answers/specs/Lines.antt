@@ -6,9 +6,9 @@ use Rattle.cvss_base.specs.SeverityText.{text_of as severity_text}
 use Rattle.cvss_base.specs.declared.severity.Severity.{Severity}
 use Rattle.cvss_base.specs.Text.{component}
 use Rattle.cvss_base.specs.Version.{Version, held}
-use Rattle.cvss_json_record.specs.Words as words
-use Rattle.cvss_json_record.specs.Words.{word_in}
-use Rattle.cvss_json_write.specs.Json.{tenths_text}
+use Rattle.cvss_report.specs.Words as words
+use Rattle.cvss_report.specs.Words.{word_in}
+use Rattle.cvss_json.specs.Json.{tenths_text}
 
 abbrev pub blanks : List ℕ
 blanks = codes "                                        "

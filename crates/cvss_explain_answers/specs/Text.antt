@@ -34,7 +34,7 @@ pub record IsAcceptance (what_if allow_incomplete : Bool) (line text : List ℕ)
   pub shows : Shows what_if cvss text
 
 -- the line is rejected as where it is scored
-pub record IsRejection (allow_incomplete : Bool) (line text : List ℕ) : Type 0 where
+pub record IsRejectedAnswer (allow_incomplete : Bool) (line text : List ℕ) : Type 0 where
   pub error : List ℕ
   pub rejected : IsRejection allow_incomplete line error
   pub is : text ≡ written_text error
@@ -43,4 +43,4 @@ pub record IsRejection (allow_incomplete : Bool) (line text : List ℕ) : Type 0
 -- line follows
 abbrev pub IsAnswer : Bool → Bool → Rule
 IsAnswer what_if allow_incomplete =
-    by_one_text (λ number. IsAcceptance what_if allow_incomplete) (λ number. IsRejection allow_incomplete)
+    by_one_text (λ number. IsAcceptance what_if allow_incomplete) (λ number. IsRejectedAnswer allow_incomplete)

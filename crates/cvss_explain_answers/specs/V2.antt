@@ -8,10 +8,10 @@ use Rattle.cvss_explain.specs.declared.v2.numbers.EnvironmentalNumbers.{Environm
 use Rattle.cvss_explain.specs.declared.v2.numbers.TemporalNumbers.{TemporalNumbers}
 use Rattle.cvss_explain_answers.specs.Lines.{Row, metric_text, ways_text}
 use Rattle.cvss_vector.specs.declared.vector.Cvss.TheVariants.{CvssV20}
-use Rattle.cvss_json_record.specs.Groups.{has_group}
+use Rattle.cvss_report.specs.Groups.{has_group}
 use Rattle.cvss_vector.specs.declared.group.Group.TheVariants.{Temporal, Environmental}
-use Rattle.cvss_json_record.specs.WordsV2.{words_of}
-use Rattle.cvss_json_write.specs.Json.{decimal_text, tenths_text}
+use Rattle.cvss_report.specs.WordsV2.{words_of}
+use Rattle.cvss_json.specs.Json.{decimal_text, tenths_text}
 use Rattle.cvss_vector.specs.v2.Vector.{v2}
 use Rattle.cvss_vector.specs.v2.Weights.{weight_in, weights_of}
 use Rattle.cvss_vector.specs.declared.v2.vector.Vector.{Vector}

@@ -11,10 +11,10 @@ use Rattle.cvss_explain.specs.declared.v3.numbers.EnvironmentalNumbers.{Environm
 use Rattle.cvss_explain.specs.declared.v3.numbers.Scored.{Scored}
 use Rattle.cvss_explain_answers.specs.Lines.{Row, metric_text, rated_text, ways_text}
 use Rattle.cvss_vector.specs.declared.vector.Cvss.TheVariants.{CvssV30}
-use Rattle.cvss_json_record.specs.Groups.{has_group}
+use Rattle.cvss_report.specs.Groups.{has_group}
 use Rattle.cvss_vector.specs.declared.group.Group.TheVariants.{Temporal, Environmental}
-use Rattle.cvss_json_record.specs.WordsV3.{words_of}
-use Rattle.cvss_json_write.specs.Json.{decimal_text, tenths_text}
+use Rattle.cvss_report.specs.WordsV3.{words_of}
+use Rattle.cvss_json.specs.Json.{decimal_text, tenths_text}
 use Rattle.cvss_vector.specs.v3.Vector.{v3}
 use Rattle.cvss_score.specs.v3.Weighing.{weight_in}
 use Rattle.cvss_vector.specs.v3.VectorWeights.{weights_of}

@@ -11,8 +11,8 @@ use Rattle.cvss_base.specs.declared.v4.MetricType.TheVariants.{AC, AT, AV, PR, U
 use Rattle.cvss_explain.specs.Decimal.{nearest_to}
 use Rattle.cvss_explain.specs.V4.{Group, class_text, digits, named}
 use Rattle.cvss_explain_answers.specs.Lines.{Joins, Row, metric_text, rated_text, rows_text}
-use Rattle.cvss_json_record.specs.WordsV4.{words_of}
-use Rattle.cvss_json_write.specs.Json.{decimal_text, tenths_text}
+use Rattle.cvss_report.specs.WordsV4.{words_of}
+use Rattle.cvss_json.specs.Json.{decimal_text, tenths_text}
 use Rattle.cvss_score.specs.v4.Explanation.{IsExplanation}
 use Rattle.cvss_score.specs.declared.v4.nomenclature.Nomenclature.{Nomenclature}
 use Rattle.cvss_score.specs.declared.v4.nomenclature.Nomenclature.TheVariants.{CvssB, CvssBE, CvssBT, CvssBTE}

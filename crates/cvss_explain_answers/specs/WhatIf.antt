@@ -9,10 +9,10 @@ use Rattle.cvss_base.specs.Tenths.{tenths_text}
 use Rattle.cvss_base.specs.Text.{component}
 use Rattle.cvss_base.specs.Version.{Version, held}
 use Rattle.cvss_explain_answers.specs.Lines.{Joins, padded}
-use Rattle.cvss_json_record.specs.Words.{Row}
-use Rattle.cvss_json_record.specs.WordsV2 as words_v2
-use Rattle.cvss_json_record.specs.WordsV3 as words_v3
-use Rattle.cvss_json_record.specs.WordsV4 as words_v4
+use Rattle.cvss_report.specs.Words.{Row}
+use Rattle.cvss_report.specs.WordsV2 as words_v2
+use Rattle.cvss_report.specs.WordsV3 as words_v3
+use Rattle.cvss_report.specs.WordsV4 as words_v4
 use Rattle.cvss_vector.specs.Evaluation.{IsOverallScore, is_undefined}
 use Rattle.cvss_vector.specs.v2.Vector.{v2}
 use Rattle.cvss_vector.specs.v3.Vector.{v3}

@@ -8,16 +8,17 @@ ghost use Rattle.cvss_base.specs.Rejection.{Missing};
 ghost use Rattle.cvss_explain.specs.Explanation.{IsExplanationText};
 ghost use Rattle.cvss_explain_answers.specs.Json.{IsAnswer, IsInFile, given_members, in_file, rejection_value};
 ghost use Rattle.cvss_explain_answers.specs.private.Writing.{WritesLine};
+ghost use Rattle.cvss_json.specs.Sinks.{Adds};
 ghost use Rattle.cvss_json_tree.specs.Objects.{with_members};
 ghost use Rattle.cvss_json_tree.specs.Texts.{IsTextOf};
 ghost use Rattle.cvss_lines.specs.Answers.{written_text};
 ghost use Rattle.serde_json.specs.View.{members_view};
 
 use cvss_explain::put_explanation;
+use cvss_json::{Growing, Page, Sink};
 use cvss_json_tree::text_of;
-use cvss_json_write::Page;
 use cvss_lines::{Answering, OutputBuffer};
-use cvss_rows::write_object_start;
+use cvss_report::put_object_start;
 use cvss_vector::{Cvss, MetricType};
 use serde_json::{Map, Value, put};
 use std::alloc::{AllocError, Global};
@@ -87,14 +88,24 @@ fn write_in_file(prefix: &[u8], object: &[u8], answers: &mut OutputBuffer) -> Re
     ensures { OnOk result (answers.new.bytes.items
         ≡ answers.old.bytes.items ++ written_text (in_file prefix.now object.now)) }
 {
+    let mut sink = Growing::begin_after(answers);
+    put_in_file(&mut sink, prefix, object);
+    sink.push(b"\n");
+    sink.end_into(answers)
+}
+
+/// Writes the text of an object, with its file.
+#[tactic(auto, using(cvss_json::proofs::AddsLemmas::join2))]
+fn put_in_file<S: Sink>(sink: &mut S, prefix: &[u8], object: &[u8])
+    ensures { Adds S.Holds (in_file prefix.now object.now) sink.old sink.new }
+{
     match prefix {
-        [] => answers.push(object)?,
+        [] => sink.push(object),
         [_, ..] => {
-            write_object_start(prefix, answers)?;
-            answers.push(after_the_first(object))?;
+            put_object_start(sink, prefix);
+            sink.push(after_the_first(object));
         }
     }
-    answers.push(b"\n")
 }
 
 /// All bytes but the first.

@@ -8,12 +8,12 @@ ghost use Rattle.cvss_explain.specs.V4.{digits};
 ghost use Rattle.cvss_explain_answers.specs.Lines.{blanks, padded, row_line, rows_text, spoken, spoken_byte, ways_text};
 ghost use Rattle.cvss_explain_answers.specs.private.Amounts.{amount_text, row_view, title_text};
 ghost use Rattle.cvss_explain_answers.specs.declared.lines.Amount.TheVariants.{Rated};
-ghost use Rattle.cvss_json_write.specs.Json.{tenths_text};
+ghost use Rattle.cvss_json.specs.Json.{tenths_text};
 
 use crate::v4::put_group;
 use cvss_base::{Severity, TENTH, severity_of_score};
 use cvss_explain::groups::levels;
-use cvss_json_write::Page;
+use cvss_json::Page;
 use cvss_lines::OutputBuffer;
 use cvss_score::v4::scoring::classes::MacroVector;
 use cvss_score::v4::scoring::explanation::GroupExplanation;

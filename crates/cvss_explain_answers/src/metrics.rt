@@ -4,10 +4,10 @@ ghost use Rattle.std.specs.Prelude.{◌≡◌, ◌++◌, OnOk, [], flat_map, map
 ghost use Rattle.cvss_explain_answers.specs.Lines.{metric_line, metric_text};
 
 use crate::lines::{FIGURE_WIDTH, write_component, write_padded, write_spoken};
-use cvss_json_record::names::{Row, word_in};
-use cvss_json_record::spelled;
-use cvss_json_write::Page;
+use cvss_json::Page;
 use cvss_lines::OutputBuffer;
+use cvss_report::names::{Row, word_in};
+use cvss_report::spelled;
 use cvss_text::print::Printed;
 use std::alloc::AllocError;
 

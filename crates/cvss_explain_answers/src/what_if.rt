@@ -11,9 +11,9 @@ ghost use Rattle.cvss_explain_answers.specs.private.Writing.{Writes};
 use crate::lines::write_padded;
 use crate::metrics::Explained;
 use cvss_base::tenths::text_of;
-use cvss_json_record::names::Row;
-use cvss_json_record::spelled;
 use cvss_lines::OutputBuffer;
+use cvss_report::names::Row;
+use cvss_report::spelled;
 use cvss_vector::{Cvss, is_undefined};
 use std::alloc::{AllocError, Global};
 

@@ -1,8 +1,8 @@
 -- What a loop of calls finds.
 use Rattle.std.proofs.Common.{ℕ, List, [], ◌∷◌}
-use Rattle.cvss_scan.specs.Matches.{AreFound, Placed}
-use Rattle.cvss_scan.specs.CandidatesLeft.{candidates_after}
-use Rattle.cvss_scan.proofs.FoundLemmas.{AreFound-first, AreFound-none}
+use Rattle.cvss_matches.specs.Matches.{AreFound, Placed}
+use Rattle.cvss_matches.specs.CandidatesLeft.{candidates_after}
+use Rattle.cvss_matches.proofs.FoundLemmas.{AreFound-first, AreFound-none}
 use Rattle.cvss_ffi.specs.Matches.{AreFoundInTurn}
 
 pub found_in_turn : (text : List ℕ) (from : ℕ) (found : List Placed) → AreFoundInTurn text from found → AreFound (candidates_after text from) found

@@ -1,16 +1,15 @@
 -- A vector of CVSS v4.0 whose nomenclature is CVSS-B has base metrics alone.
 use Rattle.std.proofs.Common.{◌≡◌, ℤ, pos, ◌||◌, Bool, true, false, Option, Some, None, is_some, refl}
 use Rattle.cvss_base.specs.Tenths.{IsInTenths}
-use Rattle.cvss_base.specs.declared.v4.MetricType.TheVariants as metric
 use Rattle.cvss_base.specs.declared.group.MetricGroup.TheVariants.{Environmental, Threat}
 use Rattle.cvss_score.specs.declared.v4.nomenclature.Nomenclature.{Nomenclature}
-use Rattle.cvss_score.specs.declared.v4.nomenclature.Nomenclature.TheVariants.{CvssB, CvssBE, CvssBT, CvssBTE}
 use Rattle.cvss_score.specs.v4.Scores.{IsScore}
 use Rattle.cvss_vector.specs.v4.Merging.{effective_of}
-use Rattle.cvss_vector.specs.v4.Parts.{IsPart, IsScoreBy}
+use Rattle.cvss_vector.specs.v4.Parts.{IsScoreBy}
 use Rattle.cvss_vector.specs.declared.v4.vector.Vector.{Vector}
 use Rattle.cvss_vector.specs.v4.Nomenclature.{has_group, nomenclature_of, nomenclature_with}
 use Rattle.cvss_vector.specs.v4.private.Alone.{IsBaseAlone}
+use Rattle.cvss_vector.proofs.v4.AloneLemmas.{score_alone}
 use Rattle.cvss_ffi.specs.Scores.{nomenclature_number}
 
 none_of : {X : Type 0} (value : Option X) (rest : Bool) → (is_some value || rest) ≡ false → (value ≡ None) × (rest ≡ false)
@@ -64,53 +63,7 @@ base_alone v is =
     let none = neither (has_group v Threat) (has_group v Environmental) is in
     alone v none.0 none.1
 
--- each nomenclature counts all of it
-part_alone : (v : Vector) → IsBaseAlone v → (nomenclature : Nomenclature) → IsPart nomenclature v v
-part_alone v alone CvssB = record {
-  values = elim [
-    | metric.E ↦ alone.e
-    | metric.CR ↦ alone.cr
-    | metric.IR ↦ alone.ir
-    | metric.AR ↦ alone.ar
-    | metric.MAV ↦ alone.mav
-    | metric.MAC ↦ alone.mac
-    | metric.MAT ↦ alone.mat
-    | metric.MPR ↦ alone.mpr
-    | metric.MUI ↦ alone.mui
-    | metric.MVC ↦ alone.mvc
-    | metric.MVI ↦ alone.mvi
-    | metric.MVA ↦ alone.mva
-    | metric.MSC ↦ alone.msc
-    | metric.MSI ↦ alone.msi
-    | metric.MSA ↦ alone.msa
-    | _ ↦ refl
-  ];
-  minor_version = refl;
-}
-part_alone v alone CvssBE = record { values = elim [ metric.E ↦ alone.e | _ ↦ refl ]; minor_version = refl }
-part_alone v alone CvssBT = record {
-  values = elim [
-    | metric.CR ↦ alone.cr
-    | metric.IR ↦ alone.ir
-    | metric.AR ↦ alone.ar
-    | metric.MAV ↦ alone.mav
-    | metric.MAC ↦ alone.mac
-    | metric.MAT ↦ alone.mat
-    | metric.MPR ↦ alone.mpr
-    | metric.MUI ↦ alone.mui
-    | metric.MVC ↦ alone.mvc
-    | metric.MVI ↦ alone.mvi
-    | metric.MVA ↦ alone.mva
-    | metric.MSC ↦ alone.msc
-    | metric.MSI ↦ alone.msi
-    | metric.MSA ↦ alone.msa
-    | _ ↦ refl
-  ];
-  minor_version = refl;
-}
-part_alone v alone CvssBTE = record { values = elim [ metric.AC ↦ refl | _ ↦ refl ]; minor_version = refl }
-
--- so its score is that of each nomenclature
+-- its score is that of each nomenclature
 pub scored_alone : (v : Vector) → nomenclature_number (nomenclature_of v) ≡ pos 0 → (nomenclature : Nomenclature) (count : ℤ) → IsInTenths (IsScore (effective_of v)) count
     → IsScoreBy nomenclature v count
-scored_alone v is nomenclature count scored = record { part = v; is_part = part_alone v (base_alone v is) nomenclature; scored = scored }
+scored_alone v is = score_alone v (base_alone v is)

@@ -1,7 +1,7 @@
 -- What is reported of the next match of a vector in a text, and what a loop of calls finds.
 use Rattle.std.specs.Prelude.{◌≡◌, ℕ, List, [], ◌∷◌, Option, Some, None, length}
-use Rattle.cvss_scan.specs.Matches.{Placed}
-use Rattle.cvss_scan.specs.CandidatesLeft.{IsFirstFound, NoneFound, candidates_after}
+use Rattle.cvss_matches.specs.Matches.{Placed}
+use Rattle.cvss_matches.specs.CandidatesLeft.{IsFirstFound, NoneFound, candidates_after}
 use Rattle.cvss_ffi.specs.declared.matches.CvssMatch.{CvssMatch}
 
 -- how many bytes a match has

@@ -4,8 +4,8 @@ ghost use Rattle.cvss_vector.specs.Answers.{text_of};
 ghost use Rattle.cvss_ffi.specs.Buffer.{IsWritten};
 
 use crate::buffer::write;
-use cvss_json_record::put_vector;
-use cvss_json_write::Page;
+use cvss_json::Page;
+use cvss_report::put_vector;
 use cvss_text::print::text_after;
 use cvss_vector::{Cvss, TextBuffer};
 

@@ -8,7 +8,7 @@ ghost use Rattle.cvss_ffi.specs.Calls.{IsAnswerTo, Returns};
 use crate::error::CvssError;
 use crate::reading::read;
 use crate::rejection::{NoVector, reject, write_vector};
-use cvss_json_record::spelled;
+use cvss_report::spelled;
 use cvss_text::print::Printed;
 use cvss_text::setting::completed;
 use cvss_vector::{Cvss, Versioned};

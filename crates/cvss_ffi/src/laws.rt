@@ -2,7 +2,7 @@
 
 ghost use Rattle.std.specs.Prelude.{◌≡◌, ℕ, List, codes, drop, length, take};
 ghost use Rattle.cvss_base.specs.Rejection.{Rejection};
-ghost use Rattle.cvss_scan.specs.Matches.{AreFound, Placed, candidates_of};
+ghost use Rattle.cvss_matches.specs.Matches.{AreFound, Placed, candidates_of};
 ghost use Rattle.cvss_vector.specs.Reasons.{reason_text};
 ghost use Rattle.cvss_vector.specs.declared.metric_type.MetricType.{MetricType};
 ghost use Rattle.cvss_vector.specs.v4.Merging.{effective_of};

@@ -5,7 +5,7 @@ ghost use Rattle.cvss_ffi.specs.Buffer.{PutsFilled};
 ghost use Rattle.cvss_ffi.specs.Matches.{IsMatchFrom, match_size};
 
 use crate::buffer::put;
-use cvss_scan::Matches;
+use cvss_matches::Matches;
 
 /// A match of a vector in a text, and the state of a loop of calls that finds each.
 #[derive(Drop)]

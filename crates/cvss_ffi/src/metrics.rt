@@ -9,7 +9,7 @@ ghost use Rattle.cvss_ffi.specs.Metrics.{metrics_at, metrics_in_order, padded as
 use crate::buffer::write;
 use crate::reading::read_vector;
 use cvss_base::v4::MOST_METRICS;
-use cvss_json_record::spelled;
+use cvss_report::spelled;
 use cvss_text::print::Printed;
 use cvss_vector::Cvss;
 

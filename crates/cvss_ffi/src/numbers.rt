@@ -1,12 +1,11 @@
 //! Numbers for versions, severities and nomenclatures.
 
 ghost use Rattle.std.specs.Prelude.{◌≡◌, ◌≤◌, pos};
-ghost use Rattle.cvss_score.specs.v2.SeverityScale.{severity_of};
 ghost use Rattle.cvss_ffi.specs.Scores.{IsSeverityNumber, nomenclature_of_any, severity_number as number_of_severity, version_number as number_of_version};
 
-use cvss_base::{Severity, TENTH, severity_of_score};
+use cvss_base::Severity;
 use cvss_score::v4::Nomenclature;
-use cvss_vector::{Cvss, v2};
+use cvss_vector::{Bounds, Cvss};
 
 /// What stands for nothing: a text that is rejected has no score, and CVSS v4.0 no temporal score.
 pub const NOTHING: i32 = -1;
@@ -38,18 +37,11 @@ fn severity_of_tenths(version: i32, tenths: u8) -> i32
     requires { tenths ≤ 100 }
     ensures { IsSeverityNumber version (pos tenths) result }
 {
-    let score = i128::from(tenths) * TENTH;
     match version {
-        20 => severity_number(severity_of_v2(score)),
-        30 | 31 | 40 => severity_number(severity_of_score(score)),
+        20 => severity_number(Bounds::OfV2.severity_of(tenths)),
+        30 | 31 | 40 => severity_number(Bounds::SinceV3.severity_of(tenths)),
         _ => NOTHING,
     }
-}
-
-fn severity_of_v2(score: i128) -> Severity
-    ensures { result ≡ severity_of score }
-{
-    v2::Score::new(score).severity()
 }
 
 /// 0 for none, to 4 for critical.

@@ -3,14 +3,14 @@
 ghost use Rattle.std.specs.Prelude.{None};
 ghost use Rattle.cvss_explain.specs.Explanation.{IsExplanationText};
 ghost use Rattle.cvss_ffi.specs.Calls.{IsAnswerTo, Returns};
-ghost use Rattle.cvss_json_record.specs.Record.{IsRecordText};
+ghost use Rattle.cvss_report.specs.Record.{IsRecordText};
 
 use crate::error::{CvssError, write_result};
 use crate::reading::read;
 use crate::rejection::{NoVector, reject};
 use cvss_explain::put_explanation;
-use cvss_json_record::put_record;
-use cvss_json_write::Page;
+use cvss_json::Page;
+use cvss_report::put_record;
 
 /// Writes the record of the vector that a text denotes, or why there is none.
 pub fn record(text: &[u8], flags: u32, error: &mut CvssError, buffer: &mut [u8]) -> usize

@@ -10,7 +10,6 @@ ghost use Rattle.cvss_ffi.specs.ScoreLines.{IsScoreLine};
 use crate::buffer::{write_message, write_segments};
 use crate::canonical::write_canonical;
 use crate::reading::read;
-use cvss_base::TENTH;
 use cvss_base::tenths::text_of;
 use cvss_vector::{Cvss, Message, Segment};
 
@@ -63,5 +62,5 @@ fn severity_of(cvss: &Cvss, tenths: u8) -> &'static str
     requires { tenths ≤ 100 }
     ensures { result.now ≡ severity_text (severity_by cvss.now (score_of_tenths tenths)) }
 {
-    cvss.severity_of(i128::from(tenths) * TENTH).as_str()
+    cvss.severity_of_tenths(tenths).as_str()
 }

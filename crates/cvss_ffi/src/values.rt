@@ -16,7 +16,7 @@ use crate::reading::read_vector;
 use cvss_base::v2::MetricType as V2;
 use cvss_base::v3::MetricType as V3;
 use cvss_base::v4::{MOST_METRICS, MetricType as V4};
-use cvss_json_record::spelled;
+use cvss_report::spelled;
 use cvss_text::print::Printed;
 use cvss_vector::Cvss;
 

@@ -2,7 +2,8 @@
 
 ghost use Rattle.std.specs.Prelude.{◌≡◌, ◌≤◌, length};
 ghost use Rattle.cvss_vector.specs.Answers.{HasScore, score_of_tenths, text_of};
-ghost use Rattle.cvss_vector.specs.Evaluation.{IsOverallScore};
+ghost use Rattle.cvss_vector.specs.Evaluation.{IsGroupScore, IsOverallScore};
+ghost use Rattle.cvss_vector.specs.declared.group.Group.TheVariants.{Base};
 ghost use Rattle.cvss_vector.specs.declared.vector.Cvss.{Cvss};
 ghost use Rattle.cvss_ffi.specs.Accepted.{Answers, IsVectorOf};
 ghost use Rattle.cvss_ffi.specs.Buffer.{IsFilled};
@@ -117,7 +118,7 @@ impl CvssVector {
             environmental,
             environmental_severity,
             nomenclature,
-            by_nomenclature: scores_by(cvss, nomenclature, found.overall.tenths),
+            by_nomenclature: scores_by(cvss, nomenclature, found.base.tenths, found.overall.tenths),
             is_complete: i32::from(found.missing.is_none()),
         }
     }
@@ -140,12 +141,14 @@ fn numbers_if(rated: Option<Rated>) -> (i32, i32)
     }
 }
 
-/// The scores by nomenclature, which only CVSS v4.0 has, of a vector of this nomenclature, whose overall
-/// score has these tenths.
+/// The scores by nomenclature, which only CVSS v4.0 has, of a vector of this nomenclature, whose base score
+/// and overall score have these tenths.
 // Where there are base metrics alone, each nomenclature counts all of them.
-fn scores_by(cvss: &Cvss, nomenclature: i32, overall: u8) -> [i32; 4]
+fn scores_by(cvss: &Cvss, nomenclature: i32, base: u8, overall: u8) -> [i32; 4]
     requires scored { HasScore cvss.now }
     requires nomenclature { nomenclature ≡ nomenclature_of_any cvss.now }
+    requires base { IsGroupScore cvss.now Base (score_of_tenths base) }
+    requires base_range { base ≤ 100 }
     requires overall { IsOverallScore cvss.now (score_of_tenths overall) }
     requires range { overall ≤ 100 }
     ensures { AreScoresByOf cvss.now result }
@@ -153,13 +156,12 @@ fn scores_by(cvss: &Cvss, nomenclature: i32, overall: u8) -> [i32; 4]
     let Cvss::CvssV40(vector) = cvss else {
         return [NOTHING; 4];
     };
+    let b = i32::from(base);
+    let bte = i32::from(overall);
     if nomenclature == 0 {
-        let own = i32::from(overall);
-        return [own, own, own, own];
+        return [bte, bte, bte, bte];
     }
-    let b = vector.tenths_given(Nomenclature::CvssB, overall);
-    let be = vector.tenths_given(Nomenclature::CvssBE, overall);
-    let bt = vector.tenths_given(Nomenclature::CvssBT, overall);
-    let bte = vector.tenths_given(Nomenclature::CvssBTE, overall);
-    [i32::from(b), i32::from(be), i32::from(bt), i32::from(bte)]
+    let be = vector.tenths_by(Nomenclature::CvssBE);
+    let bt = vector.tenths_by(Nomenclature::CvssBT);
+    [b, i32::from(be), i32::from(bt), bte]
 }

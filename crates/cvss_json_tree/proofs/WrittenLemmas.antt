@@ -1,4 +1,4 @@
--- The texts that `cvss_json_write` defines, beside the values that they are read as.
+-- The texts that `cvss_json` defines, beside the values that they are read as.
 use Rattle.std.proofs.Common.{◌≡◌, ℕ, Bool, true, false, List, [], ◌∷◌, ◌++◌, Less, Greater, map, nat_cmp, refl, sym, ap, ap₂, ◌∙◌, subst, append_assoc, append-nil, Float, Some, option_map, unwrap_or, if◌then◌else◌}
 use Rattle.std.proofs.lemmas.Cmp.{nat_list_cmp_total}
 use Rattle.std.specs.Cmp.Lexicographic.{slice_cmp}
@@ -11,8 +11,8 @@ use Rattle.serde_json.specs.Data.{Members, float, member, no_members, number, pu
 use Rattle.serde_json.specs.Find.{is_float}
 use Rattle.serde_json.specs.Read.{number_of}
 use Rattle.serde_json.specs.Written as written
-use Rattle.cvss_json_write.specs.Json as object
-use Rattle.cvss_json_write.specs.Json.{comma_if, member_text, object_text, rest_of_object, string_text}
+use Rattle.cvss_json.specs.Json as object
+use Rattle.cvss_json.specs.Json.{comma_if, member_text, object_text, rest_of_object, string_text}
 use Rattle.cvss_json_tree.specs.Objects.{Member, object_of, with_members}
 use Rattle.cvss_json_tree.specs.Texts.{IsTextOf}
 use Rattle.cvss_json_tree.specs.laws.ObjectTexts.{AreInOrder, AreMemberTexts, IsMemberText, IsUnescaped}

@@ -4,7 +4,7 @@ use Rattle.cvss_vector.specs.Complete.{IsReadErrorBy, missing_by}
 use Rattle.cvss_vector.specs.Dispatch.{DenotesCvss}
 use Rattle.cvss_vector.specs.declared.rejection.ReadError.{ReadError}
 use Rattle.cvss_vector.specs.declared.vector.Cvss.{Cvss}
-use Rattle.cvss_scan.specs.Matches.{AreFound, IsFound, Placed, candidates_of}
+use Rattle.cvss_matches.specs.Matches.{AreFound, IsFound, Placed, candidates_of}
 use Rattle.cvss_rank.specs.declared.reading.Reason.{Reason}
 use Rattle.cvss_rank.specs.declared.reading.Reason.TheVariants.{NoVector, SeveralVectors, Rejected}
 

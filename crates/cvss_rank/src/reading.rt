@@ -4,7 +4,7 @@ ghost use Rattle.std.specs.Prelude.{Bool, IfErr, IfOk};
 ghost use Rattle.cvss_vector.specs.Answers.{HasScore};
 ghost use Rattle.cvss_rank.specs.Reading.{IsOnlyMatch, IsReason, IsVectorOf};
 
-use cvss_scan::Matches;
+use cvss_matches::Matches;
 use cvss_vector::{Cvss, ReadError};
 
 /// Why a line has no vector.

@@ -22,9 +22,10 @@ use Rattle.cvss_subcommands.specs.declared.usage_error.UsageError.{UsageError}
 use Rattle.cvss_subcommands.specs.declared.usage_error.UsageError.TheVariants.{NoMetric, NotUtf8}
 use Rattle.cvss_explain_answers.specs.Json as json
 use Rattle.cvss_explain_answers.specs.Text as text
-use Rattle.cvss_find.specs.Answers.{find_rule}
-use Rattle.cvss_find.specs.declared.form.Form.{Form}
-use Rattle.cvss_find.specs.declared.form.Form.TheVariants.{Annotated, Located, Object}
+use Rattle.cvss_matches.specs.Answers.{find_rule}
+use Rattle.cvss_matches.specs.declared.form.Form.{Form}
+use Rattle.cvss_matches.specs.declared.hint.PrefixHint.{PrefixHint}
+use Rattle.cvss_matches.specs.declared.form.Form.TheVariants.{Annotated, Located, Object}
 use Rattle.cvss_lines.specs.Runs.{Ends}
 use Rattle.cvss_lines.specs.declared.fault.RunFault.TheVariants.{Memory}
 use Rattle.cvss_program.specs.Exit.{after, nothing_served}
@@ -33,6 +34,7 @@ use Rattle.cvss_program.specs.Reports.{Reported, Reports}
 use Rattle.cvss_program.specs.declared.served.Served.{Served}
 use Rattle.cvss_triage.specs.Triage.{Triages}
 use Rattle.cvss_vector.specs.declared.scoring.Scoring.{Scoring}
+use Rattle.cvss_vector.specs.declared.setting.Version as version
 
 -- the help on a subcommand or on all, of these texts
 abbrev pub help_of : List ℕ → List ℕ → List ℕ → List ℕ → List ℕ → List ℕ → List ℕ → Option Subcommand → List ℕ
@@ -51,19 +53,24 @@ form_of false true all = Annotated all
 form_of false false all = Located
 
 -- each line is answered by what is found in it
-abbrev pub FindsVectors : Form → Scoring → Bool → Endings
-FindsVectors form scoring allow_incomplete prefix = Ends (find_rule form scoring allow_incomplete prefix)
+abbrev pub FindsVectors : Form → Scoring → Bool → Option version.Version → Endings
+FindsVectors form scoring allow_incomplete assumed prefix = Ends (find_rule form scoring allow_incomplete assumed prefix)
 
--- how an input is answered by `cvss find`, by whether --json, --annotate, --all, --base and --allow-incomplete are given
-abbrev pub find_ends : Bool → Bool → Bool → Bool → Bool → Endings
+-- how an input is answered by `cvss find`, by whether --json, --annotate, --all, --base and --allow-incomplete are given and
+-- by what --assume says
+abbrev pub find_ends : Bool → Bool → Bool → Bool → Bool → Option version.Version → Endings
 find_ends json annotate all base = FindsVectors (form_of json annotate all) (scoring_of base)
 
--- the vectors in the operands are found, and a hint may follow: a cell keeps whether one is rejected for how its prefix is
--- written, of which no contract speaks
+-- nothing is reported, or a hint
+abbrev pub MayHint : Reported → Reported → Type 0
+MayHint report report' = (report' ≡ report) ⊎ ((hint : PrefixHint) × Reports report report' (prefix_hint hint))
+
+-- the vectors in the operands are found, and a hint may follow: a cell keeps what is wrong with the prefix of one that is
+-- rejected, of which no contract speaks
 abbrev pub FindsAll : Endings → (List ℕ → Option (List ℕ)) → List (Vec ℕ) → Option (List ℕ) → Option (List ℕ) → Option (List ℕ) → Option (List ℕ) → Reported → Reported → Served → Type 0
 FindsAll ends contents operands unread unread' written written' report report' served =
     (report'' : Reported) × ServesAll ends contents operands unread unread' written written' report report'' served
-    × ((report' ≡ report'') ⊎ Reports report'' report' prefix_hint)
+    × MayHint report'' report'
 
 -- nothing is read, written or reported
 pub record Idle (unread unread' written written' : Option (List ℕ)) (report report' : Reported) (result expected : Result Served UsageError) : Type 0 where
@@ -119,7 +126,7 @@ Runs Score options arguments contents unread unread' written written' report rep
     IsOkAnd result (Scores options.flags.json options.flags.tsv options.flags.base options.flags.allow_incomplete contents
     (operands_of options.operands arguments) unread unread' written written' report report')
 Runs Find options arguments contents unread unread' written written' report report' result =
-    IsOkAnd result (FindsAll (find_ends options.flags.json options.flags.annotate options.flags.all options.flags.base options.flags.allow_incomplete)
+    IsOkAnd result (FindsAll (find_ends options.flags.json options.flags.annotate options.flags.all options.flags.base options.flags.allow_incomplete options.flags.assumed)
     contents (operands_of options.operands arguments) unread unread' written written' report report')
 Runs Explain options arguments contents unread unread' written written' report report' result =
     Answers (explain_ends options.flags.json options.flags.what_if options.flags.allow_incomplete) options arguments contents unread unread' written written' report report' result

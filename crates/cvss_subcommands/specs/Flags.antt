@@ -1,9 +1,10 @@
 -- The options of subcommands.
 use Rattle.std.specs.Prelude.{◌&&◌, Bool, true, false, List, ℕ, codes, Option, None, Some, if◌then◌else◌}
 use Rattle.cvss_subcommands.specs.declared.flags.Flag.{Flag}
-use Rattle.cvss_subcommands.specs.declared.flags.Flag.TheVariants.{Json, Tsv, Base, AllowIncomplete, Annotate, All, WhatIf, KeepGoing, Document, Set, Profile}
+use Rattle.cvss_subcommands.specs.declared.flags.Flag.TheVariants.{Json, Tsv, Base, AllowIncomplete, Assume30, Assume31, Annotate, All, WhatIf, KeepGoing, Document, Set, Profile}
 use Rattle.cvss_subcommands.specs.declared.flags.Flags.{Flags}
 use Rattle.cvss_vector.specs.declared.scoring.Scoring.{Scoring}
+use Rattle.cvss_vector.specs.declared.setting.Version.TheVariants.{V30, V31}
 use Rattle.cvss_vector.specs.declared.scoring.Scoring.TheVariants as scoring
 
 -- how an option is written
@@ -12,6 +13,8 @@ flag_name Json = codes "--json"
 flag_name Tsv = codes "--tsv"
 flag_name Base = codes "--base"
 flag_name AllowIncomplete = codes "--allow-incomplete"
+flag_name Assume30 = codes "--assume=3.0"
+flag_name Assume31 = codes "--assume=3.1"
 flag_name Annotate = codes "--annotate"
 flag_name All = codes "--all"
 flag_name WhatIf = codes "--what-if"
@@ -30,6 +33,7 @@ no_flags = record {
   tsv = false;
   base = false;
   allow_incomplete = false;
+  assumed = None;
   annotate = false;
   all = false;
   what_if = false;
@@ -43,6 +47,8 @@ with_flag Json flags = record flags { json = true }
 with_flag Tsv flags = record flags { tsv = true }
 with_flag Base flags = record flags { base = true }
 with_flag AllowIncomplete flags = record flags { allow_incomplete = true }
+with_flag Assume30 flags = record flags { assumed = Some V30 }
+with_flag Assume31 flags = record flags { assumed = Some V31 }
 with_flag Annotate flags = record flags { annotate = true }
 with_flag All flags = record flags { all = true }
 with_flag WhatIf flags = record flags { what_if = true }

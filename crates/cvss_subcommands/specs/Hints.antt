@@ -5,10 +5,12 @@ use Rattle.std.specs.Char.{is_ascii_alphanumeric, to_ascii_lowercase}
 use Rattle.std.specs.Global.{Vec}
 use Rattle.std.specs.List.{suffix_len}
 use Rattle.std.specs.Str.{IsUtf8}
+use Rattle.cvss_matches.specs.declared.hint.PrefixHint.{PrefixHint}
+use Rattle.cvss_matches.specs.declared.hint.PrefixHint.TheVariants.{Loose, MissingV31, MissingV40}
 use Rattle.cvss_program.specs.Sources.{source_of}
 use Rattle.cvss_program.specs.declared.sources.Source.TheVariants.{Vector}
 use Rattle.cvss_subcommands.specs.declared.hint.Hint.{Hint}
-use Rattle.cvss_subcommands.specs.declared.hint.Hint.TheVariants.{Version, Capitals, Alone}
+use Rattle.cvss_subcommands.specs.declared.hint.Hint.TheVariants.{Version, VersionV40, Capitals, Alone}
 use Rattle.cvss_vector.specs.Complete.{first_missing}
 use Rattle.cvss_vector.specs.Dispatch.{DenotesCvss}
 use Rattle.cvss_vector.specs.Setting.{IsBuiltAs, text_with}
@@ -52,10 +54,11 @@ without_front (byte ∷ bytes) = if is_mark byte then without_front bytes else b
 abbrev pub without_back : List ℕ → List ℕ
 without_back text = take (length text - suffix_len is_mark text) text
 
--- when a hint holds for a text: its components make a vector of v3.1; or it is one but for the case of its prefix; or
+-- when a hint holds for a text: its components make a vector of v3.1, or of v4.0; or it is one but for the case of its prefix; or
 -- it is one between its first letter or digit and its last. Each lacks no base metric.
 abbrev pub Holds : Hint → List ℕ → Type 0
 Holds Version text = MakeComplete V31 text
+Holds VersionV40 text = MakeComplete V40 text
 Holds Capitals text = IsPrefixed V30 text ⊎ IsPrefixed V31 text ⊎ IsPrefixed V40 text
 Holds Alone text = IsComplete (without_back (without_front text))
 
@@ -82,9 +85,12 @@ IsFirstHint (word ∷ words) hint =
 -- what a hint says
 abbrev pub hint_text : Hint → List ℕ
 hint_text Version = codes "cvss: hint: write `CVSS:3.1/` before it\n"
+hint_text VersionV40 = codes "cvss: hint: write `CVSS:4.0/` before it\n"
 hint_text Capitals = codes "cvss: hint: write its prefix in capitals, as `CVSS:3.1/`\n"
 hint_text Alone = codes "cvss: hint: `cvss find` finds vectors among other text\n"
 
--- what the hint of `cvss find` says, for vectors whose prefix is written in another way
-abbrev pub prefix_hint : List ℕ
-prefix_hint = codes "cvss: hint: write the prefix of a vector as `CVSS:3.1/`\n"
+-- what the hint of `cvss find` says, for vectors whose prefix is written in another way, or missing
+abbrev pub prefix_hint : PrefixHint → List ℕ
+prefix_hint Loose = codes "cvss: hint: write the prefix of a vector as `CVSS:3.1/`\n"
+prefix_hint MissingV31 = codes "cvss: hint: write `CVSS:3.1/` before a vector of v3.1, or use --assume=3.1\n"
+prefix_hint MissingV40 = codes "cvss: hint: write `CVSS:4.0/` before a vector of v4.0\n"

@@ -12,9 +12,9 @@ use Rattle.cvss_program.specs.Exit.{after, nothing_served}
 use Rattle.cvss_program.specs.Operands.{Endings, ServesAll, many_files}
 use Rattle.cvss_program.specs.Reports.{Reported}
 use Rattle.cvss_program.specs.declared.served.Served.{Served}
-use Rattle.cvss_rows.specs.Rows.{IsRow, header_text}
-use Rattle.cvss_rows.specs.declared.format.Format.{Format}
-use Rattle.cvss_rows.specs.declared.format.Format.TheVariants.{Tsv, Json}
+use Rattle.cvss_report.specs.Rows.{IsRow, header_text}
+use Rattle.cvss_report.specs.declared.format.Format.{Format}
+use Rattle.cvss_report.specs.declared.format.Format.TheVariants.{Tsv, Json}
 
 -- the text is written, or a beginning of it where the writer fails
 abbrev pub WritesText : List ℕ → Option (List ℕ) → Option (List ℕ) → Served → Type 0

@@ -9,7 +9,7 @@ abbrev pub usage_of : Subcommand → List ℕ
 usage_of Score = codes "cvss score [--json|--tsv|--base] [--allow-incomplete] [VECTOR|FILE].."
 usage_of Find =
     codes "cvss find [--json|[--annotate [--all]] [--base]] [--allow-incomplete]\n"
-    ++ codes "                 [FILE].."
+    ++ codes "                 [--assume=3.0|--assume=3.1] [FILE].."
 usage_of Explain = codes "cvss explain [--json|--what-if] [--allow-incomplete] [VECTOR|FILE].."
 usage_of Set = codes "cvss set [--base] [--allow-incomplete] METRIC:VALUE.. [-- VECTOR|FILE ..]"
 usage_of Triage =

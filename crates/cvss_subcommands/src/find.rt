@@ -1,21 +1,20 @@
 //! `cvss find`.
 
 ghost use Rattle.std.specs.Prelude.{◌≡◌};
-ghost use Rattle.cvss_subcommands.specs.Done.{FindsAll, FindsVectors, find_ends, form_of};
+ghost use Rattle.cvss_subcommands.specs.Done.{FindsAll, FindsVectors, MayHint, find_ends, form_of};
 ghost use Rattle.cvss_program.specs.Reports.{reported};
 ghost use Rattle.cvss_subcommands.specs.Hints.{prefix_hint};
 
 use crate::flags::Flags;
-use cvss_find::{Finding, Form};
 use cvss_lines::{RunFault, Summary, run};
+use cvss_matches::{Finding, Form, PrefixHint};
 use cvss_program::{Files, Report, Served, Task, WatchedReader, serve_operands};
-use cvss_vector::Scoring;
+use cvss_vector::{Scoring, Version};
 use std::alloc::Global;
 use std::cell::Cell;
 use std::io::{Read, Write};
 
-/// Finds the vectors in the operands. A hint follows on standard error if one was rejected for how its
-/// prefix is written.
+/// Finds the vectors in the operands. A hint follows on standard error if one was rejected for its prefix.
 pub(crate) fn find_vectors<F: Files, R: Read, W: Write, E: Write>(
     alloc: Global,
     flags: Flags,
@@ -26,31 +25,46 @@ pub(crate) fn find_vectors<F: Files, R: Read, W: Write, E: Write>(
     report: &mut Report<E>,
 ) -> Served
     ensures { FindsAll
-        (find_ends flags.json flags.annotate flags.all flags.base flags.allow_incomplete)
+        (find_ends flags.json flags.annotate flags.all flags.base flags.allow_incomplete flags.assumed)
         (F.contents files.now) operands.now
         (R.remaining reader.old.reader) (R.remaining reader.new.reader)
         (W.contents writer.old) (W.contents writer.new)
         (reported E.contents report.old) (reported E.contents report.new) result }
 {
-    let loose_prefix = Cell::new(false);
+    let hint = Cell::new(None);
     let task = Find {
         form: form_of(flags),
         scoring: flags.scoring(),
         allow_incomplete: flags.allow_incomplete,
-        loose_prefix: &loose_prefix,
+        assumed: flags.assumed,
+        hint: &hint,
     };
     let served = serve_operands(alloc, &task, operands, files, reader, writer, report);
-    if loose_prefix.get() {
-        report.write(prefix_hint().as_bytes());
-    }
+    report_hint(hint.get(), report);
     served
 }
 
-/// Reported once a run.
-fn prefix_hint() -> &'static str
-    ensures { result.now ≡ prefix_hint }
+/// Reports a hint, if there is one.
+fn report_hint<E: Write>(hint: Option<PrefixHint>, report: &mut Report<E>)
+    ensures { MayHint (reported E.contents report.old) (reported E.contents report.new) }
 {
-    "cvss: hint: write the prefix of a vector as `CVSS:3.1/`\n"
+    match hint {
+        Some(hint) => report.write(prefix_hint(hint).as_bytes()),
+        None => {}
+    }
+}
+
+/// Reported once a run.
+fn prefix_hint(hint: PrefixHint) -> &'static str
+    ensures { result.now ≡ prefix_hint hint }
+{
+    match hint {
+        PrefixHint::Loose => "cvss: hint: write the prefix of a vector as `CVSS:3.1/`\n",
+        PrefixHint::MissingV31 => {
+            "cvss: hint: write `CVSS:3.1/` before a vector of v3.1, or use --assume=3.1\n"
+        }
+        PrefixHint::MissingV40 => "cvss: hint: write `CVSS:4.0/` before a vector of v4.0\n",
+    }
 }
 
 /// The form that is asked for.
@@ -74,12 +88,14 @@ struct Find<'a> {
     scoring: Scoring,
     /// A vector of CVSS v3 may lack base metrics, and a line may end after a slash.
     allow_incomplete: bool,
-    /// Set where a vector is rejected whose prefix is written in another way than `CVSS:3.1/`.
-    loose_prefix: &'a Cell<bool>,
+    /// Of which version vectors are that lack their prefix, where no link says it.
+    assumed: Option<Version>,
+    /// Set to what is wrong with the prefix of the first vector that is rejected for it.
+    hint: &'a Cell<Option<PrefixHint>>,
 }
 
 impl Task for Find<'_> {
-    ghost ends = { λ find. FindsVectors find.form find.scoring find.allow_incomplete };
+    ghost ends = { λ find. FindsVectors find.form find.scoring find.allow_incomplete find.assumed };
 
     fn serve_input<R: Read, W: Write>(
         &self,
@@ -92,8 +108,9 @@ impl Task for Find<'_> {
             form: self.form,
             scoring: self.scoring,
             allow_incomplete: self.allow_incomplete,
+            assumed: self.assumed,
             prefix,
-            loose_prefix: self.loose_prefix,
+            hint: self.hint,
         };
         run(&finding, alloc, reader, writer)
     }

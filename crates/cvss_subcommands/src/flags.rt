@@ -3,7 +3,7 @@
 ghost use Rattle.std.specs.Prelude.{◌≡◌};
 ghost use Rattle.cvss_subcommands.specs.Flags.{all_scores_of, flag_name, has_value, no_flags, scoring_of, with_flag};
 
-use cvss_vector::Scoring;
+use cvss_vector::{Scoring, Version};
 
 /// An option of some subcommands.
 #[derive(Clone, Copy, Drop)]
@@ -12,6 +12,10 @@ pub(crate) enum Flag {
     Tsv,
     Base,
     AllowIncomplete,
+    /// Vectors without their prefix are of v3.0.
+    Assume30,
+    /// They are of v3.1.
+    Assume31,
     Annotate,
     All,
     WhatIf,
@@ -30,6 +34,8 @@ pub(crate) struct Flags {
     pub(crate) tsv: bool,
     pub(crate) base: bool,
     pub(crate) allow_incomplete: bool,
+    /// The version of vectors without their prefix, by the last option that says it.
+    pub(crate) assumed: Option<Version>,
     pub(crate) annotate: bool,
     pub(crate) all: bool,
     pub(crate) what_if: bool,
@@ -46,6 +52,8 @@ impl Flag {
             Flag::Tsv => "--tsv",
             Flag::Base => "--base",
             Flag::AllowIncomplete => "--allow-incomplete",
+            Flag::Assume30 => "--assume=3.0",
+            Flag::Assume31 => "--assume=3.1",
             Flag::Annotate => "--annotate",
             Flag::All => "--all",
             Flag::WhatIf => "--what-if",
@@ -73,6 +81,7 @@ impl Flags {
             tsv: false,
             base: false,
             allow_incomplete: false,
+            assumed: None,
             annotate: false,
             all: false,
             what_if: false,
@@ -90,6 +99,8 @@ impl Flags {
             Flag::Tsv => Flags { tsv: true, ..self },
             Flag::Base => Flags { base: true, ..self },
             Flag::AllowIncomplete => Flags { allow_incomplete: true, ..self },
+            Flag::Assume30 => Flags { assumed: Some(Version::V30), ..self },
+            Flag::Assume31 => Flags { assumed: Some(Version::V31), ..self },
             Flag::Annotate => Flags { annotate: true, ..self },
             Flag::All => Flags { all: true, ..self },
             Flag::WhatIf => Flags { what_if: true, ..self },
@@ -98,6 +109,7 @@ impl Flags {
             Flag::Set | Flag::Profile => self,
         }
     }
+
     /// Which score of a vector is printed.
     pub(crate) fn scoring(self) -> Scoring
         ensures { result ≡ scoring_of self.base }

@@ -14,7 +14,7 @@ pub(crate) const VERSION: &str = "cvss 2.0.0\n";
 pub const USAGE: &str = "\
 usage: cvss score [--json|--tsv|--base] [--allow-incomplete] [VECTOR|FILE]..
        cvss find [--json|[--annotate [--all]] [--base]] [--allow-incomplete]
-                 [FILE]..
+                 [--assume=3.0|--assume=3.1] [FILE]..
        cvss explain [--json|--what-if] [--allow-incomplete] [VECTOR|FILE]..
        cvss set [--base] [--allow-incomplete] METRIC:VALUE.. [-- VECTOR|FILE ..]
        cvss triage [--set METRIC:VALUE].. [--profile FILE].. [--keep-going]
@@ -65,16 +65,16 @@ Exit status: 0 on success; 1 if a line is rejected; 2 on usage or I/O errors.
 /// What `help find` prints.
 pub(crate) const FIND_USAGE: &str = "\
 usage: cvss find [--json|[--annotate [--all]] [--base]] [--allow-incomplete]
-                 [FILE]..
+                 [--assume=3.0|--assume=3.1] [FILE]..
 
 Finds the vectors in any text, of any bytes. For each it prints LINE:COLUMN
 (both from 1, in bytes), a space and the line that cvss score prints for it.
 With several files each line begins with the name of its file and a colon.
 
-Percent-encoded vectors are decoded. A prefix in lower case or without its
-colon, as in cvss:3.1/AV:N and CVSS3.1/AV:N, is rejected: write CVSS:3.1/. A
-vector is also rejected if a slash after it ends the line, since it may go on in
-the next line.
+Vectors in links and JSON are decoded. Rejected are vectors without a prefix, as
+AV:N/AC:L/PR:N.. (unless --assume or a link says the version), with a prefix in
+lower case or without its colon, as cvss:3.1/ and CVSS3.1/, and before a slash
+that ends the line, since a vector may go on in the next line.
 
   --annotate           repeat each line, then a tab and what is printed for its
                        first vector; with --all for each of its vectors
@@ -83,6 +83,8 @@ the next line.
   --base               print base scores (--json prints all scores)
   --allow-incomplete   score vectors before such a slash, and v3 vectors that
                        lack base metrics
+  --assume=3.1         read v3 vectors without a prefix as CVSS:3.1/AV:N..; or
+                       --assume=3.0
 
   cvss find --annotate findings.tsv
 

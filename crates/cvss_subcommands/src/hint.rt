@@ -12,8 +12,10 @@ use cvss_vector::{Cvss, Version};
 /// What would make a rejected text a vector.
 #[derive(Drop)]
 pub enum Hint {
-    /// The version before it.
+    /// The version 3.1 before it.
     Version,
+    /// The version 4.0 before it.
+    VersionV40,
     /// Its prefix in capitals.
     Capitals,
     /// Nothing around it.
@@ -27,6 +29,7 @@ impl Hint {
     {
         match self {
             Hint::Version => "cvss: hint: write `CVSS:3.1/` before it\n",
+            Hint::VersionV40 => "cvss: hint: write `CVSS:4.0/` before it\n",
             Hint::Capitals => "cvss: hint: write its prefix in capitals, as `CVSS:3.1/`\n",
             Hint::Alone => "cvss: hint: `cvss find` finds vectors among other text\n",
         }
@@ -70,6 +73,8 @@ fn hint_that_holds(text: &[u8]) -> Option<Hint>
 {
     if make_complete(Version::V31, text) {
         Some(Hint::Version)
+    } else if make_complete(Version::V40, text) {
+        Some(Hint::VersionV40)
     } else if has_prefix_in_other_case(text) {
         Some(Hint::Capitals)
     } else if is_complete(without_back(without_front(text))) {

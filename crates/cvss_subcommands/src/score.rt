@@ -8,7 +8,7 @@ use crate::flags::Flags;
 use crate::tasks::{Score, ScoreRow};
 use cvss_lines::write_whole;
 use cvss_program::{EachLine, Files, Report, Served, WatchedReader, are_many, serve_operands};
-use cvss_rows::{Format, header};
+use cvss_report::{Format, header};
 use std::alloc::Global;
 use std::io::{Read, Write};
 

@@ -53,6 +53,8 @@ impl Subcommand {
                     Flag::All,
                     Flag::Base,
                     Flag::AllowIncomplete,
+                    Flag::Assume30,
+                    Flag::Assume31,
                 ]
             }
             Subcommand::Explain => &[Flag::Json, Flag::WhatIf, Flag::AllowIncomplete],

@@ -4,8 +4,8 @@ ghost use Rattle.cvss.specs.Answers.{HasScore};
 
 use cvss::{Cvss, Error};
 use cvss_document::{Difference, Form, Place, differences, differences_at, vectors_in};
-use cvss_json_record::put_record;
-use cvss_json_write::Page;
+use cvss_json::Page;
+use cvss_report::put_record;
 use serde_json::Value;
 use std::io;
 

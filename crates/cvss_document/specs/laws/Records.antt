@@ -5,11 +5,11 @@ use Rattle.cvss_vector.specs.Answers.{text_of}
 use Rattle.cvss_vector.specs.declared.vector.Cvss.{Cvss}
 use Rattle.serde_json.specs.Data.{Data, string}
 use Rattle.cvss_document.specs.Scores.{score_value}
-use Rattle.cvss_json_record.specs.Fields.{fields_of, name_of}
-use Rattle.cvss_json_record.specs.Record.{Expected, text, score, nothing, said_at}
-use Rattle.cvss_json_record.specs.declared.field.Field.{Field}
-use Rattle.cvss_json_record.specs.declared.field.Field.TheVariants.{Text}
-use Rattle.cvss_json_record.specs.declared.score.Scores.{Scores}
+use Rattle.cvss_report.specs.Fields.{fields_of, name_of}
+use Rattle.cvss_report.specs.Record.{Expected, text, score, nothing, said_at}
+use Rattle.cvss_report.specs.declared.field.Field.{Field}
+use Rattle.cvss_report.specs.declared.field.Field.TheVariants.{Text}
+use Rattle.cvss_report.specs.declared.score.Scores.{Scores}
 use Rattle.cvss_json_tree.specs.Objects.{Member}
 
 -- what a member says, as a value

@@ -13,9 +13,9 @@ use Rattle.cvss_explain.specs.V4.{class_text, groups_text}
 use Rattle.cvss_explain.specs.declared.parts.Value.{Value}
 use Rattle.cvss_explain.specs.declared.parts.Value.TheVariants.{Scalar, Class, Line, Severity, Text, Version, BaseV2, TemporalV2, EnvironmentalV2, WeightsV2, BaseV3, TemporalV3, EnvironmentalV3, WeightsV3, Letters, Groups}
 use Rattle.cvss_vector.specs.Evaluation.{version_of, version_text}
-use Rattle.cvss_json_write.specs.Json.{Member, object_text, string_text}
-use Rattle.cvss_json_write.specs.Scalars.{member_view, scalar_room, scalar_text}
-use Rattle.cvss_json_write.specs.declared.member.Scalar as scalar
+use Rattle.cvss_json.specs.Json.{Member, object_text, string_text}
+use Rattle.cvss_json.specs.Scalars.{member_view, scalar_room, scalar_text}
+use Rattle.cvss_json.specs.declared.member.Scalar as scalar
 use Rattle.cvss_vector.specs.v3.VectorWeights.{weights_of}
 
 -- the members of an object of scalars

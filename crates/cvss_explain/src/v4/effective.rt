@@ -5,7 +5,7 @@ ghost use Rattle.cvss_explain.specs.LettersV4.{safety_impact_letter, requirement
 
 use MetricType::*;
 use cvss_base::v4::MetricType;
-use cvss_json_write::{Members, Page, Scalar, put_member};
+use cvss_json::{Members, Page, Scalar, put_member};
 use cvss_score::v4::scoring::effective::{
     AttackComplexity, AttackRequirements, AttackVector, Effective, ExploitMaturity,
     PrivilegesRequired, Requirement, SafetyImpact, SubsequentImpact, UserInteraction,

@@ -7,7 +7,7 @@ use Rattle.cvss_explain_answers.specs.declared.lines.Amount.{Amount}
 use Rattle.cvss_explain_answers.specs.declared.lines.Amount.TheVariants.{Decimal, Tenths, Rated, Contribution}
 use Rattle.cvss_explain_answers.specs.declared.lines.Title.{Title}
 use Rattle.cvss_explain_answers.specs.declared.lines.Title.TheVariants.{Words, Level, Levels, Class}
-use Rattle.cvss_json_write.specs.Json.{decimal_text, tenths_text}
+use Rattle.cvss_json.specs.Json.{decimal_text, tenths_text}
 
 -- the text of a title
 abbrev pub title_text : Title → List ℕ

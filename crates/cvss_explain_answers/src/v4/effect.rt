@@ -5,8 +5,8 @@ ghost use Rattle.std.specs.Fmt.{decimal};
 ghost use Rattle.cvss_explain_answers.specs.V4.{is_defined, levels_text, modified_of, replaced_by, value_counts};
 
 use cvss_base::v4::MetricType;
-use cvss_json_record::spelled;
-use cvss_json_write::Page;
+use cvss_json::Page;
+use cvss_report::spelled;
 use cvss_score::v4::scoring::classes::MacroVector;
 use cvss_vector::v4::Vector;
 

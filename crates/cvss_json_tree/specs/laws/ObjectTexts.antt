@@ -1,11 +1,11 @@
--- What the texts that `cvss_json_write` defines are to a reader of JSON: RFC 8259, sections 4 and 7.
+-- What the texts that `cvss_json` defines are to a reader of JSON: RFC 8259, sections 4 and 7.
 use Rattle.std.specs.Prelude.{◌≡◌, ℕ, List, [], ◌∷◌, ⊤, map}
 use Rattle.std.specs.Cmp.Lexicographic.{slice_cmp}
 use Rattle.std.specs.List.Sorted.{IsStrictlySortedBy}
 use Rattle.std.specs.Ordering.{nat_cmp}
 use Rattle.json.specs.Print.{quoted}
-use Rattle.cvss_json_write.specs.Json as object
-use Rattle.cvss_json_write.specs.Json.{string_text}
+use Rattle.cvss_json.specs.Json as object
+use Rattle.cvss_json.specs.Json.{string_text}
 use Rattle.cvss_json_tree.specs.Objects.{Member}
 use Rattle.cvss_json_tree.specs.Texts.{IsTextOf}
 

@@ -1,5 +1,5 @@
 use Rattle.std.proofs.Common.{◌≡◌, bytes_eq, drop, find}
-use Rattle.cvss_json_record.specs.Fields.{fields_of, name_of}
+use Rattle.cvss_report.specs.Fields.{fields_of, name_of}
 use Rattle.cvss_document.proofs.expected.expected_at.Given as goal
 
 abbrev pub invariant-loop-field : goal.invariant-loop-field

@@ -1,9 +1,9 @@
 use Rattle.std.proofs.Common.{◌≡◌, true, map, sym, subst}
 use Rattle.cvss_vector.specs.declared.vector.Cvss.{Cvss}
 use Rattle.cvss_vector.specs.declared.vector.Cvss.TheVariants.{CvssV20, CvssV30, CvssV31, CvssV40}
-use Rattle.cvss_json_record.specs.Fields.{fields_of, name_of}
-use Rattle.cvss_json_record.specs.Record as written
-use Rattle.cvss_json_record.specs.laws.Members.{ascend}
+use Rattle.cvss_report.specs.Fields.{fields_of, name_of}
+use Rattle.cvss_report.specs.Record as written
+use Rattle.cvss_report.specs.laws.Members.{ascend}
 use Rattle.cvss_json_tree.specs.Objects.{object_of}
 use Rattle.cvss_json_tree.specs.Texts.{IsTextOf}
 use Rattle.cvss_document.specs.laws.Records.{record_members}

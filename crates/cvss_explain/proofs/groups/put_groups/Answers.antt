@@ -1,5 +1,5 @@
 use Rattle.std.proofs.Common.{◌≡◌, List, [], ◌∷◌, ◌++◌, ℕ, append_assoc, codes, refl}
-use Rattle.cvss_json_write.specs.Json.{array_text}
+use Rattle.cvss_json.specs.Json.{array_text}
 use Rattle.cvss_explain.proofs.groups.put_groups.Goals as goal
 
 -- five values between brackets, with a comma between each two

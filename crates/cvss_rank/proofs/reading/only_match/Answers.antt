@@ -1,7 +1,7 @@
 use Rattle.std.proofs.Common.{[], ◌∷◌, ◌++◌, refl, sym, ap, ◌∙◌, subst}
-use Rattle.cvss_scan.specs.Matches.{AreFound}
-use Rattle.cvss_scan.specs.CandidatesLeft.{as_placed, candidates_left}
-use Rattle.cvss_scan.proofs.FoundLemmas.{AreFound-first, AreFound-none}
+use Rattle.cvss_matches.specs.Matches.{AreFound}
+use Rattle.cvss_matches.specs.CandidatesLeft.{as_placed, candidates_left}
+use Rattle.cvss_matches.proofs.FoundLemmas.{AreFound-first, AreFound-none}
 use Rattle.cvss_rank.proofs.reading.only_match.Goals as goal
 
 pub returns-in_default-clause-reason : goal.returns-in_default-clause-reason

@@ -1,6 +1,6 @@
 use Rattle.std.proofs.Common.{◌∙◌, ap, inl, subst}
 use Rattle.std.specs.Io.KnownBytes.{Appends}
-use Rattle.cvss_rows.specs.Rows.{header_text}
+use Rattle.cvss_report.specs.Rows.{header_text}
 use Rattle.cvss_subcommands.proofs.score.serve_table.Goals as goal
 
 pub returns-in-Ok : goal.returns-in-Ok

@@ -55,8 +55,9 @@ public final class Match {
     }
 
     /**
-     * Why the text of the match is rejected. It was probably meant as a vector: it begins with {@code CVSS:} and has a slash, or
-     * its prefix is written in another way ({@code cvss:3.1/AV:N}, {@code CVSS3.1/AV:N}) or percent-encoded.
+     * Why the text of the match is rejected. It was probably meant as a vector: it begins with {@code CVSS:} and has a slash,
+     * its prefix is written in another way ({@code cvss:3.1/AV:N}, {@code CVSS3.1/AV:N}) or missing ({@code AV:N/AC:L/PR:N}), or
+     * it is encoded as in a link or in JSON.
      *
      * @return the error; empty if the match is a vector
      */

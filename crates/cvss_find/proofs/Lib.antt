@@ -1,3 +1,0 @@
-mod AloneLemmas
-mod DecodingLemmas
-mod ReportingLemmas

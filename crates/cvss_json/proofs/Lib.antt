@@ -1,0 +1,3 @@
+pub mod AddsLemmas
+mod ClearLemmas
+mod DecimalLemmas

@@ -1,0 +1,6 @@
+pub mod Escapes
+pub mod Json
+pub mod Scalars
+pub mod Sinks
+pub mod laws
+pub mod private

@@ -1,2 +1,0 @@
-mod ShortLemmas
-pub mod WordLemmas

@@ -1,9 +1,0 @@
-pub mod Fields
-pub mod Groups
-pub mod Record
-pub mod Words
-pub mod WordsV2
-pub mod WordsV3
-pub mod WordsV4
-pub mod laws
-pub mod private

@@ -1,5 +1,0 @@
-use Rattle.std.proofs.Common.{length}
-use Rattle.cvss_json_write.proofs.page.Page.+places.Given as goal
-
-abbrev pub decreases-places : goal.decreases-places
-decreases-places l = length l.units.now

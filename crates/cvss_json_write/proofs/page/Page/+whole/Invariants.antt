@@ -1,4 +1,0 @@
-use Rattle.cvss_json_write.proofs.page.Page.+whole.Given as goal
-
-abbrev pub decreases-whole : goal.decreases-whole
-decreases-whole l = l.number

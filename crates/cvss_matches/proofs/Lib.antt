@@ -1,0 +1,16 @@
+pub mod AcceptedLemmas
+mod AfterLemmas
+mod AloneLemmas
+mod DecodingLemmas
+mod FindLemmas
+pub mod FoundLemmas
+mod LabelLemmas
+mod NextLemmas
+mod PartLemmas
+mod PassLemmas
+mod PlaceLemmas
+mod PlainLemmas
+mod PrefixLemmas
+mod ReportingLemmas
+mod UnprefixedLemmas
+mod WholeLemmas

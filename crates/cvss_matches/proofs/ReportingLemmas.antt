@@ -1,0 +1,210 @@
+-- How the candidates of a line are reported of one after another.
+use Rattle.std.proofs.Common.{◌≡◌, ℕ, Bool, true, false, ◌&&◌, cond, not, List, [], ◌∷◌, ◌++◌, drop, flat_map, length, inl, None, Option, refl, sym, ap, ap₂, ◌∙◌, subst, append_assoc, append-nil, arith, codes, decimal}
+use Rattle.std.proofs.Math.Bool.{and-true}
+use Rattle.std.proofs.lemmas.Bool.{cond-false}
+use Rattle.std.specs.Option.{option_or}
+use Rattle.std.proofs.lemmas.Fmt.{decimal_digit}
+use Rattle.std.proofs.lemmas.List.{drop_all, flat_map_more, map-append}
+use Rattle.std.proofs.lemmas.List.Elements.{All-nil}
+use Rattle.std.proofs.lemmas.List.Folds.{list_all-append}
+use Rattle.std.specs.Prelude.{bytes_eq}
+use Rattle.cvss_vector.specs.Complete.{IsPublishedOfComplete}
+use Rattle.cvss_vector.specs.declared.published.Published.{Published}
+use Rattle.cvss_vector.specs.Lines.{score_rule}
+use Rattle.cvss_vector.specs.declared.scoring.Scoring.{Scoring}
+use Rattle.cvss_vector.specs.declared.setting.Version.{Version}
+use Rattle.cvss_lines.specs.Answers.{Accepted, Rejected, WritesAnswer, is_accepted, written_answer, written_text}
+use Rattle.cvss_lines.specs.Prefixed.{AnswersByOneText, is_one_text}
+use Rattle.cvss_matches.specs.Answers.{AreReported, Asked, IsReported, Reported, after_candidate, all_accepted, answer_with, answered_bytes, answered_text, answers_as, before_answer, linked_version, place_text, reported_texts, shows_all, texts_for, with_version}
+use Rattle.cvss_matches.specs.Decoding.{decoded}
+use Rattle.cvss_matches.specs.declared.form.Form.{Form}
+use Rattle.cvss_matches.specs.declared.form.Form.TheVariants.{Annotated, Located, Object}
+use Rattle.cvss_matches.specs.private.Reporting.{AnswersLine, Reports, WritesReported, WritesShown, closing, opening, written_as}
+use Rattle.cvss_matches.proofs.AcceptedLemmas.{accepted_alone, accepted_whole}
+use Rattle.cvss_matches.specs.Matches.{AreFound, IsAccepted, IsFound, Placed, candidates_of}
+use Rattle.cvss_matches.specs.Parts.{lacks_prefix}
+use Rattle.cvss_matches.specs.CandidatesLeft.{IsFirstFound, NoneFound}
+use Rattle.cvss_matches.proofs.DecodingLemmas.{written_decoded}
+use Rattle.cvss_matches.proofs.FoundLemmas.{AreFound-first, AreFound-none}
+use Rattle.cvss_matches.proofs.UnprefixedLemmas.{accepted_has_prefix}
+
+one_text : (form : Form) (scoring : Scoring) (allow : Bool) → AnswersByOneText (answers_as form scoring allow)
+one_text Located scoring allow = is_one_text _ _
+one_text Object scoring allow = is_one_text _ _
+one_text (Annotated all) scoring allow = is_one_text _ _
+
+-- a candidate is reported of, once its answer is written after what is before it, and the byte 10 stays or is taken off
+pub WritesReported-answer : (asked : Asked) (candidate : Placed) (old middle full new : List ℕ) (accepted : Bool) → middle ≡ old ++ before_answer asked.form asked candidate
+    → WritesAnswer (answers_as asked.form asked.scoring asked.allow_incomplete) asked.number (answered_text asked candidate) middle full accepted
+    → ((before text : List ℕ) → full ≡ before ++ written_text text → new ≡ before ++ written_as asked.form text)
+    → WritesReported asked candidate old new accepted
+WritesReported-answer asked candidate old middle full new accepted placed written ended =
+    let one = one_text asked.form asked.scoring asked.allow_incomplete asked.number (answered_text asked candidate) written.answer written.answers in
+    let before = before_answer asked.form asked candidate in
+    record {
+      reported = record { text = before ++ one.0; accepts = is_accepted written.answer };
+      is_reported = record {
+        answer = written.answer;
+        text = one.0;
+        answers = written.answers;
+        one_text = one.1;
+        is = refl;
+        accepted = refl;
+      };
+      accepts = written.reported;
+      written = ended old (before ++ one.0)
+          (written.written
+          ∙ ap (λ texts. middle ++ flat_map written_text texts) one.1
+          ∙ ap (λ bytes. middle ++ bytes) (append-nil (written_text one.0))
+          ∙ ap (λ bytes. bytes ++ written_text one.0) placed
+          ∙ append_assoc old before (written_text one.0)
+          ∙ ap (λ bytes. old ++ bytes) (sym (append_assoc before one.0 (10 ∷ []))));
+    }
+
+AreReported-push : (asked : Asked) (candidates : List Placed) (reported : List Reported) (candidate : Placed) (last : Reported)
+    → AreReported asked candidates reported → IsReported asked candidate last → AreReported asked (candidates ++ candidate ∷ []) (reported ++ last ∷ [])
+AreReported-push asked [] [] candidate last are is = (is, tt)
+AreReported-push asked [] (each ∷ more) candidate last are is = absurd are
+AreReported-push asked (each ∷ more) [] candidate last are is = absurd are
+AreReported-push asked (first ∷ candidates) (each ∷ more) candidate last are is = (are.0, AreReported-push asked candidates more candidate last are.1 is)
+
+all_accepted-push : (reported : List Reported) (last : Reported) → all_accepted (reported ++ last ∷ []) ≡ (all_accepted reported && last.accepts)
+all_accepted-push reported last =
+    list_all-append (λ (each : Reported). each.accepts) reported (last ∷ []) ∙ ap (λ b. all_accepted reported && b) (and-true last.accepts)
+
+written-push : (write : List ℕ → List ℕ) (reported : List Reported) (last : Reported) (old middle new : List ℕ)
+    → middle ≡ old ++ flat_map write (reported_texts reported) → new ≡ middle ++ write last.text
+    → new ≡ old ++ flat_map write (reported_texts (reported ++ last ∷ []))
+written-push write reported last old middle new before next =
+    next ∙ ap (λ bytes. bytes ++ write last.text) before ∙ flat_map_more write old (reported_texts reported) last.text
+    ∙ ap (λ texts. old ++ flat_map write texts) (sym (map-append (λ (each : Reported). each.text) reported (last ∷ [])))
+
+-- before the first candidate
+pub Reports-start : (asked : Asked) (bytes : List ℕ) (left : List Placed) → left ≡ candidates_of asked.line → Reports asked left bytes bytes true
+Reports-start asked bytes left is = record {
+  found = [];
+  are_found = λ more are. subst (λ candidates. AreFound candidates more) is are;
+  reported = [];
+  are_reported = tt;
+  accepts = refl;
+  written = sym (append-nil bytes);
+}
+
+-- after one more that is found
+pub Reports-next : (asked : Asked) (left after : List Placed) (candidate : Placed) (old middle new : List ℕ) (all accepted : Bool)
+    → Reports asked left old middle all → IsFirstFound left candidate after → WritesReported asked candidate middle new accepted → Reports asked after old new (all && accepted)
+Reports-next asked left after candidate old middle new all accepted before first next = record {
+  found = before.found ++ candidate ∷ [];
+  are_found = λ more are. subst (AreFound (candidates_of asked.line)) (sym (append_assoc before.found (candidate ∷ []) more))
+      (before.are_found (candidate ∷ more) (AreFound-first left after candidate more first are));
+  reported = before.reported ++ next.reported ∷ [];
+  are_reported = AreReported-push asked before.found before.reported candidate next.reported before.are_reported next.is_reported;
+  accepts = ap₂ (λ (a b : Bool). a && b) before.accepts next.accepts ∙ sym (all_accepted-push before.reported next.reported);
+  written = written-push (written_as asked.form) before.reported next.reported old middle new before.written next.written;
+}
+
+-- all that are found are shown, once no more is found
+pub shown_all : (asked : Asked) (left : List Placed) (old new : List ℕ) (all : Bool) → Reports asked left old new all → NoneFound left → WritesShown true asked old new all
+shown_all asked left old new all reports none = record {
+  shown = reports.found;
+  are_shown = subst (AreFound (candidates_of asked.line)) (append-nil reports.found) (reports.are_found [] (AreFound-none left none));
+  reported = reports.reported;
+  are_reported = reports.are_reported;
+  accepts = reports.accepts;
+  written = reports.written;
+}
+
+-- the first is shown
+pub shown_first : (asked : Asked) (candidate : Placed) (left : List Placed) (old new : List ℕ) (accepted : Bool) → IsFirstFound (candidates_of asked.line) candidate left
+    → WritesReported asked candidate old new accepted → WritesShown false asked old new accepted
+shown_first asked candidate left old new accepted first written = record {
+  shown = candidate ∷ [];
+  are_shown = (left, first);
+  reported = written.reported ∷ [];
+  are_reported = (written.is_reported, tt);
+  accepts = written.accepts ∙ sym (and-true written.reported.accepts);
+  written = written.written ∙ ap (λ bytes. old ++ bytes) (sym (append-nil (written_as asked.form written.reported.text)));
+}
+
+-- none is shown
+pub shown_none : (asked : Asked) (bytes : List ℕ) → NoneFound (candidates_of asked.line) → WritesShown false asked bytes bytes true
+shown_none asked bytes none = record { shown = []; are_shown = none; reported = []; are_reported = tt; accepts = refl; written = sym (append-nil bytes) }
+
+pub reported_answer : (reported : List Reported) (texts : List (List ℕ)) → all_accepted reported ≡ is_accepted (answer_with reported texts)
+reported_answer reported texts = accepts (all_accepted reported) where
+  accepts : (b : Bool) → b ≡ is_accepted (cond b (Accepted texts) (Rejected texts))
+  accepts true = refl
+  accepts false = refl
+
+written_answer_with : (reported : List Reported) (texts : List (List ℕ)) → flat_map written_text texts ≡ written_answer (answer_with reported texts)
+written_answer_with reported texts = written (all_accepted reported) where
+  written : (b : Bool) → flat_map written_text texts ≡ written_answer (cond b (Accepted texts) (Rejected texts))
+  written true = refl
+  written false = refl
+
+-- what is written around the texts for the candidates makes the texts of the answer
+written_around : (form : Form) (asked : Asked) (old : List ℕ) (texts : List (List ℕ))
+    → ((old ++ opening form asked) ++ flat_map (written_as form) texts) ++ closing form ≡ old ++ flat_map written_text (texts_for form asked texts)
+written_around Located asked old texts = append-nil ((old ++ []) ++ flat_map written_text texts) ∙ ap (λ before. before ++ flat_map written_text texts) (append-nil old)
+written_around Object asked old texts = append-nil ((old ++ []) ++ flat_map written_text texts) ∙ ap (λ before. before ++ flat_map written_text texts) (append-nil old)
+written_around (Annotated all) asked old texts =
+    let fields = flat_map (λ text. text) texts in
+    let text = asked.prefix ++ (asked.line ++ fields) in
+    ap (λ bytes. bytes ++ 10 ∷ []) (append_assoc old (asked.prefix ++ asked.line) fields ∙ ap (λ bytes. old ++ bytes) (append_assoc asked.prefix asked.line fields))
+    ∙ append_assoc old text (10 ∷ []) ∙ ap (λ bytes. old ++ bytes) (sym (append-nil (written_text text)))
+
+-- a line is answered, once what is shown and what is around it are written
+pub answer_written : (asked : Asked) (old first second new : List ℕ) (accepted : Bool) → first ≡ old ++ opening asked.form asked
+    → WritesShown (shows_all asked.form) asked first second accepted → new ≡ second ++ closing asked.form → AnswersLine asked old new accepted
+answer_written asked old first second new accepted opened shown closed =
+    let texts = reported_texts shown.reported in
+    let all = texts_for asked.form asked texts in
+    record {
+      answer = answer_with shown.reported all;
+      answers = record { shown = shown.shown; are_shown = shown.are_shown; reported = shown.reported; are_reported = shown.are_reported; is = refl };
+      reported = shown.accepts ∙ reported_answer shown.reported all;
+      written = closed
+          ∙ ap (λ bytes. bytes ++ closing asked.form) (shown.written ∙ ap (λ bytes. bytes ++ flat_map (written_as asked.form) texts) opened)
+          ∙ written_around asked.form asked old texts ∙ ap (λ bytes. old ++ bytes) (written_answer_with shown.reported all);
+    }
+
+-- the place of a line's first byte
+pub first_place : (number : ℕ) → decimal number ++ codes ":1 " ≡ place_text number 0
+first_place number = ap (λ one. decimal number ++ (codes ":" ++ (one ++ codes " "))) (sym (decimal_digit 1 (omega arith)))
+
+cut_nowhere : (allow : Bool) (rest line : List ℕ) → rest ≡ [] → cond (not allow && bytes_eq rest (codes "/")) line line ≡ line
+cut_nowhere true rest line none = refl
+cut_nowhere false [] line none = refl
+cut_nowhere false (byte ∷ rest) line none = cc
+
+-- a line that is a vector is answered as it is
+pub answered_whole : (asked : Asked) → IsAccepted asked.line → answered_text asked (record { place = 0; text = asked.line }) ≡ asked.line
+answered_whole asked accepted =
+    let candidate : Placed = record { place = 0; text = asked.line } in
+    ap (λ version. with_version version (decoded (answered_bytes asked candidate)))
+    (cond-false (lacks_prefix asked.line) (option_or (linked_version (after_candidate asked.line candidate)) asked.assumed) None (accepted_has_prefix asked.line accepted))
+    ∙ ap decoded (cut_nowhere asked.allow_incomplete (drop (length asked.line) asked.line) asked.line (drop_all (length asked.line) asked.line (omega arith)))
+    ∙ written_decoded asked.line (accepted_whole asked.line accepted).written
+
+-- what is asked of a line whose candidates are reported with their places
+abbrev pub located : List ℕ → Scoring → Bool → Option Version → ℕ → List ℕ → Asked
+located prefix scoring allow assumed number line =
+    record { form = Located; prefix = prefix; scoring = scoring; allow_incomplete = allow; assumed = assumed; number = number; line = line }
+
+-- a line that is one canonical vector, once its location and its answer are written
+pub canonical_reported : (prefix : List ℕ) (scoring : Scoring) (allow : Bool) (assumed : Option Version) (number : ℕ) (line : List ℕ) (published : Published) (old between middle new : List ℕ) → IsPublishedOfComplete scoring line published
+    → between ≡ old ++ prefix → middle ≡ between ++ place_text number 0 → WritesAnswer (score_rule scoring allow) number line middle new true → AnswersLine (located prefix scoring allow assumed number line) old new true
+canonical_reported prefix scoring allow assumed number line published old between middle new is first next written =
+    let asked = located prefix scoring allow assumed number line in
+    let candidate : Placed = record { place = 0; text = line } in
+    let accepted : IsAccepted line = record { cvss = is.of.cvss; denoted = is.of.denoted } in
+    let none : NoneFound [] = All-nil (λ each. ¬ (IsFound each.text)) in
+    let found : IsFirstFound (candidates_of line) candidate [] = record { passed = []; is = accepted_alone line accepted; none = none; found = inl (inl accepted) } in
+    let own = subst (λ bytes. WritesAnswer (score_rule scoring allow) number bytes middle new true) (sym (answered_whole asked accepted)) written in
+    let placed = next ∙ ap (λ bytes. bytes ++ place_text number 0) first ∙ append_assoc old prefix (place_text number 0) in
+    answer_written asked old old new new true (sym (append-nil old))
+    (shown_all asked [] old new true
+    (Reports-next asked (candidates_of line) [] candidate old old new true true (Reports-start asked old (candidates_of line) refl) found
+    (WritesReported-answer asked candidate old middle new new true placed own (λ before text is. is)))
+    none)
+    (sym (append-nil new))

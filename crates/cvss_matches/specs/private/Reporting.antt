@@ -1,0 +1,67 @@
+-- What the private code of an answer does candidate by candidate. No public clause cites it.
+use Rattle.std.specs.Prelude.{◌≡◌, ℕ, ◌++◌, ◌∷◌, [], Bool, List, flat_map}
+use Rattle.cvss_lines.specs.Answers.{WritesAnswer, written_text}
+use Rattle.cvss_matches.specs.Answers.{AreReported, AreShown, Asked, IsReported, Reported, all_accepted, find_rule, reported_texts}
+use Rattle.cvss_matches.specs.declared.line.Line.{Line}
+use Rattle.cvss_matches.specs.declared.form.Form.{Form}
+use Rattle.cvss_matches.specs.declared.form.Form.TheVariants.{Annotated, Located, Object}
+use Rattle.cvss_matches.specs.Matches.{AreFound, Placed, candidates_of}
+
+-- what is asked of a line
+abbrev pub asked_of : Line → Asked
+asked_of line = record {
+  form = line.form;
+  prefix = line.prefix.now;
+  scoring = line.scoring;
+  allow_incomplete = line.allow_incomplete;
+  assumed = line.assumed;
+  number = line.number;
+  line = line.bytes.now;
+}
+
+-- what is written of a text: with a byte 10, or where the line is repeated without
+abbrev pub written_as : Form → List ℕ → List ℕ
+written_as Located text = written_text text
+written_as Object text = written_text text
+written_as (Annotated all) text = text
+
+-- what is written before the texts: the line, where it is repeated
+abbrev pub opening : Form → Asked → List ℕ
+opening Located asked = []
+opening Object asked = []
+opening (Annotated all) asked = asked.prefix ++ asked.line
+
+-- what is written after the texts
+abbrev pub closing : Form → List ℕ
+closing Located = []
+closing Object = []
+closing (Annotated all) = 10 ∷ []
+
+-- the answer to what is asked is written after the earlier ones
+abbrev pub AnswersLine : Asked → List ℕ → List ℕ → Bool → Type 0
+AnswersLine asked = WritesAnswer (find_rule asked.form asked.scoring asked.allow_incomplete asked.assumed asked.prefix) asked.number asked.line
+
+-- what is reported of the candidate is written after the earlier texts
+pub record WritesReported (asked : Asked) (candidate : Placed) (old new : List ℕ) (accepted : Bool) : Type 0 where
+  pub reported : Reported
+  pub is_reported : IsReported asked candidate reported
+  pub accepts : accepted ≡ reported.accepts
+  pub written : new ≡ old ++ written_as asked.form reported.text
+
+-- the candidates before those that are left are reported of, as far as they are found
+pub record Reports (asked : Asked) (left : List Placed) (old new : List ℕ) (accepted : Bool) : Type 0 where
+  pub found : List Placed
+  pub are_found : (more : List Placed) → AreFound left more → AreFound (candidates_of asked.line) (found ++ more)
+  pub reported : List Reported
+  pub are_reported : AreReported asked found reported
+  pub accepts : accepted ≡ all_accepted reported
+  pub written : new ≡ old ++ flat_map (written_as asked.form) (reported_texts reported)
+
+-- what is reported of the candidates that are shown is written
+pub record WritesShown (all : Bool) (asked : Asked) (old new : List ℕ) (accepted : Bool) : Type 0 where
+  pub shown : List Placed
+  pub are_shown : AreShown all (candidates_of asked.line) shown
+  pub reported : List Reported
+  pub are_reported : AreReported asked shown reported
+  pub accepts : accepted ≡ all_accepted reported
+  pub written : new ≡ old ++ flat_map (written_as asked.form) (reported_texts reported)

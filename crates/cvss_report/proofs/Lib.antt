@@ -1,0 +1,4 @@
+mod ScoreLemmas
+mod ShortLemmas
+mod TextLemmas
+pub mod WordLemmas

@@ -1,0 +1,11 @@
+pub mod Cells
+pub mod Fields
+pub mod Groups
+pub mod Record
+pub mod Rows
+pub mod Words
+pub mod WordsV2
+pub mod WordsV3
+pub mod WordsV4
+pub mod laws
+pub mod private

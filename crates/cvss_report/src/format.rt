@@ -1,0 +1,30 @@
+//! How rows are written.
+
+ghost use Rattle.std.specs.Prelude.{◌≡◌};
+ghost use Rattle.cvss_report.specs.Rows.{header_text};
+
+/// How a row is written.
+#[derive(Clone, Copy, Debug, PartialEq, Eq)]
+pub enum Format {
+    /// Values with tabs between them; what there is not is empty. A tab, a line feed, a carriage return and
+    /// a backslash in a file's name, the given text or an error are written `\t`, `\n`, `\r` and `\\`.
+    Tsv {
+        /// Whether the first value is the name of the file, since there are several.
+        many: bool,
+    },
+    /// A JSON object (RFC 8259). What there is not, and a given text that is not UTF-8, is null.
+    Json,
+}
+
+/// The names of the columns, with tabs between them, where there are several files or not.
+pub fn header(many: bool) -> &'static str
+    ensures { result.now ≡ header_text many }
+{
+    if many { MANY } else { ONE }
+}
+
+const ONE: &str =
+    "given\tvector\tversion\tbase\ttemporal\tenvironmental\tscore\tseverity\tnomenclature\terror\n";
+
+const MANY: &str =
+    "file\tgiven\tvector\tversion\tbase\ttemporal\tenvironmental\tscore\tseverity\tnomenclature\terror\n";

@@ -1,2 +1,0 @@
-mod ScoreLemmas
-mod TextLemmas
