@@ -47,8 +47,8 @@ PROSE = (b"The service parses the header of a request before its length is known
 TEXTS = {
     "prose without a vector": (8.3, lambda size: (PROSE * (size // len(PROSE) + 1))[:size]),
     "`CVSS:` again and again": (4.4, lambda size: b"CVSS:" * size),
-    "the same, and a slash at the end": (252, lambda size: b"CVSS:" * size + b"/"),
-    "`CVSS:/` again and again": (198, lambda size: b"CVSS:/" * size),
+    "the same, and a slash at the end": (391, lambda size: b"CVSS:" * size + b"/"),
+    "`CVSS:/` again and again": (298, lambda size: b"CVSS:/" * size),
     "colons": (3.8, lambda size: b":" * size),
     "slashes": (22.3, lambda size: b"/" * size),
 }

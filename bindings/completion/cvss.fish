@@ -18,6 +18,7 @@ complete -c cvss -n '__fish_seen_subcommand_from score find set triage' -l base 
 complete -c cvss -n '__fish_seen_subcommand_from score find explain set triage audit' -l allow-incomplete -d 'Accept v3 vectors that lack base metrics'
 complete -c cvss -n '__fish_seen_subcommand_from find' -l annotate -d 'Repeat each line'
 complete -c cvss -n '__fish_seen_subcommand_from find' -l all -d 'Answer each vector of a line'
+complete -c cvss -n '__fish_seen_subcommand_from find' -l assume -x -a '3.0 3.1' -d 'The version of v3 vectors without a prefix'
 complete -c cvss -n '__fish_seen_subcommand_from explain' -l what-if -d 'The scores of other values'
 complete -c cvss -n '__fish_seen_subcommand_from triage' -l set -x -d 'Set METRIC:VALUE'
 complete -c cvss -n '__fish_seen_subcommand_from triage' -l profile -r -d 'Set the metrics in a file'

@@ -4,6 +4,7 @@
 #include <signal.h>
 #include <stddef.h>
 #include <stdint.h>
+#include <unistd.h>
 
 enum { NO_ARGUMENT = -1, NO_ROOM = -2 };
 
@@ -45,6 +46,14 @@ int64_t rattle_arg(size_t index, char *buffer, size_t size)
         length++;
     }
     return (int64_t)length;
+}
+
+/* What a compiled `main` writes with if the processor lacks instructions. */
+ssize_t __write(int file, const void *bytes, size_t size);
+
+ssize_t __write(int file, const void *bytes, size_t size)
+{
+    return write(file, bytes, size);
 }
 
 /* The programs ignore SIGPIPE by it, which any form of `signal` does. */

@@ -40,7 +40,7 @@ def expect(status, out, error, *arguments, given=b"", **streams):
 def assert_fits(text):
     """A help text fits a screen."""
     rows = text.decode().splitlines()
-    assert len(rows) <= 24 and max(map(len, rows)) <= 80, text
+    assert len(rows) <= 25 and max(map(len, rows)) <= 80, text
 
 
 def try_arguments():
@@ -227,10 +227,11 @@ def try_completion():
     of_fish = re.findall(r"_from ([a-z ]+)' -l ([a-z-]+)", fish)
     for command in commands:
         text = subprocess.run([PROGRAM, "help", command], stdout=subprocess.PIPE, text=True, check=True).stdout
-        options = set(re.findall("--[a-z][a-z-]*", text.partition("\n\n")[0]))
+        options = set(re.findall(r"--[a-z][a-z-]*(?:=[0-9.]+)?", text.partition("\n\n")[0]))
         assert set(complete_words(command, "--")) == options | {"--help"}, command
         assert set(re.search(rf"^        {command}\) options=\((.*)\)", zsh, re.MULTILINE)[1].split()) == options, command
-        assert {f"--{name}" for names, name in of_fish if command in names.split()} == options, command
+        names = {option.partition("=")[0] for option in options}
+        assert {f"--{name}" for holders, name in of_fish if command in holders.split()} == names, command
 
 
 def main():

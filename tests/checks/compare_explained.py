@@ -79,8 +79,7 @@ def run(given, end, *options, room=None):
     if done.stderr:
         sys.exit(f"cvss explain: {done.stderr!r}")
     own, named = ("{", '{{"file":{},'.format) if "--json" in options else ("", "{}:".format)
-    # the program escapes each byte below 32 by its number
-    names = {name: json.dumps(name, ensure_ascii=False).replace("\\t", "\\u0009") if own else name for name in given}
+    names = {name: json.dumps(name, ensure_ascii=False) if own else name for name in given}
     read = [(named(names[name]) if len(given) > 1 else own, number, line) for name, content in given.items()
             for number, line in enumerate(reference.lines_of(content), 1)]
     answers = done.stdout.decode("utf-8").split(end)

@@ -125,7 +125,7 @@ def try_go():
         check(run(["go", "run", "."], cwd=module), expected(block, "// "), block)
     # vendored, it has all that it is built from
     run(["go", "mod", "vendor"], cwd=module)
-    check(run(["go", "run", "-mod=vendor", "."], cwd=module), expected(block, "// "), block)
+    check(run(["go", "run", "-tags", "libcvss", "-mod=vendor", "."], cwd=module), expected(block, "// "), block)
 
 
 def try_java():
@@ -328,7 +328,8 @@ def try_removal():
     block = block_with("rm -f")
     programs = re.findall(r"^\w+ (\w+)$", (ROOT / "release/programs").read_text(), re.M)
     libraries = re.findall(r'"\$built/(\S+)" "\$prefix/lib/"', (ROOT / "release/stage").read_text())
-    completions = [f"share/bash-completion/completions/{path.name}" for path in (ROOT / "bindings/completion").iterdir()]
+    folders = {"cvss": "bash-completion/completions", "_cvss": "zsh/site-functions", "cvss.fish": "fish/vendor_completions.d"}
+    completions = [f"share/{folders[path.name]}/{path.name}" for path in (ROOT / "bindings/completion").iterdir()]
     assert programs and libraries and completions
     for name in (*(f"bin/{program}" for program in programs), *(f"lib/{library}" for library in libraries), *completions):
         assert f"{name} " in block, f"{name} is not taken away"

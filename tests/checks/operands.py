@@ -108,8 +108,7 @@ def explain_object(line, number, operand):
     else:
         members = accounts.answer(number, line)
     file = f'{{"file":{json.dumps(operand.decode(), ensure_ascii=False)},' if operand else "{"
-    # the program escapes each byte below 32 by its number
-    return file.replace("\\n", "\\u000a").encode() + json_text(members)[1:].encode() + b"\n"
+    return file.encode() + json_text(members)[1:].encode() + b"\n"
 
 
 def audit(line, number, operand):

@@ -36,7 +36,6 @@ ROOT = Path(__file__).resolve().parents[2]
 sys.path.insert(0, str(ROOT / "reference"))
 
 import finding
-from compare_found import HINT
 
 # Runs the program with ample memory, and then once for each request, which is refused, each time in
 # a new process over the whole input. Reports a line for each run, on the descriptor REPORT: the
@@ -200,7 +199,7 @@ def found(text):
 
 
 # What a program writes on standard error when it runs out of memory, and what it may write before that.
-LACKING = {"cvss_tool": (b"", b"cvss_tool: out of memory\n"), "cvss_command find": (HINT, b"cvss: out of memory\n"),
+LACKING = {"cvss_tool": (b"", b"cvss_tool: out of memory\n"), "cvss_command find": (b"", b"cvss: out of memory\n"),
            "cvss_command audit": (b"", b"cvss: out of memory\n")}
 
 
@@ -300,7 +299,8 @@ def main():
         refuse_in_turn(shim, "test_json", in_batches(list(strings())), (0, 1), "strings")
         lines, wanted = zip(*texts)
         refuse_in_turn(shim, "cvss_tool", [(b"\n".join(lines) + b"\n", wanted)], (1, 2))
-        refuse_in_turn(shim, "cvss_command find", [(text, list(found(text)))], (1, 2), "mentions")
+        LACKING["cvss_command find"] = finding.hint(text.split(b"\n")).encode(), b"cvss: out of memory\n"
+        refuse_in_turn(shim, "cvss_command find", [(text, list(found(text)))], (1, 2), "matches")
         refuse_in_turn_over_documents(shim)
 
 

@@ -89,7 +89,10 @@ def check_rejected(page: Page, root: Path) -> None:
     before = page.choose("3.1", metrics_of(V3))
     kept = ("chosen", "number", "severity", "vector", "version", "scores")
     whole = re.compile(r"(CVSS:)?(?!.*CVSS:)[A-Za-z0-9:/.]*[A-Za-z0-9]")
-    rows = [row for row in rows_of(root / "conformance" / "rejected.tsv") if whole.fullmatch(row["text"])]
+    # of these a vector without its prefix is found, and its own reason shown
+    inner = re.compile(r"(?!CVSS:[0-9.]+/AV:).+[^A-Za-z]AV:.*/(PR|UI):")
+    rows = [row for row in rows_of(root / "conformance" / "rejected.tsv")
+            if whole.fullmatch(row["text"]) and not inner.match(row["text"])]
     drawn = [row for row in spread(rows, 120) if row["kind"] != "missing"]
     reasons = {"component": "invalid CVSS metric group component", "prefix": "invalid CVSS string prefix",
                "version": "unsupported CVSS version", "name": "unknown CVSS metric name", "value": "invalid CVSSv",

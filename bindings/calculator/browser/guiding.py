@@ -27,7 +27,8 @@ MEANT = {
     "/av:n": "invalid CVSS metric group component: ``",
     f"{NVD}/v3-calculator?vector=AV:Q/AC:L&version=3.1": "CVSS:3.1/AV:Q/AC:L: invalid CVSSv3 AV (Attack Vector) metric: `Q`",
     f"{NVD}/v2-calculator?vector=(AV:N/AC:L/Au:N)": "AV:N/AC:L/Au:N: missing mandatory CVSSv2 C (Confidentiality Impact) metric",
-    f"https://example.org/?vector={BARE3}&version=3.1": "invalid CVSS metric group component: ",
+    # of a link to another page the vector without its prefix is found
+    f"https://example.org/?vector={BARE3}&version=3.1": f"{BARE3}: unknown CVSS metric name: `PR`",
 }
 LINKS = {
     f"{NVD}/v3-calculator?vector={BARE3}&version=3.1": V3,
