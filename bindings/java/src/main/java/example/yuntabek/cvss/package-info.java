@@ -9,9 +9,9 @@
  * reads a vector, rejects a v3 vector that lacks one. Each has a twin whose name ends in {@code Incomplete}, which accepts it.
  *
  * <p>The results come from a C library whose functions are proved up to the call. This package calls it through JNA and
- * computes no score itself. It needs JNA 5.13 or later. The jar has the library for Linux on x86-64 and ARM64; the system
- * property {@code cvss.library} names another file to load. Where the library cannot be loaded, each call throws
- * {@link java.lang.UnsatisfiedLinkError}, which says why.
+ * computes no score itself. It needs JNA 5.13 or later. The jar has the library for Linux on x86-64 and ARM64, and for
+ * Windows on x86-64; the system property {@code cvss.library} names another file to load. Where the library cannot be loaded,
+ * each call throws {@link java.lang.UnsatisfiedLinkError}, which says why.
  *
  * <p>A null argument is a {@link java.lang.NullPointerException}.
  */
