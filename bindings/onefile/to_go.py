@@ -152,7 +152,7 @@ def masked(kind, count):
     return str(int(count) % bits) if count.isdigit() else f"({count} & {bits - 1})"
 
 
-def bare(made, opening="("):
+def bare(made):
     """Without parentheses around all of it."""
     depth = 0
     for at, sign in enumerate(made):
