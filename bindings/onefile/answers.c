@@ -97,6 +97,11 @@ static void ask(const char *t, size_t n, const char *m, size_t k, int version, u
     add_exact(13, &numbers.adjusted_impact);
     given.trillionths = (int64_t)(sums[0] >> 3) % 20000000000000;
     given.rest = (int64_t)(sums[1] >> 3) % 1000000000000;
+    if (n % 2) {
+        /* where the score is cut, and the rest decides */
+        given.trillionths -= given.trillionths % 50000000000;
+        given.rest = (int64_t)n % 3 - 1;
+    }
     add_number(14, cvss_rounded(version, &given, &tenths));
     add_number(14, tenths);
     add_number(15, cvss_temporal_with_impact(m, k, &given, &tenths));
