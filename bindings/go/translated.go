@@ -144,152 +144,160 @@ const constants = "CVSS.3.14.03.0LAN\x00\x00\x00\x00\x00\x00\x00(\x03\x00\x00\x0
 	"QAPF0\x5cRHOE2E7\x1bc_\x5c_ZT\x5cRHa\x5cU[SGQG5_\x5cU\x5cPFTG2]UIRH;F4\x1eVK4G4\x1d?\x1d\x11b^[^VMWJ?_WQYJ@K?1^XLVJ;H94YMCL:294\x19SF6A:" +
 	"\x1a5\x15\x0d_XLZK=MD4ZLFM>5B;\x1eYL>J9/=9\x18NC:;9\x174\x1d\x10G;\x1e:\x1a\x0f\x17\x0d\x06]VKVJ8F4(WH:J=\x226(\x16UJ>H7.5\x22\x13K739)\x13$\x13\x08@3\x14/\x15\x0b\x18\x09\x04XI<I;)" +
 	"6-\x14K527(\x14+\x16\x0bK:(=0\x14.\x11\x087-\x153\x12\x09\x12\x07\x025\x18\x0e\x18\x0c\x05\x0a\x03\x01\x00\x01\x03\x00\x00H\x03\x00\x00\xd2\x00\x00\x00\xa8\x00\x00\x00\x00\x01\x00\x00H\x03\x00\x00\xa4\x01\x00\x00\x00\x03\x01\x03\x03\x00\x00\x00x\x00\x00\x00\x8c\x00\x00\x00i\x00\x00\x00i\x00\x00\x00T\x00\x00\x00\x01\x03\x06\x00" +
-	"\x8c\x00\x00\x00\xa8\x00\x00\x00\xd2\x00\x00\x00RTObaseenvironmentallinescoreseveritytemporalvectorversionweights\x22:\x00\x01\x0d\x02\x03\x04\x09\x0b\x06\x05\x0c\x08\x07\x0a\x00\x0c\x01\x02\x0d\x0b\x0e" +
-	"\x03\x04\x05\x06\x07\x08\x09\x0anonelowmediumhighcriticalCVSS:4.CVSS:3.YID2.0null\x00\x00\x00\x00\x00\x00\x00@B\x0f\x00\x00\x00\x00\x00\xa0\x86\x01\x00\x00\x00\x00\x00\x10'\x00\x00\x00\x00\x00\x00\xe8\x03\x00\x00\x00\x00\x00\x00d\x00\x00\x00" +
-	"\x00\x00\x00\x00\x0a\x00\x00\x00\x00\x00\x00\x00\x01\x00\x00\x00\x00\x00\x00\x00exploitabilityfimpactnumberadjustedBaseadjustedImpactadjustedTemporalissfirstNum" +
-	"berfirstScoremissmodifiedExploitabilitymodifiedImpactACARAVCREIRMAMACMAVMCMIMPRMUIPRRCRLUI[]EQ1EQ2EQ" +
-	"3+EQ6EQ4EQ5classdepthdistancegapgroupnextnextValueshareeffectivegroupsmacroVectormeannomenclatureval" +
-	"ueCVSS-BCVSS-BECVSS-BTCVSS-BTEmodifiedScopescopeunsupported CVSS versionnot UTF-8invalid CVSS metric" +
-	" group component: ``invalid CVSS string prefix: `unsupported CVSS version: unknown CVSS metric name:" +
-	" `invalid : `duplicate missing mandatory \x01\x01\x01\x01\x01\x01\x01\x01\x01\x01\x01\x01\x01\x01\x01\x01\x01\x01\x01\x01\x01\x01\x01\x01\x01\x01\x01\x01\x01\x01\x01\x01\x01\x01\x01\x01\x01\x00\x01\x01\x01\x01\x01\x01\x01\x01\x00\x00\x00\x00\x00\x00\x00\x00\x00\x00\x00\x00\x00" +
-	"\x01\x01\x01\x01\x01\x01\x00\x00\x01\x00\x00\x00\x00\x00\x00\x00\x00\x00\x00\x00\x00\x00\x00\x00\x00\x00\x00\x00\x00\x00\x00\x00\x01\x01\x01\x01\x01\x01\x00\x00\x01\x00\x00\x00\x00\x00\x00\x00\x00\x00\x00\x00\x00\x00\x00\x00\x00\x00\x00\x00\x00\x00\x00\x00\x01\x01\x01\x01\x01\x01\x01\x01\x01\x01\x01\x01\x01\x01\x01\x01\x01\x01\x01\x01\x01\x01\x01\x01\x01\x01\x01\x01\x01\x01\x01\x01\x01\x01\x01\x01" +
-	"\x01\x01\x01\x01\x01\x01\x01\x01\x01\x01\x01\x01\x01\x01\x01\x01\x01\x01\x01\x01\x01\x01\x01\x01\x01\x01\x01\x01\x01\x01\x01\x01\x01\x01\x01\x01\x01\x01\x01\x01\x01\x01\x01\x01\x01\x01\x01\x01\x01\x01\x01\x01\x01\x01\x01\x01\x01\x01\x01\x01\x01\x01\x01\x01\x01\x01\x01\x01\x01\x01\x01\x01\x01\x01\x01\x01\x01\x01\x01\x01\x01\x01\x01\x01\x01\x01\x01\x01\x01\x01\x01\x01\x01\x01\x01\x01\x01CVS" +
-	"S%3A0.0%2FAV%3A/\x00\x01\x00\x02\x00\x03\x00\x00\x00\x0d\x03\x00\x00\x09\x00\x04\x00\x0b\x03\x02\x00\x06\x00\x05\x00\x0c\x00\x07\x00\x08\x00\x0a\x03\x01\x05\x00\x06\x00\x02\x1a\x02\x1b\x02\x1d\x02\x00\x02\x01\x02\x02\x02\x0c\x03\x00\x04\x00\x02\x0d\x02\x0b\x02\x0e\x02\x0f\x02\x10\x02\x11\x02\x12\x02\x13\x02\x14\x02\x15\x02\x16\x02\x17\x02\x18\x02\x19" +
-	"\x02\x03\x02\x1e\x02\x04\x02\x05\x02\x06\x02\x07\x02\x1f\x05\x00\x06\x00\x02\x08\x02\x09\x02\x0a\x02\x1c\x01\x01\x01\x02\x01\x00\x01\x0d\x03\x00\x04\x00\x01\x03\x01\x0b\x03\x02\x04\x02\x01\x08\x01\x04\x01\x0c\x01\x0f\x01\x0e\x01\x15\x01\x13\x01\x14\x01\x10\x01\x12\x01\x11\x01\x05\x01\x09\x01\x0a\x01\x06\x03\x01\x04\x01\x01\x07\x05\x00\x06\x00vectorStringac" +
-	"cessVector\x00\x00X-\x00\x00\x00\x00\x00@\x01\x00\x00\x00\x00\x00\x00\x00Y-\x00\x00\x00\x00\x00@\x05\x00\x00\x00\x00\x00\x00\x00^-\x00\x00\x00\x00\x00@\x01\x00\x00\x00\x00\x00\x00\x00_-\x00\x00\x00\x00\x00@\x10\x00\x00\x00\x00\x00\x00\x00o-\x00\x00\x00\x00\x00@\x01\x00\x00\x00\x00\x00\x00\x00p-\x00\x00\x00\x00\x00@" +
-	"\x07\x00\x00\x00\x00\x00\x00\x00LLOCALAADJACENT_NETWORKNNETWORK\x00accessComplexity\xe8-\x00\x00\x00\x00\x00@\x01\x00\x00\x00\x00\x00\x00\x00\xe9-\x00\x00\x00\x00\x00@\x04\x00\x00\x00\x00\x00\x00\x00\xed-\x00\x00\x00\x00\x00@\x01\x00\x00\x00" +
-	"\x00\x00\x00\x00\xee-\x00\x00\x00\x00\x00@\x06\x00\x00\x00\x00\x00\x00\x00\xf4-\x00\x00\x00\x00\x00@\x01\x00\x00\x00\x00\x00\x00\x00\xf5-\x00\x00\x00\x00\x00@\x03\x00\x00\x00\x00\x00\x00\x00HHIGHMMEDIUMLLOWauthentication\x00\x00h.\x00\x00\x00\x00\x00@\x01\x00\x00\x00\x00\x00\x00\x00" +
-	"i.\x00\x00\x00\x00\x00@\x08\x00\x00\x00\x00\x00\x00\x00q.\x00\x00\x00\x00\x00@\x01\x00\x00\x00\x00\x00\x00\x00r.\x00\x00\x00\x00\x00@\x06\x00\x00\x00\x00\x00\x00\x00x.\x00\x00\x00\x00\x00@\x01\x00\x00\x00\x00\x00\x00\x00y.\x00\x00\x00\x00\x00@\x04\x00\x00\x00\x00\x00\x00\x00MMULTIPLESSINGLENNON" +
-	"E\x00\x00\x00confidentialityImpact\x00\x00\x00\xf8.\x00\x00\x00\x00\x00@\x01\x00\x00\x00\x00\x00\x00\x00\xf9.\x00\x00\x00\x00\x00@\x04\x00\x00\x00\x00\x00\x00\x00\xfd.\x00\x00\x00\x00\x00@\x01\x00\x00\x00\x00\x00\x00\x00\xfe.\x00\x00\x00\x00\x00@\x07\x00\x00\x00\x00\x00\x00\x00\x05/\x00\x00\x00\x00\x00@" +
-	"\x01\x00\x00\x00\x00\x00\x00\x00\x06/\x00\x00\x00\x00\x00@\x08\x00\x00\x00\x00\x00\x00\x00NNONEPPARTIALCCOMPLETE\x00\x00integrityImpactavailabilityImpact\x00\x00\x00\x00\x00\x00\x00\xd8/\x00\x00\x00\x00\x00@\x01\x00\x00\x00" +
-	"\x00\x00\x00\x00\xd9/\x00\x00\x00\x00\x00@\x08\x00\x00\x00\x00\x00\x00\x00\xe1/\x00\x00\x00\x00\x00@\x03\x00\x00\x00\x00\x00\x00\x00\xe4/\x00\x00\x00\x00\x00@\x10\x00\x00\x00\x00\x00\x00\x00\xf4/\x00\x00\x00\x00\x00@\x01\x00\x00\x00\x00\x00\x00\x00\xf5/\x00\x00\x00\x00\x00@\x0a\x00\x00\x00\x00\x00\x00\x00\xff/\x00\x00\x00\x00\x00@\x01\x00\x00\x00\x00\x00\x00\x00" +
-	"\x000\x00\x00\x00\x00\x00@\x04\x00\x00\x00\x00\x00\x00\x00\x040\x00\x00\x00\x00\x00@\x02\x00\x00\x00\x00\x00\x00\x00\x060\x00\x00\x00\x00\x00@\x0b\x00\x00\x00\x00\x00\x00\x00UUNPROVENPOCPROOF_OF_CONCEPTFFUNCTIONALHHIGHNDNOT_DE" +
-	"FINED\x00\x00\x00\x00\x00\x00\x00remediationLevel\xc80\x00\x00\x00\x00\x00@\x02\x00\x00\x00\x00\x00\x00\x00\xca0\x00\x00\x00\x00\x00@\x0c\x00\x00\x00\x00\x00\x00\x00\xd60\x00\x00\x00\x00\x00@\x02\x00\x00\x00\x00\x00\x00\x00\xd80\x00\x00\x00\x00\x00@\x0d\x00\x00\x00\x00\x00\x00\x00\xe50\x00\x00\x00\x00\x00@" +
-	"\x01\x00\x00\x00\x00\x00\x00\x00\xe60\x00\x00\x00\x00\x00@\x0a\x00\x00\x00\x00\x00\x00\x00\xf00\x00\x00\x00\x00\x00@\x01\x00\x00\x00\x00\x00\x00\x00\xf10\x00\x00\x00\x00\x00@\x0b\x00\x00\x00\x00\x00\x00\x00\xfc0\x00\x00\x00\x00\x00@\x02\x00\x00\x00\x00\x00\x00\x00\xfe0\x00\x00\x00\x00\x00@\x0b\x00\x00\x00\x00\x00\x00\x00OFOFFICIAL_F" +
-	"IXTFTEMPORARY_FIXWWORKAROUNDUUNAVAILABLENDNOT_DEFINED\x00\x00\x00\x00\x00\x00\x00reportConfidence\xa01\x00\x00\x00\x00\x00@\x02\x00\x00\x00\x00\x00\x00\x00\xa21\x00\x00\x00\x00\x00@" +
-	"\x0b\x00\x00\x00\x00\x00\x00\x00\xad1\x00\x00\x00\x00\x00@\x02\x00\x00\x00\x00\x00\x00\x00\xaf1\x00\x00\x00\x00\x00@\x0e\x00\x00\x00\x00\x00\x00\x00\xbd1\x00\x00\x00\x00\x00@\x01\x00\x00\x00\x00\x00\x00\x00\xbe1\x00\x00\x00\x00\x00@\x09\x00\x00\x00\x00\x00\x00\x00\xc71\x00\x00\x00\x00\x00@\x02\x00\x00\x00\x00\x00\x00\x00\xc91\x00\x00\x00\x00\x00@\x0b\x00\x00\x00" +
-	"\x00\x00\x00\x00UCUNCONFIRMEDURUNCORROBORATEDCCONFIRMEDNDNOT_DEFINED\x00\x00\x00\x00collateralDamagePotential\x00\x00\x00\x00\x00\x00\x00\xb82\x00\x00\x00\x00\x00@" +
-	"\x01\x00\x00\x00\x00\x00\x00\x00\xb92\x00\x00\x00\x00\x00@\x04\x00\x00\x00\x00\x00\x00\x00\xbd2\x00\x00\x00\x00\x00@\x01\x00\x00\x00\x00\x00\x00\x00\xbe2\x00\x00\x00\x00\x00@\x03\x00\x00\x00\x00\x00\x00\x00\xc12\x00\x00\x00\x00\x00@\x02\x00\x00\x00\x00\x00\x00\x00\xc32\x00\x00\x00\x00\x00@\x0a\x00\x00\x00\x00\x00\x00\x00\xcd2\x00\x00\x00\x00\x00@\x02\x00\x00\x00" +
-	"\x00\x00\x00\x00\xcf2\x00\x00\x00\x00\x00@\x0b\x00\x00\x00\x00\x00\x00\x00\xda2\x00\x00\x00\x00\x00@\x01\x00\x00\x00\x00\x00\x00\x00\xdb2\x00\x00\x00\x00\x00@\x04\x00\x00\x00\x00\x00\x00\x00\xdf2\x00\x00\x00\x00\x00@\x02\x00\x00\x00\x00\x00\x00\x00\xe12\x00\x00\x00\x00\x00@\x0b\x00\x00\x00\x00\x00\x00\x00NNONELLOWLMLOW_M" +
-	"EDIUMMHMEDIUM_HIGHHHIGHNDNOT_DEFINED\x00\x00\x00\x00targetDistribution\x00\x00\x00\x00\x00\x00\xa83\x00\x00\x00\x00\x00@\x01\x00\x00\x00\x00\x00\x00\x00\xa93\x00\x00\x00\x00\x00@\x04\x00\x00\x00\x00\x00\x00\x00\xad3\x00\x00" +
-	"\x00\x00\x00@\x01\x00\x00\x00\x00\x00\x00\x00\xae3\x00\x00\x00\x00\x00@\x03\x00\x00\x00\x00\x00\x00\x00\xb13\x00\x00\x00\x00\x00@\x01\x00\x00\x00\x00\x00\x00\x00\xb23\x00\x00\x00\x00\x00@\x06\x00\x00\x00\x00\x00\x00\x00\xb83\x00\x00\x00\x00\x00@\x01\x00\x00\x00\x00\x00\x00\x00\xb93\x00\x00\x00\x00\x00@\x04\x00\x00\x00\x00\x00\x00\x00\xbd3\x00\x00\x00\x00\x00@" +
-	"\x02\x00\x00\x00\x00\x00\x00\x00\xbf3\x00\x00\x00\x00\x00@\x0b\x00\x00\x00\x00\x00\x00\x00NNONELLOWMMEDIUMHHIGHNDNOT_DEFINED\x00\x00\x00\x00\x00\x00confidentialityRequirement\x00\x00\x00\x00\x00\x00p4\x00\x00" +
-	"\x00\x00\x00@\x01\x00\x00\x00\x00\x00\x00\x00q4\x00\x00\x00\x00\x00@\x03\x00\x00\x00\x00\x00\x00\x00t4\x00\x00\x00\x00\x00@\x01\x00\x00\x00\x00\x00\x00\x00u4\x00\x00\x00\x00\x00@\x06\x00\x00\x00\x00\x00\x00\x00{4\x00\x00\x00\x00\x00@\x01\x00\x00\x00\x00\x00\x00\x00|4\x00\x00\x00\x00\x00@\x04\x00\x00\x00\x00\x00\x00\x00\x804\x00\x00\x00\x00\x00@" +
-	"\x02\x00\x00\x00\x00\x00\x00\x00\x824\x00\x00\x00\x00\x00@\x0b\x00\x00\x00\x00\x00\x00\x00LLOWMMEDIUMHHIGHNDNOT_DEFINED\x00\x00\x00integrityRequirementavailabilityRequirementa" +
-	"ttackVector\x00H5\x00\x00\x00\x00\x00@\x01\x00\x00\x00\x00\x00\x00\x00I5\x00\x00\x00\x00\x00@\x08\x00\x00\x00\x00\x00\x00\x00Q5\x00\x00\x00\x00\x00@\x01\x00\x00\x00\x00\x00\x00\x00R5\x00\x00\x00\x00\x00@\x05\x00\x00\x00\x00\x00\x00\x00W5\x00\x00\x00\x00\x00@\x01\x00\x00\x00\x00\x00\x00\x00X5\x00\x00\x00\x00\x00@" +
-	"\x10\x00\x00\x00\x00\x00\x00\x00h5\x00\x00\x00\x00\x00@\x01\x00\x00\x00\x00\x00\x00\x00i5\x00\x00\x00\x00\x00@\x07\x00\x00\x00\x00\x00\x00\x00PPHYSICALLLOCALAADJACENT_NETWORKNNETWORKattackComplexity\xc05\x00\x00" +
-	"\x00\x00\x00@\x01\x00\x00\x00\x00\x00\x00\x00\xc15\x00\x00\x00\x00\x00@\x04\x00\x00\x00\x00\x00\x00\x00\xc55\x00\x00\x00\x00\x00@\x01\x00\x00\x00\x00\x00\x00\x00\xc65\x00\x00\x00\x00\x00@\x03\x00\x00\x00\x00\x00\x00\x00HHIGHLLOW\x00\x00\x00\x00\x00\x00\x00privilegesRequired\x00\x00\x00\x00\x00\x00" +
-	"H6\x00\x00\x00\x00\x00@\x01\x00\x00\x00\x00\x00\x00\x00I6\x00\x00\x00\x00\x00@\x04\x00\x00\x00\x00\x00\x00\x00M6\x00\x00\x00\x00\x00@\x01\x00\x00\x00\x00\x00\x00\x00N6\x00\x00\x00\x00\x00@\x03\x00\x00\x00\x00\x00\x00\x00Q6\x00\x00\x00\x00\x00@\x01\x00\x00\x00\x00\x00\x00\x00R6\x00\x00\x00\x00\x00@\x04\x00\x00\x00\x00\x00\x00\x00HHIG" +
-	"HLLOWNNONE\x00\x00userInteraction\x00\xa86\x00\x00\x00\x00\x00@\x01\x00\x00\x00\x00\x00\x00\x00\xa96\x00\x00\x00\x00\x00@\x08\x00\x00\x00\x00\x00\x00\x00\xb16\x00\x00\x00\x00\x00@\x01\x00\x00\x00\x00\x00\x00\x00\xb26\x00\x00\x00\x00\x00@\x04\x00\x00\x00\x00\x00\x00\x00RREQUIRE" +
-	"DNNONE\x00\x00\xf86\x00\x00\x00\x00\x00@\x01\x00\x00\x00\x00\x00\x00\x00\xf96\x00\x00\x00\x00\x00@\x09\x00\x00\x00\x00\x00\x00\x00\x027\x00\x00\x00\x00\x00@\x01\x00\x00\x00\x00\x00\x00\x00\x037\x00\x00\x00\x00\x00@\x07\x00\x00\x00\x00\x00\x00\x00UUNCHANGEDCCHANGED\x00\x00\x00\x00\x00\x00p7\x00\x00" +
-	"\x00\x00\x00@\x01\x00\x00\x00\x00\x00\x00\x00q7\x00\x00\x00\x00\x00@\x04\x00\x00\x00\x00\x00\x00\x00u7\x00\x00\x00\x00\x00@\x01\x00\x00\x00\x00\x00\x00\x00v7\x00\x00\x00\x00\x00@\x03\x00\x00\x00\x00\x00\x00\x00y7\x00\x00\x00\x00\x00@\x01\x00\x00\x00\x00\x00\x00\x00z7\x00\x00\x00\x00\x00@\x04\x00\x00\x00\x00\x00\x00\x00NNONELLO" +
-	"WHHIGH\x00\x00exploitCodeMaturity\x00\x00\x00\x00\x0088\x00\x00\x00\x00\x00@\x01\x00\x00\x00\x00\x00\x00\x0098\x00\x00\x00\x00\x00@\x0b\x00\x00\x00\x00\x00\x00\x00D8\x00\x00\x00\x00\x00@\x01\x00\x00\x00\x00\x00\x00\x00E8\x00\x00\x00\x00\x00@\x04\x00\x00\x00\x00\x00\x00\x00I8\x00\x00" +
-	"\x00\x00\x00@\x01\x00\x00\x00\x00\x00\x00\x00J8\x00\x00\x00\x00\x00@\x0a\x00\x00\x00\x00\x00\x00\x00T8\x00\x00\x00\x00\x00@\x01\x00\x00\x00\x00\x00\x00\x00U8\x00\x00\x00\x00\x00@\x10\x00\x00\x00\x00\x00\x00\x00e8\x00\x00\x00\x00\x00@\x01\x00\x00\x00\x00\x00\x00\x00f8\x00\x00\x00\x00\x00@\x08\x00\x00\x00\x00\x00\x00\x00XNOT_DEF" +
-	"INEDHHIGHFFUNCTIONALPPROOF_OF_CONCEPTUUNPROVEN\x00\x00\x109\x00\x00\x00\x00\x00@\x01\x00\x00\x00\x00\x00\x00\x00\x119\x00\x00\x00\x00\x00@\x0b\x00\x00\x00\x00\x00\x00\x00\x1c9\x00\x00\x00\x00\x00@\x01\x00\x00\x00\x00\x00\x00\x00\x1d9\x00\x00" +
-	"\x00\x00\x00@\x0b\x00\x00\x00\x00\x00\x00\x00(9\x00\x00\x00\x00\x00@\x01\x00\x00\x00\x00\x00\x00\x00)9\x00\x00\x00\x00\x00@\x0a\x00\x00\x00\x00\x00\x00\x0039\x00\x00\x00\x00\x00@\x01\x00\x00\x00\x00\x00\x00\x0049\x00\x00\x00\x00\x00@\x0d\x00\x00\x00\x00\x00\x00\x00A9\x00\x00\x00\x00\x00@\x01\x00\x00\x00\x00\x00\x00\x00B9\x00\x00\x00\x00\x00@" +
-	"\x0c\x00\x00\x00\x00\x00\x00\x00XNOT_DEFINEDUUNAVAILABLEWWORKAROUNDTTEMPORARY_FIXOOFFICIAL_FIX\x00\x00\xd09\x00\x00\x00\x00\x00@\x01\x00\x00\x00\x00\x00\x00\x00\xd19\x00\x00\x00\x00\x00@\x0b\x00\x00\x00" +
-	"\x00\x00\x00\x00\xdc9\x00\x00\x00\x00\x00@\x01\x00\x00\x00\x00\x00\x00\x00\xdd9\x00\x00\x00\x00\x00@\x09\x00\x00\x00\x00\x00\x00\x00\xe69\x00\x00\x00\x00\x00@\x01\x00\x00\x00\x00\x00\x00\x00\xe79\x00\x00\x00\x00\x00@\x0a\x00\x00\x00\x00\x00\x00\x00\xf19\x00\x00\x00\x00\x00@\x01\x00\x00\x00\x00\x00\x00\x00\xf29\x00\x00\x00\x00\x00@\x07\x00\x00\x00\x00\x00\x00\x00" +
-	"XNOT_DEFINEDCCONFIRMEDRREASONABLEUUNKNOWN\x00\x00\x00\x00\x00\x00\x00\x80:\x00\x00\x00\x00\x00@\x01\x00\x00\x00\x00\x00\x00\x00\x81:\x00\x00\x00\x00\x00@\x0b\x00\x00\x00\x00\x00\x00\x00\x8c:\x00\x00\x00\x00\x00@\x01\x00\x00\x00\x00\x00\x00\x00\x8d:\x00\x00" +
-	"\x00\x00\x00@\x04\x00\x00\x00\x00\x00\x00\x00\x91:\x00\x00\x00\x00\x00@\x01\x00\x00\x00\x00\x00\x00\x00\x92:\x00\x00\x00\x00\x00@\x06\x00\x00\x00\x00\x00\x00\x00\x98:\x00\x00\x00\x00\x00@\x01\x00\x00\x00\x00\x00\x00\x00\x99:\x00\x00\x00\x00\x00@\x03\x00\x00\x00\x00\x00\x00\x00XNOT_DEFINEDHHIGHMMEDIUM" +
-	"LLOW\x00\x00\x00\x00modifiedAttackVector\x00\x00\x00\x00X;\x00\x00\x00\x00\x00@\x01\x00\x00\x00\x00\x00\x00\x00Y;\x00\x00\x00\x00\x00@\x0b\x00\x00\x00\x00\x00\x00\x00d;\x00\x00\x00\x00\x00@\x01\x00\x00\x00\x00\x00\x00\x00e;\x00\x00\x00\x00\x00@\x08\x00\x00\x00\x00\x00\x00\x00m;\x00\x00" +
-	"\x00\x00\x00@\x01\x00\x00\x00\x00\x00\x00\x00n;\x00\x00\x00\x00\x00@\x05\x00\x00\x00\x00\x00\x00\x00s;\x00\x00\x00\x00\x00@\x01\x00\x00\x00\x00\x00\x00\x00t;\x00\x00\x00\x00\x00@\x10\x00\x00\x00\x00\x00\x00\x00\x84;\x00\x00\x00\x00\x00@\x01\x00\x00\x00\x00\x00\x00\x00\x85;\x00\x00\x00\x00\x00@\x07\x00\x00\x00\x00\x00\x00\x00XNOT_DEF" +
-	"INEDPPHYSICALLLOCALAADJACENT_NETWORKNNETWORK\x00\x00\x00\x00modifiedAttackComplexity\x08<\x00\x00\x00\x00\x00@\x01\x00\x00\x00\x00\x00\x00\x00\x09<\x00\x00\x00\x00\x00@\x0b\x00\x00\x00" +
-	"\x00\x00\x00\x00\x14<\x00\x00\x00\x00\x00@\x01\x00\x00\x00\x00\x00\x00\x00\x15<\x00\x00\x00\x00\x00@\x04\x00\x00\x00\x00\x00\x00\x00\x19<\x00\x00\x00\x00\x00@\x01\x00\x00\x00\x00\x00\x00\x00\x1a<\x00\x00\x00\x00\x00@\x03\x00\x00\x00\x00\x00\x00\x00XNOT_DEFINEDHHIGHLLOW\x00\x00\x00modified" +
-	"PrivilegesRequired\x00\x00\x00\x00\x00\x00\xc0<\x00\x00\x00\x00\x00@\x01\x00\x00\x00\x00\x00\x00\x00\xc1<\x00\x00\x00\x00\x00@\x0b\x00\x00\x00\x00\x00\x00\x00\xcc<\x00\x00\x00\x00\x00@\x01\x00\x00\x00\x00\x00\x00\x00\xcd<\x00\x00\x00\x00\x00@\x04\x00\x00\x00\x00\x00\x00\x00\xd1<\x00\x00\x00\x00\x00@\x01\x00\x00\x00" +
-	"\x00\x00\x00\x00\xd2<\x00\x00\x00\x00\x00@\x03\x00\x00\x00\x00\x00\x00\x00\xd5<\x00\x00\x00\x00\x00@\x01\x00\x00\x00\x00\x00\x00\x00\xd6<\x00\x00\x00\x00\x00@\x04\x00\x00\x00\x00\x00\x00\x00XNOT_DEFINEDHHIGHLLOWNNONE\x00\x00\x00\x00\x00\x00modifiedUserInte" +
-	"raction\x00X=\x00\x00\x00\x00\x00@\x01\x00\x00\x00\x00\x00\x00\x00Y=\x00\x00\x00\x00\x00@\x0b\x00\x00\x00\x00\x00\x00\x00d=\x00\x00\x00\x00\x00@\x01\x00\x00\x00\x00\x00\x00\x00e=\x00\x00\x00\x00\x00@\x08\x00\x00\x00\x00\x00\x00\x00m=\x00\x00\x00\x00\x00@\x01\x00\x00\x00\x00\x00\x00\x00n=\x00\x00\x00\x00\x00@\x04\x00\x00\x00" +
-	"\x00\x00\x00\x00XNOT_DEFINEDRREQUIREDNNONE\x00\x00\x00\x00\x00\x00\xd8=\x00\x00\x00\x00\x00@\x01\x00\x00\x00\x00\x00\x00\x00\xd9=\x00\x00\x00\x00\x00@\x0b\x00\x00\x00\x00\x00\x00\x00\xe4=\x00\x00\x00\x00\x00@\x01\x00\x00\x00\x00\x00\x00\x00\xe5=\x00\x00\x00\x00\x00@\x09\x00\x00\x00\x00\x00\x00\x00" +
-	"\xee=\x00\x00\x00\x00\x00@\x01\x00\x00\x00\x00\x00\x00\x00\xef=\x00\x00\x00\x00\x00@\x07\x00\x00\x00\x00\x00\x00\x00XNOT_DEFINEDUUNCHANGEDCCHANGED\x00\x00modifiedConfidentialityImpact\x00\x00\x00\x98>\x00\x00" +
-	"\x00\x00\x00@\x01\x00\x00\x00\x00\x00\x00\x00\x99>\x00\x00\x00\x00\x00@\x0b\x00\x00\x00\x00\x00\x00\x00\xa4>\x00\x00\x00\x00\x00@\x01\x00\x00\x00\x00\x00\x00\x00\xa5>\x00\x00\x00\x00\x00@\x04\x00\x00\x00\x00\x00\x00\x00\xa9>\x00\x00\x00\x00\x00@\x01\x00\x00\x00\x00\x00\x00\x00\xaa>\x00\x00\x00\x00\x00@\x03\x00\x00\x00\x00\x00\x00\x00\xad>\x00\x00\x00\x00\x00@" +
-	"\x01\x00\x00\x00\x00\x00\x00\x00\xae>\x00\x00\x00\x00\x00@\x04\x00\x00\x00\x00\x00\x00\x00XNOT_DEFINEDNNONELLOWHHIGH\x00\x00\x00\x00\x00\x00modifiedIntegrityImpactmodifiedAvailabilityI" +
-	"mpact\x00\x00\x00\x00\x00\x00\x00p?\x00\x00\x00\x00\x00@\x01\x00\x00\x00\x00\x00\x00\x00q?\x00\x00\x00\x00\x00@\x08\x00\x00\x00\x00\x00\x00\x00y?\x00\x00\x00\x00\x00@\x01\x00\x00\x00\x00\x00\x00\x00z?\x00\x00\x00\x00\x00@\x05\x00\x00\x00\x00\x00\x00\x00\x7f?\x00\x00\x00\x00\x00@\x01\x00\x00\x00\x00\x00\x00\x00\x80?\x00\x00\x00\x00\x00@" +
-	"\x08\x00\x00\x00\x00\x00\x00\x00\x88?\x00\x00\x00\x00\x00@\x01\x00\x00\x00\x00\x00\x00\x00\x89?\x00\x00\x00\x00\x00@\x07\x00\x00\x00\x00\x00\x00\x00PPHYSICALLLOCALAADJACENTNNETWORKattackRequirements\x00\x00\x00\x00\x00\x00\xe8?\x00\x00" +
-	"\x00\x00\x00@\x01\x00\x00\x00\x00\x00\x00\x00\xe9?\x00\x00\x00\x00\x00@\x07\x00\x00\x00\x00\x00\x00\x00\xf0?\x00\x00\x00\x00\x00@\x01\x00\x00\x00\x00\x00\x00\x00\xf1?\x00\x00\x00\x00\x00@\x04\x00\x00\x00\x00\x00\x00\x00PPRESENTNNONE\x00\x00\x00X@\x00\x00\x00\x00\x00@\x01\x00\x00\x00\x00\x00\x00\x00Y@\x00\x00\x00\x00\x00@" +
-	"\x06\x00\x00\x00\x00\x00\x00\x00_@\x00\x00\x00\x00\x00@\x01\x00\x00\x00\x00\x00\x00\x00`@\x00\x00\x00\x00\x00@\x07\x00\x00\x00\x00\x00\x00\x00g@\x00\x00\x00\x00\x00@\x01\x00\x00\x00\x00\x00\x00\x00h@\x00\x00\x00\x00\x00@\x04\x00\x00\x00\x00\x00\x00\x00AACTIVEPPASSIVENNONE\x00\x00\x00\x00vuln" +
-	"ConfidentialityImpactvulnIntegrityImpactvulnAvailabilityImpactsubConfidentialityImpactsubIntegrityIm" +
-	"pactsubAvailabilityImpactexploitMaturity\x80A\x00\x00\x00\x00\x00@\x01\x00\x00\x00\x00\x00\x00\x00\x81A\x00\x00\x00\x00\x00@\x0b\x00\x00\x00\x00\x00\x00\x00\x8cA\x00\x00\x00\x00\x00@\x01\x00\x00\x00\x00\x00\x00\x00\x8dA\x00\x00\x00\x00\x00@\x0a\x00\x00\x00" +
-	"\x00\x00\x00\x00\x97A\x00\x00\x00\x00\x00@\x01\x00\x00\x00\x00\x00\x00\x00\x98A\x00\x00\x00\x00\x00@\x10\x00\x00\x00\x00\x00\x00\x00\xa8A\x00\x00\x00\x00\x00@\x01\x00\x00\x00\x00\x00\x00\x00\xa9A\x00\x00\x00\x00\x00@\x08\x00\x00\x00\x00\x00\x00\x00XNOT_DEFINEDUUNREPORTEDPPROOF_OF" +
-	"_CONCEPTAATTACKED\x00\x00\x00\x00\x00\x00\x008B\x00\x00\x00\x00\x00@\x01\x00\x00\x00\x00\x00\x00\x009B\x00\x00\x00\x00\x00@\x0b\x00\x00\x00\x00\x00\x00\x00DB\x00\x00\x00\x00\x00@\x01\x00\x00\x00\x00\x00\x00\x00EB\x00\x00\x00\x00\x00@\x03\x00\x00\x00\x00\x00\x00\x00HB\x00\x00\x00\x00\x00@\x01\x00\x00\x00" +
-	"\x00\x00\x00\x00IB\x00\x00\x00\x00\x00@\x06\x00\x00\x00\x00\x00\x00\x00OB\x00\x00\x00\x00\x00@\x01\x00\x00\x00\x00\x00\x00\x00PB\x00\x00\x00\x00\x00@\x04\x00\x00\x00\x00\x00\x00\x00XNOT_DEFINEDLLOWMMEDIUMHHIGH\x00\x00\x00\x00\xf8B\x00\x00\x00\x00\x00@\x01\x00\x00\x00\x00\x00\x00\x00" +
-	"\xf9B\x00\x00\x00\x00\x00@\x08\x00\x00\x00\x00\x00\x00\x00\x01C\x00\x00\x00\x00\x00@\x01\x00\x00\x00\x00\x00\x00\x00\x02C\x00\x00\x00\x00\x00@\x05\x00\x00\x00\x00\x00\x00\x00\x07C\x00\x00\x00\x00\x00@\x01\x00\x00\x00\x00\x00\x00\x00\x08C\x00\x00\x00\x00\x00@\x08\x00\x00\x00\x00\x00\x00\x00\x10C\x00\x00\x00\x00\x00@\x01\x00\x00\x00\x00\x00\x00\x00\x11C\x00\x00" +
-	"\x00\x00\x00@\x07\x00\x00\x00\x00\x00\x00\x00\x18C\x00\x00\x00\x00\x00@\x01\x00\x00\x00\x00\x00\x00\x00\x19C\x00\x00\x00\x00\x00@\x0b\x00\x00\x00\x00\x00\x00\x00PPHYSICALLLOCALAADJACENTNNETWORKXNOT_DEFINED\x00\x00\x00\x00modified" +
-	"AttackRequirements\x00\x00\x00\x00\x00\x00\xa8C\x00\x00\x00\x00\x00@\x01\x00\x00\x00\x00\x00\x00\x00\xa9C\x00\x00\x00\x00\x00@\x0b\x00\x00\x00\x00\x00\x00\x00\xb4C\x00\x00\x00\x00\x00@\x01\x00\x00\x00\x00\x00\x00\x00\xb5C\x00\x00\x00\x00\x00@\x07\x00\x00\x00\x00\x00\x00\x00\xbcC\x00\x00\x00\x00\x00@\x01\x00\x00\x00" +
-	"\x00\x00\x00\x00\xbdC\x00\x00\x00\x00\x00@\x04\x00\x00\x00\x00\x00\x00\x00XNOT_DEFINEDPPRESENTNNONE\x00\x00\x00\x00\x00\x00\x00HD\x00\x00\x00\x00\x00@\x01\x00\x00\x00\x00\x00\x00\x00ID\x00\x00\x00\x00\x00@\x0b\x00\x00\x00\x00\x00\x00\x00TD\x00\x00\x00\x00\x00@\x01\x00\x00\x00\x00\x00\x00\x00" +
-	"UD\x00\x00\x00\x00\x00@\x06\x00\x00\x00\x00\x00\x00\x00[D\x00\x00\x00\x00\x00@\x01\x00\x00\x00\x00\x00\x00\x00\x5cD\x00\x00\x00\x00\x00@\x07\x00\x00\x00\x00\x00\x00\x00cD\x00\x00\x00\x00\x00@\x01\x00\x00\x00\x00\x00\x00\x00dD\x00\x00\x00\x00\x00@\x04\x00\x00\x00\x00\x00\x00\x00XNOT_DEFINEDAACTIVEP" +
-	"PASSIVENNONEmodifiedVulnConfidentialityImpactmodifiedVulnIntegrityImpactmodifiedVulnAvailabilityImpa" +
-	"ctmodifiedSubConfidentialityImpact\x00\x00\x00\x00\x00\x00hE\x00\x00\x00\x00\x00@\x01\x00\x00\x00\x00\x00\x00\x00iE\x00\x00\x00\x00\x00@\x0b\x00\x00\x00\x00\x00\x00\x00tE\x00\x00\x00\x00\x00@\x01\x00\x00\x00\x00\x00\x00\x00uE\x00\x00\x00\x00\x00@\x0a\x00\x00\x00" +
-	"\x00\x00\x00\x00\x7fE\x00\x00\x00\x00\x00@\x01\x00\x00\x00\x00\x00\x00\x00\x80E\x00\x00\x00\x00\x00@\x03\x00\x00\x00\x00\x00\x00\x00\x83E\x00\x00\x00\x00\x00@\x01\x00\x00\x00\x00\x00\x00\x00\x84E\x00\x00\x00\x00\x00@\x04\x00\x00\x00\x00\x00\x00\x00XNOT_DEFINEDNNEGLIGIBLELLOWHHIGH" +
-	"modifiedSubIntegrityImpact\x00\x00\x00\x00\x00\x00HF\x00\x00\x00\x00\x00@\x01\x00\x00\x00\x00\x00\x00\x00IF\x00\x00\x00\x00\x00@\x0b\x00\x00\x00\x00\x00\x00\x00TF\x00\x00\x00\x00\x00@\x01\x00\x00\x00\x00\x00\x00\x00UF\x00\x00\x00\x00\x00@\x0a\x00\x00\x00\x00\x00\x00\x00_F\x00\x00" +
-	"\x00\x00\x00@\x01\x00\x00\x00\x00\x00\x00\x00`F\x00\x00\x00\x00\x00@\x03\x00\x00\x00\x00\x00\x00\x00cF\x00\x00\x00\x00\x00@\x01\x00\x00\x00\x00\x00\x00\x00dF\x00\x00\x00\x00\x00@\x04\x00\x00\x00\x00\x00\x00\x00hF\x00\x00\x00\x00\x00@\x01\x00\x00\x00\x00\x00\x00\x00iF\x00\x00\x00\x00\x00@\x06\x00\x00\x00\x00\x00\x00\x00XNOT_DEF" +
-	"INEDNNEGLIGIBLELLOWHHIGHSSAFETY\x00modifiedSubAvailabilityImpactSafety\x00\x00\x00\x00\x00\xf8F\x00\x00\x00\x00\x00@\x01\x00\x00\x00\x00\x00\x00\x00\xf9F\x00\x00\x00\x00\x00@\x0b\x00\x00\x00" +
-	"\x00\x00\x00\x00\x04G\x00\x00\x00\x00\x00@\x01\x00\x00\x00\x00\x00\x00\x00\x05G\x00\x00\x00\x00\x00@\x07\x00\x00\x00\x00\x00\x00\x00\x0cG\x00\x00\x00\x00\x00@\x01\x00\x00\x00\x00\x00\x00\x00\x0dG\x00\x00\x00\x00\x00@\x0a\x00\x00\x00\x00\x00\x00\x00XNOT_DEFINEDPPRESENTNNEGLIGIBLE\x00" +
-	"Automatable\x00\x00\x00\x00\x00\x88G\x00\x00\x00\x00\x00@\x01\x00\x00\x00\x00\x00\x00\x00\x89G\x00\x00\x00\x00\x00@\x0b\x00\x00\x00\x00\x00\x00\x00\x94G\x00\x00\x00\x00\x00@\x01\x00\x00\x00\x00\x00\x00\x00\x95G\x00\x00\x00\x00\x00@\x03\x00\x00\x00\x00\x00\x00\x00\x98G\x00\x00\x00\x00\x00@\x01\x00\x00\x00\x00\x00\x00\x00\x99G\x00\x00" +
-	"\x00\x00\x00@\x02\x00\x00\x00\x00\x00\x00\x00XNOT_DEFINEDYYESNNO\x00\x00\x00\x00\x00Recovery(H\x00\x00\x00\x00\x00@\x01\x00\x00\x00\x00\x00\x00\x00)H\x00\x00\x00\x00\x00@\x0b\x00\x00\x00\x00\x00\x00\x004H\x00\x00\x00\x00\x00@\x01\x00\x00\x00\x00\x00\x00\x005H\x00\x00\x00\x00\x00@" +
-	"\x09\x00\x00\x00\x00\x00\x00\x00>H\x00\x00\x00\x00\x00@\x01\x00\x00\x00\x00\x00\x00\x00?H\x00\x00\x00\x00\x00@\x04\x00\x00\x00\x00\x00\x00\x00CH\x00\x00\x00\x00\x00@\x01\x00\x00\x00\x00\x00\x00\x00DH\x00\x00\x00\x00\x00@\x0d\x00\x00\x00\x00\x00\x00\x00XNOT_DEFINEDAAUTOMATICUUSERI" +
-	"IRRECOVERABLE\x00\x00\x00\x00\x00\x00\x00valueDensity\x00\x00\x00\x00\xc8H\x00\x00\x00\x00\x00@\x01\x00\x00\x00\x00\x00\x00\x00\xc9H\x00\x00\x00\x00\x00@\x0b\x00\x00\x00\x00\x00\x00\x00\xd4H\x00\x00\x00\x00\x00@\x01\x00\x00\x00\x00\x00\x00\x00\xd5H\x00\x00\x00\x00\x00@\x07\x00\x00\x00\x00\x00\x00\x00" +
-	"\xdcH\x00\x00\x00\x00\x00@\x01\x00\x00\x00\x00\x00\x00\x00\xddH\x00\x00\x00\x00\x00@\x0c\x00\x00\x00\x00\x00\x00\x00XNOT_DEFINEDDDIFFUSECCONCENTRATED\x00\x00\x00\x00\x00\x00\x00vulnerabilityResponseEffort\x00" +
-	"\x00\x00\x00\x00\x90I\x00\x00\x00\x00\x00@\x01\x00\x00\x00\x00\x00\x00\x00\x91I\x00\x00\x00\x00\x00@\x0b\x00\x00\x00\x00\x00\x00\x00\x9cI\x00\x00\x00\x00\x00@\x01\x00\x00\x00\x00\x00\x00\x00\x9dI\x00\x00\x00\x00\x00@\x03\x00\x00\x00\x00\x00\x00\x00\xa0I\x00\x00\x00\x00\x00@\x01\x00\x00\x00\x00\x00\x00\x00\xa1I\x00\x00\x00\x00\x00@\x08\x00\x00\x00\x00\x00\x00\x00" +
-	"\xa9I\x00\x00\x00\x00\x00@\x01\x00\x00\x00\x00\x00\x00\x00\xaaI\x00\x00\x00\x00\x00@\x04\x00\x00\x00\x00\x00\x00\x00XNOT_DEFINEDLLOWMMODERATEHHIGH\x00\x00providerUrgency\x00`J\x00\x00\x00\x00\x00@\x01\x00\x00\x00\x00\x00\x00\x00aJ\x00\x00" +
-	"\x00\x00\x00@\x0b\x00\x00\x00\x00\x00\x00\x00lJ\x00\x00\x00\x00\x00@\x03\x00\x00\x00\x00\x00\x00\x00oJ\x00\x00\x00\x00\x00@\x03\x00\x00\x00\x00\x00\x00\x00rJ\x00\x00\x00\x00\x00@\x05\x00\x00\x00\x00\x00\x00\x00wJ\x00\x00\x00\x00\x00@\x05\x00\x00\x00\x00\x00\x00\x00|J\x00\x00\x00\x00\x00@\x05\x00\x00\x00\x00\x00\x00\x00\x81J\x00\x00\x00\x00\x00@" +
-	"\x05\x00\x00\x00\x00\x00\x00\x00\x86J\x00\x00\x00\x00\x00@\x05\x00\x00\x00\x00\x00\x00\x00\x8bJ\x00\x00\x00\x00\x00@\x05\x00\x00\x00\x00\x00\x00\x00XNOT_DEFINEDRedREDAmberAMBERGreenGREENClearCLEARNONELOWMEDIU" +
-	"MHIGHCRITICALbaseScoretemporalScoreenvironmentalScorebaseSeveritytemporalSeverityenvironmentalSeveri" +
-	"tyerror:  \x00\x00\x00\x00\x00\x00`Q\x00\x00\x00\x00\x00@\x03\x00\x00\x00\x00\x00\x00\x00cQ\x00\x00\x00\x00\x00@\x03\x00\x00\x00\x00\x00\x00\x00fQ\x00\x00\x00\x00\x00@\x03\x00\x00\x00\x00\x00\x00\x00iQ\x00\x00\x00\x00\x00@\x03\x00\x00\x00\x00\x00\x00\x00lQ\x00\x00\x00\x00\x00@\x03\x00\x00\x00\x00\x00\x00\x00oQ\x00\x00" +
-	"\x00\x00\x00@\x03\x00\x00\x00\x00\x00\x00\x00rQ\x00\x00\x00\x00\x00@\x03\x00\x00\x00\x00\x00\x00\x00uQ\x00\x00\x00\x00\x00@\x03\x00\x00\x00\x00\x00\x00\x00xQ\x00\x00\x00\x00\x00@\x03\x00\x00\x00\x00\x00\x00\x00{Q\x00\x00\x00\x00\x00@\x03\x00\x00\x00\x00\x00\x00\x00~Q\x00\x00\x00\x00\x00@\x03\x00\x00\x00\x00\x00\x00\x00\x81Q\x00\x00\x00\x00\x00@" +
-	"\x03\x00\x00\x00\x00\x00\x00\x00\x84Q\x00\x00\x00\x00\x00@\x03\x00\x00\x00\x00\x00\x00\x00\x87Q\x00\x00\x00\x00\x00@\x03\x00\x00\x00\x00\x00\x00\x00\x8aQ\x00\x00\x00\x00\x00@\x03\x00\x00\x00\x00\x00\x00\x00\x8dQ\x00\x00\x00\x00\x00@\x03\x00\x00\x00\x00\x00\x00\x00\x90Q\x00\x00\x00\x00\x00@\x03\x00\x00\x00\x00\x00\x00\x00\x93Q\x00\x00\x00\x00\x00@\x03\x00\x00\x00" +
-	"\x00\x00\x00\x00\x96Q\x00\x00\x00\x00\x00@\x03\x00\x00\x00\x00\x00\x00\x00\x99Q\x00\x00\x00\x00\x00@\x03\x00\x00\x00\x00\x00\x00\x00\x9cQ\x00\x00\x00\x00\x00@\x03\x00\x00\x00\x00\x00\x00\x00\x9fQ\x00\x00\x00\x00\x00@\x03\x00\x00\x00\x00\x00\x00\x00\xa2Q\x00\x00\x00\x00\x00@\x03\x00\x00\x00\x00\x00\x00\x00\xa5Q\x00\x00\x00\x00\x00@\x03\x00\x00\x00\x00\x00\x00\x00" +
-	"\xa8Q\x00\x00\x00\x00\x00@\x03\x00\x00\x00\x00\x00\x00\x00\xabQ\x00\x00\x00\x00\x00@\x03\x00\x00\x00\x00\x00\x00\x00\xaeQ\x00\x00\x00\x00\x00@\x03\x00\x00\x00\x00\x00\x00\x00\xb1Q\x00\x00\x00\x00\x00@\x03\x00\x00\x00\x00\x00\x00\x00\xb4Q\x00\x00\x00\x00\x00@\x03\x00\x00\x00\x00\x00\x00\x00\xb7Q\x00\x00\x00\x00\x00@\x03\x00\x00\x00\x00\x00\x00\x00\xbaQ\x00\x00" +
-	"\x00\x00\x00@\x03\x00\x00\x00\x00\x00\x00\x00\xbdQ\x00\x00\x00\x00\x00@\x03\x00\x00\x00\x00\x00\x00\x00\xc0Q\x00\x00\x00\x00\x00@\x03\x00\x00\x00\x00\x00\x00\x00\xc3Q\x00\x00\x00\x00\x00@\x03\x00\x00\x00\x00\x00\x00\x00\xc6Q\x00\x00\x00\x00\x00@\x03\x00\x00\x00\x00\x00\x00\x00\xc9Q\x00\x00\x00\x00\x00@\x03\x00\x00\x00\x00\x00\x00\x00\xccQ\x00\x00\x00\x00\x00@" +
-	"\x03\x00\x00\x00\x00\x00\x00\x00\xcfQ\x00\x00\x00\x00\x00@\x03\x00\x00\x00\x00\x00\x00\x00\xd2Q\x00\x00\x00\x00\x00@\x03\x00\x00\x00\x00\x00\x00\x00\xd5Q\x00\x00\x00\x00\x00@\x03\x00\x00\x00\x00\x00\x00\x00\xd8Q\x00\x00\x00\x00\x00@\x03\x00\x00\x00\x00\x00\x00\x00\xdbQ\x00\x00\x00\x00\x00@\x03\x00\x00\x00\x00\x00\x00\x00\xdeQ\x00\x00\x00\x00\x00@\x03\x00\x00\x00" +
-	"\x00\x00\x00\x00\xe1Q\x00\x00\x00\x00\x00@\x03\x00\x00\x00\x00\x00\x00\x00\xe4Q\x00\x00\x00\x00\x00@\x03\x00\x00\x00\x00\x00\x00\x00\xe7Q\x00\x00\x00\x00\x00@\x03\x00\x00\x00\x00\x00\x00\x00\xeaQ\x00\x00\x00\x00\x00@\x03\x00\x00\x00\x00\x00\x00\x00\xedQ\x00\x00\x00\x00\x00@\x03\x00\x00\x00\x00\x00\x00\x00\xf0Q\x00\x00\x00\x00\x00@\x03\x00\x00\x00\x00\x00\x00\x00" +
-	"\xf3Q\x00\x00\x00\x00\x00@\x03\x00\x00\x00\x00\x00\x00\x00\xf6Q\x00\x00\x00\x00\x00@\x03\x00\x00\x00\x00\x00\x00\x00\xf9Q\x00\x00\x00\x00\x00@\x03\x00\x00\x00\x00\x00\x00\x00\xfcQ\x00\x00\x00\x00\x00@\x03\x00\x00\x00\x00\x00\x00\x00\xffQ\x00\x00\x00\x00\x00@\x03\x00\x00\x00\x00\x00\x00\x00\x02R\x00\x00\x00\x00\x00@\x03\x00\x00\x00\x00\x00\x00\x00\x05R\x00\x00" +
-	"\x00\x00\x00@\x03\x00\x00\x00\x00\x00\x00\x00\x08R\x00\x00\x00\x00\x00@\x03\x00\x00\x00\x00\x00\x00\x00\x0bR\x00\x00\x00\x00\x00@\x03\x00\x00\x00\x00\x00\x00\x00\x0eR\x00\x00\x00\x00\x00@\x03\x00\x00\x00\x00\x00\x00\x00\x11R\x00\x00\x00\x00\x00@\x03\x00\x00\x00\x00\x00\x00\x00\x14R\x00\x00\x00\x00\x00@\x03\x00\x00\x00\x00\x00\x00\x00\x17R\x00\x00\x00\x00\x00@" +
-	"\x03\x00\x00\x00\x00\x00\x00\x00\x1aR\x00\x00\x00\x00\x00@\x03\x00\x00\x00\x00\x00\x00\x00\x1dR\x00\x00\x00\x00\x00@\x03\x00\x00\x00\x00\x00\x00\x00 R\x00\x00\x00\x00\x00@\x03\x00\x00\x00\x00\x00\x00\x00#R\x00\x00\x00\x00\x00@\x03\x00\x00\x00\x00\x00\x00\x00&R\x00\x00\x00\x00\x00@\x03\x00\x00\x00\x00\x00\x00\x00)R\x00\x00\x00\x00\x00@\x03\x00\x00\x00" +
-	"\x00\x00\x00\x00,R\x00\x00\x00\x00\x00@\x03\x00\x00\x00\x00\x00\x00\x00/R\x00\x00\x00\x00\x00@\x03\x00\x00\x00\x00\x00\x00\x002R\x00\x00\x00\x00\x00@\x03\x00\x00\x00\x00\x00\x00\x005R\x00\x00\x00\x00\x00@\x03\x00\x00\x00\x00\x00\x00\x008R\x00\x00\x00\x00\x00@\x03\x00\x00\x00\x00\x00\x00\x00;R\x00\x00\x00\x00\x00@\x03\x00\x00\x00\x00\x00\x00\x00" +
-	">R\x00\x00\x00\x00\x00@\x03\x00\x00\x00\x00\x00\x00\x00AR\x00\x00\x00\x00\x00@\x03\x00\x00\x00\x00\x00\x00\x00DR\x00\x00\x00\x00\x00@\x03\x00\x00\x00\x00\x00\x00\x00GR\x00\x00\x00\x00\x00@\x03\x00\x00\x00\x00\x00\x00\x00JR\x00\x00\x00\x00\x00@\x03\x00\x00\x00\x00\x00\x00\x00MR\x00\x00\x00\x00\x00@\x03\x00\x00\x00\x00\x00\x00\x00PR\x00\x00" +
-	"\x00\x00\x00@\x03\x00\x00\x00\x00\x00\x00\x00SR\x00\x00\x00\x00\x00@\x03\x00\x00\x00\x00\x00\x00\x00VR\x00\x00\x00\x00\x00@\x03\x00\x00\x00\x00\x00\x00\x00YR\x00\x00\x00\x00\x00@\x03\x00\x00\x00\x00\x00\x00\x00\x5cR\x00\x00\x00\x00\x00@\x03\x00\x00\x00\x00\x00\x00\x00_R\x00\x00\x00\x00\x00@\x03\x00\x00\x00\x00\x00\x00\x00bR\x00\x00\x00\x00\x00@" +
-	"\x03\x00\x00\x00\x00\x00\x00\x00eR\x00\x00\x00\x00\x00@\x03\x00\x00\x00\x00\x00\x00\x00hR\x00\x00\x00\x00\x00@\x03\x00\x00\x00\x00\x00\x00\x00kR\x00\x00\x00\x00\x00@\x03\x00\x00\x00\x00\x00\x00\x00nR\x00\x00\x00\x00\x00@\x03\x00\x00\x00\x00\x00\x00\x00qR\x00\x00\x00\x00\x00@\x03\x00\x00\x00\x00\x00\x00\x00tR\x00\x00\x00\x00\x00@\x03\x00\x00\x00" +
-	"\x00\x00\x00\x00wR\x00\x00\x00\x00\x00@\x03\x00\x00\x00\x00\x00\x00\x00zR\x00\x00\x00\x00\x00@\x03\x00\x00\x00\x00\x00\x00\x00}R\x00\x00\x00\x00\x00@\x03\x00\x00\x00\x00\x00\x00\x00\x80R\x00\x00\x00\x00\x00@\x03\x00\x00\x00\x00\x00\x00\x00\x83R\x00\x00\x00\x00\x00@\x03\x00\x00\x00\x00\x00\x00\x00\x86R\x00\x00\x00\x00\x00@\x03\x00\x00\x00\x00\x00\x00\x00" +
-	"\x89R\x00\x00\x00\x00\x00@\x03\x00\x00\x00\x00\x00\x00\x00\x8cR\x00\x00\x00\x00\x00@\x04\x00\x00\x00\x00\x00\x00\x000.00.10.20.30.40.50.60.70.80.91.01.11.21.31.41.51.61.71.81.92.02.12." +
-	"22.32.42.52.62.72.82.93.03.13.23.33.43.53.63.73.83.94.04.14.24.34.44.54.64.74.84.95.05.15.25.35.45.5" +
-	"5.65.75.85.96.06.16.26.36.46.56.66.76.86.97.07.17.27.37.47.57.67.77.87.98.08.18.28.38.48.58.68.78.88" +
-	".99.09.19.29.39.49.59.69.79.89.910.0\x0a\x00\x00\x04\x00\x06\x00\x00\x00\x05\x01\x00\x02\x03\x00\x00\x00\x00\x00\x03\x00\x02\x01\x00\x00\x00\x00\x00\x00\x00\x00\x00\xf0\x10\x00\x00\x00\x00\x00@\x18\x11\x00\x00\x00\x00\x00@\xa8\x10\x00\x00\x00\x00\x00@@\x11\x00\x00\x00\x00\x00@" +
-	"\xb0\x11\x00\x00\x00\x00\x00@\xb0\x11\x00\x00\x00\x00\x00@\xb0\x11\x00\x00\x00\x00\x00@x\x11\x00\x00\x00\x00\x00@\xb0\x11\x00\x00\x00\x00\x00@\xb0\x11\x00\x00\x00\x00\x00@\xb0\x11\x00\x00\x00\x00\x00@\xe8\x11\x00\x00\x00\x00\x00@0\x12\x00\x00\x00\x00\x00@0\x12\x00\x00\x00\x00\x00@0\x12\x00\x00\x00\x00\x00@\xd0\x12\x00\x00\x00\x00\x00@\x08\x13\x00\x00" +
-	"\x00\x00\x00@x\x12\x00\x00\x00\x00\x00@@\x13\x00\x00\x00\x00\x00@\x18\x14\x00\x00\x00\x00\x00@\xd0\x13\x00\x00\x00\x00\x00@\x18\x14\x00\x00\x00\x00\x00@\x88\x13\x00\x00\x00\x00\x00@\xd0\x13\x00\x00\x00\x00\x00@\xd0\x13\x00\x00\x00\x00\x00@\xd0\x13\x00\x00\x00\x00\x00@p\x14\x00\x00\x00\x00\x00@\xa8\x14\x00\x00\x00\x00\x00@0\x12\x00\x00\x00\x00\x00@" +
-	"\x08\x13\x00\x00\x00\x00\x00@(\x15\x00\x00\x00\x00\x00@\xf0\x14\x00\x00\x00\x00\x00@\x8b\x01\x00\x00\x00\x00\x00\x00\x86\x02\x00\x00\x00\x00\x00\x00\xe8\x03\x00\x00\x00\x00\x00\x00^\x01\x00\x00\x00\x00\x00\x00b\x02\x00\x00\x00\x00\x00\x00\xc6\x02\x00\x00\x00\x00\x00\x00\xc2\x01\x00\x00\x00\x00\x00\x000\x02\x00\x00\x00\x00\x00\x00\xc0\x02\x00\x00\x00\x00\x00\x00\x00\x00\x00\x00" +
-	"\x00\x00\x00\x00\x13\x01\x00\x00\x00\x00\x00\x00\x94\x02\x00\x00\x00\x00\x00\x00R\x03\x00\x00\x00\x00\x00\x00\x84\x03\x00\x00\x00\x00\x00\x00\xb6\x03\x00\x00\x00\x00\x00\x00\xe8\x03\x00\x00\x00\x00\x00\x00\xe8\x03\x00\x00\x00\x00\x00\x00f\x03\x00\x00\x00\x00\x00\x00\x84\x03\x00\x00\x00\x00\x00\x00\xb6\x03\x00\x00\x00\x00\x00\x00\xe8\x03\x00\x00\x00\x00\x00\x00\xe8\x03\x00\x00\x00\x00\x00\x00" +
-	"\x84\x03\x00\x00\x00\x00\x00\x00\xb6\x03\x00\x00\x00\x00\x00\x00\xe8\x03\x00\x00\x00\x00\x00\x00\xe8\x03\x00\x00\x00\x00\x00\x00\x00\x00\x00\x00\x00\x00\x00\x00d\x00\x00\x00\x00\x00\x00\x00,\x01\x00\x00\x00\x00\x00\x00\x90\x01\x00\x00\x00\x00\x00\x00\xf4\x01\x00\x00\x00\x00\x00\x00\x00\x00\x00\x00\x00\x00\x00\x00\x00\x00\x00\x00\x00\x00\x00\x00\xfa\x00\x00\x00\x00\x00\x00\x00\xee\x02\x00\x00" +
-	"\x00\x00\x00\x00\xe8\x03\x00\x00\x00\x00\x00\x00\xe8\x03\x00\x00\x00\x00\x00\x00\xf4\x01\x00\x00\x00\x00\x00\x00\xe8\x03\x00\x00\x00\x00\x00\x00\xe6\x05\x00\x00\x00\x00\x00\x00\xe8\x03\x00\x00\x00\x00\x00\x00\x1e\x00\x00\x00\x14\x00\x00\x00\x0f\x00\x00\x00\x00\x00\x00\x00d\x00\x00\x00\x00\x00\x00\x00d\x00\x00\x00\x00\x00\x00\x00a\x00\x00\x00\x00\x00\x00\x00^\x00\x00\x00\x00\x00\x00\x00" +
-	"[\x00\x00\x00\x00\x00\x00\x00d\x00\x00\x00\x00\x00\x00\x00d\x00\x00\x00\x00\x00\x00\x00a\x00\x00\x00\x00\x00\x00\x00`\x00\x00\x00\x00\x00\x00\x00_\x00\x00\x00\x00\x00\x00\x00d\x00\x00\x00\x00\x00\x00\x00d\x00\x00\x00\x00\x00\x00\x00`\x00\x00\x00\x00\x00\x00\x00\x5c\x00\x00\x00\x00\x00\x00\x00d\x00\x00\x00\x00\x00\x00\x00\x96\x00\x00\x00\x00\x00\x00\x00d\x00\x00\x00" +
-	"\x00\x00\x00\x002\x00\x00\x00\x00\x00\x00\x00\x14\x00\x00\x00\x00\x00\x00\x007\x00\x00\x00\x00\x00\x00\x00>\x00\x00\x00\x00\x00\x00\x00U\x00\x00\x00\x00\x00\x00\x00\x00\x00\x00\x00\x00\x00\x00\x00\x16\x00\x00\x00\x00\x00\x00\x008\x00\x00\x00\x00\x00\x00\x00\xb0E<\x00\x00\x00\x00\x00`\x92b\x00\x00\x00\x00\x00\x80\x96\x98\x00\x00\x00\x00\x00\xe0g5\x00\x00\x00\x00\x00" +
-	" \x14]\x00\x00\x00\x00\x00`Vl\x00\x00\x00\x00\x00 \xaaD\x00\x00\x00\x00\x00\x00sU\x00\x00\x00\x00\x00\x00lk\x00\x00\x00\x00\x00\x00\x00\x00\x00\x00\x00\x00\x000\xf6)\x00\x00\x00\x00\x00@\xb5d\x00\x00\x00\x00\x00 \xb3\x81\x00\x00\x00\x00\x00@T\x89\x00\x00\x00\x00\x00`\xf5\x90\x00\x00\x00\x00\x00\x80\x96\x98\x00\x00\x00\x00\x00\x80\x96\x98\x00" +
-	"\x00\x00\x00\x00`\xc0\x84\x00\x00\x00\x00\x00@T\x89\x00\x00\x00\x00\x00`\xf5\x90\x00\x00\x00\x00\x00\x80\x96\x98\x00\x00\x00\x00\x00\x80\x96\x98\x00\x00\x00\x00\x00@T\x89\x00\x00\x00\x00\x00`\xf5\x90\x00\x00\x00\x00\x00\x80\x96\x98\x00\x00\x00\x00\x00\x80\x96\x98\x00\x00\x00\x00\x00\x00\x00\x00\x00\x00\x00\x00\x00@B\x0f\x00\x00\x00\x00\x00\xc0\xc6-\x00\x00\x00\x00\x00" +
-	"\x00\x09=\x00\x00\x00\x00\x00@KL\x00\x00\x00\x00\x00\x00\x00\x00\x00\x00\x00\x00\x00\x00\x00\x00\x00\x00\x00\x00\x00\xa0%&\x00\x00\x00\x00\x00\xe0pr\x00\x00\x00\x00\x00\x80\x96\x98\x00\x00\x00\x00\x00\x80\x96\x98\x00\x00\x00\x00\x00@KL\x00\x00\x00\x00\x00\x80\x96\x98\x00\x00\x00\x00\x00`h\xe6\x00\x00\x00\x00\x00\x80\x96\x98\x00\x00\x00\x00\x00b\x06\x00\x00" +
-	"\x00\x00\x00@`\x06\x00\x00\x00\x00\x00@\x0e\x00\x00\x00\x00\x00\x00@\x10\x00\x00\x00\x00\x00\x00@\x0f\x00\x00\x00\x00\x00\x00@c\x06\x00\x00\x00\x00\x00@e\x06\x00\x00\x00\x00\x00@\x0f\x00\x00\x00\x00\x00\x00@c\x06\x00\x00\x00\x00\x00@\x10\x00\x00\x00\x00\x00\x00@\xf0&\x00\x00\x00\x00\x00@e\x06\x00\x00\x00\x00\x00@c\x06\x00\x00\x00\x00\x00@" +
-	"\x0f\x00\x00\x00\x00\x00\x00@c\x06\x00\x00\x00\x00\x00@\x0e\x00\x00\x00\x00\x00\x00@\x0f\x00\x00\x00\x00\x00\x00@\x10\x00\x00\x00\x00\x00\x00@\xf0&\x00\x00\x00\x00\x00@\xf0&\x00\x00\x00\x00\x00@`\x06\x00\x00\x00\x00\x00@\x0e\x00\x00\x00\x00\x00\x00@\xf0&\x00\x00\x00\x00\x00@`\x06\x00\x00\x00\x00\x00@\x0e\x00\x00\x00\x00\x00\x00@\x10\x00\x00\x00" +
-	"\x00\x00\x00@\xf0&\x00\x00\x00\x00\x00@\x0f\x00\x00\x00\x00\x00\x00@c\x06\x00\x00\x00\x00\x00@\x10\x00\x00\x00\x00\x00\x00@\xf0&\x00\x00\x00\x00\x00@\x10\x00\x00\x00\x00\x00\x00@\x0e\x00\x00\x00\x00\x00\x00@`\x06\x00\x00\x00\x00\x00@\xf0&\x00\x00\x00\x00\x00@\x10\x00\x00\x00\x00\x00\x00@\x0e\x00\x00\x00\x00\x00\x00@`\x06\x00\x00\x00\x00\x00@" +
-	"b\x06\x00\x00\x00\x00\x00@\xf0&\x00\x00\x00\x00\x00@c\x06\x00\x00\x00\x00\x00@\x10\x00\x00\x00\x00\x00\x00@\xf0&\x00\x00\x00\x00\x00@\xcf(\x00\x00\x00\x00\x00@\x10\x00\x00\x00\x00\x00\x00@\xf0&\x00\x00\x00\x00\x00@\x0f\x00\x00\x00\x00\x00\x00@e\x06\x00\x00\x00\x00\x00@\xd0(\x00\x00\x00\x00\x00@\xf0&\x00\x00\x00\x00\x00@\xd1(\x00\x00" +
-	"\x00\x00\x00@d\x06\x00\x00\x00\x00\x00@\xf0&\x00\x00\x00\x00\x00@\x0e\x00\x00\x00\x00\x00\x00@a\x06\x00\x00\x00\x00\x00@`\x06\x00\x00\x00\x00\x00@\xf0&\x00\x00\x00\x00\x00@`\x06\x00\x00\x00\x00\x00@i\x06\x00\x00\x00\x00\x00@c\x06\x00\x00\x00\x00\x00@e\x06\x00\x00\x00\x00\x00@\xf0&\x00\x00\x00\x00\x00@e\x06\x00\x00\x00\x00\x00@" +
-	"p\x06\x00\x00\x00\x00\x00@I(\x00\x00\x00\x00\x00@J(\x00\x00\x00\x00\x00@\xf0&\x00\x00\x00\x00\x00@d\x06\x00\x00\x00\x00\x00@H(\x00\x00\x00\x00\x00@e\x06\x00\x00\x00\x00\x00@\xf0&\x00\x00\x00\x00\x00@`\x06\x00\x00\x00\x00\x00@a\x06\x00\x00\x00\x00\x00@\x0e\x00\x00\x00\x00\x00\x00@c\x06\x00\x00\x00\x00\x00@\x0e\x00\x00\x00" +
-	"\x00\x00\x00@\x0f\x00\x00\x00\x00\x00\x00@\x10\x00\x00\x00\x00\x00\x00@`\x06\x00\x00\x00\x00\x00@\x0e\x00\x00\x00\x00\x00\x00@\x10\x00\x00\x00\x00\x00\x00@\x10\x00\x00\x00\x00\x00\x00@\x0e\x00\x00\x00\x00\x00\x00@`\x06\x00\x00\x00\x00\x00@\x04\x00\x00\x00\x00\x03\x01\x00\x02\x00\x00\x00\x01\x02\x00\x00\x00\x00\x00\x01\x00\x01\x01\x00\x00\x00\x00\x00\x02\x00\x01\x00" +
-	"\x00\x00\x00\x00\x00\x00\x00\x00\x0e\x00\x00\x00\x00\x00\x00@\x0f\x00\x00\x00\x00\x00\x00@\x10\x00\x00\x00\x00\x00\x00@`\x06\x00\x00\x00\x00\x00@a\x06\x00\x00\x00\x00\x00@\x0e\x00\x00\x00\x00\x00\x00@a\x06\x00\x00\x00\x00\x00@b\x06\x00\x00\x00\x00\x00@\x10\x00\x00\x00\x00\x00\x00@\x10\x00\x00\x00\x00\x00\x00@c\x06\x00\x00\x00\x00\x00@d\x06\x00\x00" +
-	"\x00\x00\x00@e\x06\x00\x00\x00\x00\x00@f\x06\x00\x00\x00\x00\x00@i\x06\x00\x00\x00\x00\x00@`\x06\x00\x00\x00\x00\x00@j\x06\x00\x00\x00\x00\x00@\x01\x00\x00\x00\x00\x00\x00\x00\x03\x00\x00\x00\x00\x00\x00\x00\x01\x00\x00\x00\x00\x00\x00\x00\x01\x00\x00\x00\x00\x00\x00\x00\x02\x00\x00\x00\x00\x00\x00\x00l\x06\x00\x00\x00\x00\x00@n\x06\x00\x00\x00\x00\x00@" +
-	"p\x06\x00\x00\x00\x00\x00@e\x06\x00\x00\x00\x00\x00@j\x06\x00\x00\x00\x00\x00@\x02\x00\x00\x00\x00\x00\x00\x00\x02\x00\x00\x00\x00\x00\x00\x00\x01\x00\x00\x00\x00\x00\x00\x00\x01\x00\x00\x00\x00\x00\x00\x00\x02\x00\x00\x00\x00\x00\x00\x00q\x06\x00\x00\x00\x00\x00@s\x06\x00\x00\x00\x00\x00@d\x06\x00\x00\x00\x00\x00@j\x06\x00\x00\x00\x00\x00@\x02\x00\x00\x00" +
-	"\x00\x00\x00\x00\x02\x00\x00\x00\x00\x00\x00\x00\x01\x00\x00\x00\x00\x00\x00\x00\x02\x00\x00\x00\x00\x00\x00\x00\x10\x00\x00\x00\x00\x00\x00@\x0e\x00\x00\x00\x00\x00\x00@u\x06\x00\x00\x00\x00\x00@w\x06\x00\x00\x00\x00\x00@`\x06\x00\x00\x00\x00\x00@j\x06\x00\x00\x00\x00\x00@\x01\x00\x00\x00\x00\x00\x00\x00\x01\x00\x00\x00\x00\x00\x00\x00\x02\x00\x00\x00\x00\x00\x00\x00" +
-	"\x02\x00\x00\x00\x00\x00\x00\x00\x01\x00\x00\x00\x00\x00\x00\x00\x02\x00\x00\x00\x00\x00\x00\x00\x10\x00\x00\x00\x00\x00\x00@\x0e\x00\x00\x00\x00\x00\x00@a\x06\x00\x00\x00\x00\x00@`\x06\x00\x00\x00\x00\x00@j\x06\x00\x00\x00\x00\x00@\x01\x00\x00\x00\x00\x00\x00\x00\x01\x00\x00\x00\x00\x00\x00\x00\x01\x00\x00\x00\x00\x00\x00\x00\x01\x00\x00\x00\x00\x00\x00\x00\x02\x00\x00\x00" +
-	"\x00\x00\x00\x00\x0e\x00\x00\x00\x00\x00\x00@a\x06\x00\x00\x00\x00\x00@`\x06\x00\x00\x00\x00\x00@j\x06\x00\x00\x00\x00\x00@\x01\x00\x00\x00\x00\x00\x00\x00\x01\x00\x00\x00\x00\x00\x00\x00\x01\x00\x00\x00\x00\x00\x00\x00\x02\x00\x00\x00\x00\x00\x00\x00\x04\x00\x00\x00\x00\x00\x00\x00\x03\x00\x00\x00\x00\x00\x00\x00\x06\x00\x00\x00\x00\x00\x00\x00\x04\x00\x00\x00\x00\x00\x00\x00" +
-	"\x08\x00\x00\x00\x00\x00\x00\x00\xa8(\x00\x00\x00\x00\x00@\xac(\x00\x00\x00\x00\x00@\xaf(\x00\x00\x00\x00\x00@\xb5(\x00\x00\x00\x00\x00@\xb9(\x00\x00\x00\x00\x00@\x06\x00\x00\x00\x00\x00\x00\x00\x07\x00\x00\x00\x00\x00\x00\x00\x07\x00\x00\x00\x00\x00\x00\x00\x08\x00\x00\x00\x00\x00\x00\x002*\x00\x00\x00\x00\x00@8*\x00\x00\x00\x00\x00@?*\x00\x00" +
-	"\x00\x00\x00@F*\x00\x00\x00\x00\x00@\x03\x00\x00\x00\x00\x00\x00\x00\x03\x00\x00\x00\x00\x00\x00\x00\x03\x00\x00\x00\x00\x00\x00\x00\x03\x00\x00\x00\x00\x00\x00\x00\x03\x00\x00\x00\x00\x00\x00\x00\x03\x00\x00\x00\x00\x00\x00\x00\x05\x00\x00\x00\x00\x00\x00\x00\x05\x00\x00\x00\x00\x00\x00\x00\x04\x00\x00\x00\x00\x00\x00\x00\x06\x00\x00\x00\x00\x00\x00\x00\x05\x00\x00\x00\x00\x00\x00\x00" +
-	"\x04\x00\x00\x00\x00\x00\x00\x00\x04\x00\x00\x00\x00\x00\x00\x00\x04\x00\x00\x00\x00\x00\x00\x00\x98.\x00\x00\x00\x00\x00@\x88-\x00\x00\x00\x00\x00@\xf8,\x00\x00\x00\x00\x00@\x08.\x00\x00\x00\x00\x00@\x98.\x00\x00\x00\x00\x00@\x98.\x00\x00\x00\x00\x00@8/\x00\x00\x00\x00\x00@(0\x00\x00\x00\x00\x00@ 1\x00\x00\x00\x00\x00@\xf81\x00\x00" +
-	"\x00\x00\x00@\x083\x00\x00\x00\x00\x00@\xf03\x00\x00\x00\x00\x00@\xf03\x00\x00\x00\x00\x00@\xf03\x00\x00\x00\x00\x00@\x03\x00\x00\x00\x00\x00\x00\x00\x02\x00\x00\x00\x00\x00\x00\x00\x04\x00\x00\x00\x00\x00\x00\x00\x03\x00\x00\x00\x00\x00\x00\x00\x03\x00\x00\x00\x00\x00\x00\x00\x03\x00\x00\x00\x00\x00\x00\x00\x02\x00\x00\x00\x00\x00\x00\x00\x02\x00\x00\x00\x00\x00\x00\x00" +
-	"\x05\x00\x00\x00\x00\x00\x00\x00\x05\x00\x00\x00\x00\x00\x00\x00\x04\x00\x00\x00\x00\x00\x00\x00\x04\x00\x00\x00\x00\x00\x00\x00\x04\x00\x00\x00\x00\x00\x00\x00\x04\x00\x00\x00\x00\x00\x00\x00\x05\x00\x00\x00\x00\x00\x00\x00\x03\x00\x00\x00\x00\x00\x00\x00\x04\x00\x00\x00\x00\x00\x00\x00\x03\x00\x00\x00\x00\x00\x00\x00\x03\x00\x00\x00\x00\x00\x00\x00\x04\x00\x00\x00\x00\x00\x00\x00\x04\x00\x00\x00" +
-	"\x00\x00\x00\x00\x04\x00\x00\x00\x00\x00\x00\x00\x107\x00\x00\x00\x00\x00@\x805\x00\x00\x00\x00\x00@\xc84\x00\x00\x00\x00\x00@\x107\x00\x00\x00\x00\x00@\x107\x00\x00\x00\x00\x00@\xe85\x00\x00\x00\x00\x00@\xb86\x00\x00\x00\x00\x00@h6\x00\x00\x00\x00\x00@\x987\x00\x00\x00\x00\x00@p8\x00\x00\x00\x00\x00@P9\x00\x00\x00\x00\x00@" +
-	"\x00:\x00\x00\x00\x00\x00@\x00:\x00\x00\x00\x00\x00@\x00:\x00\x00\x00\x00\x00@\xb8:\x00\x00\x00\x00\x00@\xa8;\x00\x00\x00\x00\x00@@<\x00\x00\x00\x00\x00@\xf8<\x00\x00\x00\x00\x00@x=\x00\x00\x00\x00\x00@\x18>\x00\x00\x00\x00\x00@\x18>\x00\x00\x00\x00\x00@\x18>\x00\x00\x00\x00\x00@\x02\x00\x00\x00\x00\x00\x00\x00\x02\x00\x00\x00" +
-	"\x00\x00\x00\x00\x04\x00\x00\x00\x00\x00\x00\x00\x03\x00\x00\x00\x00\x00\x00\x00\x03\x00\x00\x00\x00\x00\x00\x00\x03\x00\x00\x00\x00\x00\x00\x00\x03\x00\x00\x00\x00\x00\x00\x00\x03\x00\x00\x00\x00\x00\x00\x00\x03\x00\x00\x00\x00\x00\x00\x00\x03\x00\x00\x00\x00\x00\x00\x00\x03\x00\x00\x00\x00\x00\x00\x00\x04\x00\x00\x00\x00\x00\x00\x00\x04\x00\x00\x00\x00\x00\x00\x00\x04\x00\x00\x00\x00\x00\x00\x00" +
-	"\x04\x00\x00\x00\x00\x00\x00\x00\x03\x00\x00\x00\x00\x00\x00\x00\x03\x00\x00\x00\x00\x00\x00\x00\x05\x00\x00\x00\x00\x00\x00\x00\x04\x00\x00\x00\x00\x00\x00\x00\x05\x00\x00\x00\x00\x00\x00\x00\x04\x00\x00\x00\x00\x00\x00\x00\x05\x00\x00\x00\x00\x00\x00\x00\x04\x00\x00\x00\x00\x00\x00\x00\x04\x00\x00\x00\x00\x00\x00\x00\x04\x00\x00\x00\x00\x00\x00\x00\x04\x00\x00\x00\x00\x00\x00\x00\x03\x00\x00\x00" +
-	"\x00\x00\x00\x00\x04\x00\x00\x00\x00\x00\x00\x00\x04\x00\x00\x00\x00\x00\x00\x00\x03\x00\x00\x00\x00\x00\x00\x00\x05\x00\x00\x00\x00\x00\x00\x00\x03\x00\x00\x00\x00\x00\x00\x00\x805\x00\x00\x00\x00\x00@\xa8?\x00\x00\x00\x00\x00@\xf0>\x00\x00\x00\x00\x00@\xe85\x00\x00\x00\x00\x00@\x107\x00\x00\x00\x00\x00@\x107\x00\x00\x00\x00\x00@\x107\x00\x00\x00\x00\x00@" +
-	"\xf8?\x00\x00\x00\x00\x00@\x107\x00\x00\x00\x00\x00@\x107\x00\x00\x00\x00\x00@\x107\x00\x00\x00\x00\x00@\x00A\x00\x00\x00\x00\x00@\xb8A\x00\x00\x00\x00\x00@\xb8A\x00\x00\x00\x00\x00@\xb8A\x00\x00\x00\x00\x00@\xa8;\x00\x00\x00\x00\x00@HC\x00\x00\x00\x00\x00@XB\x00\x00\x00\x00\x00@@<\x00\x00\x00\x00\x00@\xa8E\x00\x00" +
-	"\x00\x00\x00@\xe8D\x00\x00\x00\x00\x00@\xa8E\x00\x00\x00\x00\x00@\xc8C\x00\x00\x00\x00\x00@\x18>\x00\x00\x00\x00\x00@\x18>\x00\x00\x00\x00\x00@\x18>\x00\x00\x00\x00\x00@(G\x00\x00\x00\x00\x00@\xa8G\x00\x00\x00\x00\x00@\x10I\x00\x00\x00\x00\x00@\x98F\x00\x00\x00\x00\x00@\xc0I\x00\x00\x00\x00\x00@hH\x00\x00\x00\x00\x00@" +
-	"\x06\x00\x00\x00\x00\x00\x00\x00\x04\x00\x00\x00\x00\x00\x00\x00\x08\x00\x00\x00\x00\x00\x00\x00\x97J\x00\x00\x00\x00\x00@\x9dJ\x00\x00\x00\x00\x00@\xa1J\x00\x00\x00\x00\x00@\xd2(\x00\x00\x00\x00\x00@\x0b\x00\x00\x00\x00\x00\x00@\x05\x00\x00\x00\x00\x00\x00@\x08\x00\x00\x00\x00\x00\x00@\x14\x00\x00\x00\x1e\x00\x00\x00\x1f\x00\x00\x00(\x00\x00\x00"
+	"\x8c\x00\x00\x00\xa8\x00\x00\x00\xd2\x00\x00\x00RTObase\x00\x00\x00\x00\x00\x00\x00\x00\x00\x01\x00\x00\x00\x00\x00\x00\x00\x00\x00\x00\x00\x00\x00\x00\x00\x02\x00\x00\x00\x00\x00\x00\x00\x00\x00\x00\x00\x00\x00\x00\x00\x00\x00\x00\x00\x00\x00\x00\x00\x00\x00\x00\x00\x00\x00\x00\x00\x03\x00\x00\x00\x00\x00\x00\x00\x00\x00\x00\x00\x00\x00\x00\x00\x04\x00\x00\x00\x00\x00\x00\x00" +
+	"environmental\x00\x00\x00\x00\x00\x00\x00\x00\x00\x00\x00\x01\x00\x00\x00\x00\x00\x00\x00\x00\x00\x00\x00\x00\x00\x00\x00\x00\x00\x00\x00\x00\x00\x00\x00\x00\x00\x00\x00\x00\x00\x00\x00\x02\x00\x00\x00\x00\x00\x00\x00\x00\x00\x00\x00\x00\x00\x00\x00\x03\x00\x00\x00\x00\x00\x00\x00\x00\x00\x00\x00\x00\x00\x00\x00\x04\x00\x00\x00\x00\x00\x00\x00line" +
+	"scoreseveritytemporal\x00\x00\x00\x00\x00\x00\x00\x00\x00\x00\x00\x00\x00\x00\x00\x00\x00\x00\x00\x00\x00\x00\x00\x00\x00\x00\x00\x00\x00\x00\x00\x01\x00\x00\x00\x00\x00\x00\x00vectorversionweights\x22:\x00\x01\x0d\x02\x03\x04\x09\x0b\x06\x05\x0c\x08\x07\x0a\x00\x0c\x01\x02" +
+	"\x0d\x0b\x0e\x03\x04\x05\x06\x07\x08\x09\x0anonelowmediumhighcriticalCVSS:4.CVSS:3.YID2.0null\x00\x00\x00\x00@B\x0f\x00\x00\x00\x00\x00\xa0\x86\x01\x00\x00\x00\x00\x00\x10'\x00\x00\x00\x00\x00\x00\xe8\x03\x00\x00\x00\x00\x00\x00d\x00\x00\x00" +
+	"\x00\x00\x00\x00\x0a\x00\x00\x00\x00\x00\x00\x00\x01\x00\x00\x00\x00\x00\x00\x00issimpactexploitabilityfnumbermissmodifiedImpactmodifiedExploitabilityfirstNumbe" +
+	"rfirstScoreadjustedImpactadjustedBaseadjustedTemporal[]EQ1EQ2EQ3+EQ6EQ4EQ5classdepthdistancegapgroup" +
+	"nextnextValueshareeffectivegroupsmacroVectormeannomenclaturevalueCVSS-BCVSS-BECVSS-BTCVSS-BTE\x00\x00\x00\x00\x00\x00\x00" +
+	"\x00\x00\x00\x00\x00\x00\x00\x00\x02\x00\x00\x00\x00\x00\x00\x00\x00\x00\x00\x00\x00\x00\x00\x00\x01\x00\x00\x00\x00\x00\x00\x00\x00\x00\x00\x00\x00\x00\x00\x00\x00\x00\x00\x00\x00\x00\x00\x00\x00\x00\x00\x00\x00\x00\x00\x00\x03\x00\x00\x00\x00\x00\x00\x00\x00\x00\x00\x00\x00\x00\x00\x00\x04\x00\x00\x00\x00\x00\x00\x00\x01\x00\x00\x00\x00\x00\x00\x00\x04\x00\x00\x00\x00\x00\x00\x00\x00\x00\x00\x00" +
+	"\x00\x00\x00\x00\x03\x00\x00\x00\x00\x00\x00\x00\x00\x00\x00\x00\x00\x00\x00\x00\x04\x00\x00\x00\x00\x00\x00\x00\x00\x00\x00\x00\x00\x00\x00\x00\x00\x00\x00\x00\x00\x00\x00\x00\x00\x00\x00\x00\x00\x00\x00\x00\x02\x00\x00\x00\x00\x00\x00\x00\x00\x00\x00\x00\x00\x00\x00\x00\x01\x00\x00\x00\x00\x00\x00\x00\x00\x00\x00\x00\x00\x00\x00\x00\x05\x00\x00\x00\x00\x00\x00\x00\x00\x00\x00\x00\x00\x00\x00\x00" +
+	"\x06\x00\x00\x00\x00\x00\x00\x00\x01\x00\x00\x00\x00\x00\x00\x00\x06\x00\x00\x00\x00\x00\x00\x00modifiedScopescope\x00\x00\x00\x00\x00\x00\x00\x00\x00\x00\x00\x00\x00\x00\x00\x00\x00\x00\x00\x00\x00\x00\x00\x00\x00\x00\x00\x00\x00\x00\x01\x00\x00\x00\x00\x00\x00\x00\x01\x00\x00\x00\x00\x00\x00\x00\x01\x00\x00\x00\x00\x00\x00\x00ACAR" +
+	"AVCREIRMAMACMAVMCMIMPRMUIPRRCRLUIunsupported CVSS versionnot UTF-8invalid CVSS metric group componen" +
+	"t: ``invalid CVSS string prefix: `unsupported CVSS version: unknown CVSS metric name: `invalid : `du" +
+	"plicate missing mandatory \x01\x01\x01\x01\x01\x01\x01\x01\x01\x01\x01\x01\x01\x01\x01\x01\x01\x01\x01\x01\x01\x01\x01\x01\x01\x01\x01\x01\x01\x01\x01\x01\x01\x01\x01\x01\x01\x00\x01\x01\x01\x01\x01\x01\x01\x01\x00\x00\x00\x00\x00\x00\x00\x00\x00\x00\x00\x00\x00\x01\x01\x01\x01\x01\x01\x00\x00\x01\x00\x00\x00\x00\x00\x00" +
+	"\x00\x00\x00\x00\x00\x00\x00\x00\x00\x00\x00\x00\x00\x00\x00\x00\x00\x01\x01\x01\x01\x01\x01\x00\x00\x01\x00\x00\x00\x00\x00\x00\x00\x00\x00\x00\x00\x00\x00\x00\x00\x00\x00\x00\x00\x00\x00\x00\x00\x01\x01\x01\x01\x01\x01\x01\x01\x01\x01\x01\x01\x01\x01\x01\x01\x01\x01\x01\x01\x01\x01\x01\x01\x01\x01\x01\x01\x01\x01\x01\x01\x01\x01\x01\x01\x01\x01\x01\x01\x01\x01\x01\x01\x01\x01\x01\x01\x01\x01\x01" +
+	"\x01\x01\x01\x01\x01\x01\x01\x01\x01\x01\x01\x01\x01\x01\x01\x01\x01\x01\x01\x01\x01\x01\x01\x01\x01\x01\x01\x01\x01\x01\x01\x01\x01\x01\x01\x01\x01\x01\x01\x01\x01\x01\x01\x01\x01\x01\x01\x01\x01\x01\x01\x01\x01\x01\x01\x01\x01\x01\x01\x01\x01\x01\x01\x01\x01\x01\x01\x01\x01\x01\x01\x01\x01\x01\x01\x01\x01\x01\x01\x01\x01\x01CVSS%3A0.0%2FAV%3A" +
+	"/\x00\x01\x00\x02\x00\x03\x00\x00\x00\x0d\x03\x00\x00\x09\x00\x04\x00\x0b\x03\x02\x00\x06\x00\x05\x00\x0c\x00\x07\x00\x08\x00\x0a\x03\x01\x05\x00\x06\x00\x02\x1a\x02\x1b\x02\x1d\x02\x00\x02\x01\x02\x02\x02\x0c\x03\x00\x04\x00\x02\x0d\x02\x0b\x02\x0e\x02\x0f\x02\x10\x02\x11\x02\x12\x02\x13\x02\x14\x02\x15\x02\x16\x02\x17\x02\x18\x02\x19\x02\x03\x02\x1e\x02\x04\x02\x05\x02\x06\x02\x07\x02\x1f\x05" +
+	"\x00\x06\x00\x02\x08\x02\x09\x02\x0a\x02\x1c\x01\x01\x01\x02\x01\x00\x01\x0d\x03\x00\x04\x00\x01\x03\x01\x0b\x03\x02\x04\x02\x01\x08\x01\x04\x01\x0c\x01\x0f\x01\x0e\x01\x15\x01\x13\x01\x14\x01\x10\x01\x12\x01\x11\x01\x05\x01\x09\x01\x0a\x01\x06\x03\x01\x04\x01\x01\x07\x05\x00\x06\x00vectorStringaccessVector\x00\x00\x00\x00\x00" +
+	"@/\x00\x00\x00\x00\x00@\x01\x00\x00\x00\x00\x00\x00\x00A/\x00\x00\x00\x00\x00@\x05\x00\x00\x00\x00\x00\x00\x00F/\x00\x00\x00\x00\x00@\x01\x00\x00\x00\x00\x00\x00\x00G/\x00\x00\x00\x00\x00@\x10\x00\x00\x00\x00\x00\x00\x00W/\x00\x00\x00\x00\x00@\x01\x00\x00\x00\x00\x00\x00\x00X/\x00\x00\x00\x00\x00@\x07\x00\x00\x00\x00\x00\x00\x00LLOC" +
+	"ALAADJACENT_NETWORKNNETWORK\x00accessComplexity\xd0/\x00\x00\x00\x00\x00@\x01\x00\x00\x00\x00\x00\x00\x00\xd1/\x00\x00\x00\x00\x00@\x04\x00\x00\x00\x00\x00\x00\x00\xd5/\x00\x00\x00\x00\x00@\x01\x00\x00\x00\x00\x00\x00\x00\xd6/\x00\x00\x00\x00\x00@" +
+	"\x06\x00\x00\x00\x00\x00\x00\x00\xdc/\x00\x00\x00\x00\x00@\x01\x00\x00\x00\x00\x00\x00\x00\xdd/\x00\x00\x00\x00\x00@\x03\x00\x00\x00\x00\x00\x00\x00HHIGHMMEDIUMLLOWauthentication\x00\x00P0\x00\x00\x00\x00\x00@\x01\x00\x00\x00\x00\x00\x00\x00Q0\x00\x00\x00\x00\x00@\x08\x00\x00\x00" +
+	"\x00\x00\x00\x00Y0\x00\x00\x00\x00\x00@\x01\x00\x00\x00\x00\x00\x00\x00Z0\x00\x00\x00\x00\x00@\x06\x00\x00\x00\x00\x00\x00\x00`0\x00\x00\x00\x00\x00@\x01\x00\x00\x00\x00\x00\x00\x00a0\x00\x00\x00\x00\x00@\x04\x00\x00\x00\x00\x00\x00\x00MMULTIPLESSINGLENNONE\x00\x00\x00confiden" +
+	"tialityImpact\x00\x00\x00\xe00\x00\x00\x00\x00\x00@\x01\x00\x00\x00\x00\x00\x00\x00\xe10\x00\x00\x00\x00\x00@\x04\x00\x00\x00\x00\x00\x00\x00\xe50\x00\x00\x00\x00\x00@\x01\x00\x00\x00\x00\x00\x00\x00\xe60\x00\x00\x00\x00\x00@\x07\x00\x00\x00\x00\x00\x00\x00\xed0\x00\x00\x00\x00\x00@\x01\x00\x00\x00\x00\x00\x00\x00\xee0\x00\x00" +
+	"\x00\x00\x00@\x08\x00\x00\x00\x00\x00\x00\x00NNONEPPARTIALCCOMPLETE\x00\x00integrityImpactavailabilityImpact\x00\x00\x00\x00\x00\x00\x00\xc01\x00\x00\x00\x00\x00@\x01\x00\x00\x00\x00\x00\x00\x00\xc11\x00\x00\x00\x00\x00@" +
+	"\x08\x00\x00\x00\x00\x00\x00\x00\xc91\x00\x00\x00\x00\x00@\x03\x00\x00\x00\x00\x00\x00\x00\xcc1\x00\x00\x00\x00\x00@\x10\x00\x00\x00\x00\x00\x00\x00\xdc1\x00\x00\x00\x00\x00@\x01\x00\x00\x00\x00\x00\x00\x00\xdd1\x00\x00\x00\x00\x00@\x0a\x00\x00\x00\x00\x00\x00\x00\xe71\x00\x00\x00\x00\x00@\x01\x00\x00\x00\x00\x00\x00\x00\xe81\x00\x00\x00\x00\x00@\x04\x00\x00\x00" +
+	"\x00\x00\x00\x00\xec1\x00\x00\x00\x00\x00@\x02\x00\x00\x00\x00\x00\x00\x00\xee1\x00\x00\x00\x00\x00@\x0b\x00\x00\x00\x00\x00\x00\x00UUNPROVENPOCPROOF_OF_CONCEPTFFUNCTIONALHHIGHNDNOT_DEFINED\x00\x00\x00\x00\x00\x00\x00" +
+	"remediationLevel\xb02\x00\x00\x00\x00\x00@\x02\x00\x00\x00\x00\x00\x00\x00\xb22\x00\x00\x00\x00\x00@\x0c\x00\x00\x00\x00\x00\x00\x00\xbe2\x00\x00\x00\x00\x00@\x02\x00\x00\x00\x00\x00\x00\x00\xc02\x00\x00\x00\x00\x00@\x0d\x00\x00\x00\x00\x00\x00\x00\xcd2\x00\x00\x00\x00\x00@\x01\x00\x00\x00\x00\x00\x00\x00\xce2\x00\x00" +
+	"\x00\x00\x00@\x0a\x00\x00\x00\x00\x00\x00\x00\xd82\x00\x00\x00\x00\x00@\x01\x00\x00\x00\x00\x00\x00\x00\xd92\x00\x00\x00\x00\x00@\x0b\x00\x00\x00\x00\x00\x00\x00\xe42\x00\x00\x00\x00\x00@\x02\x00\x00\x00\x00\x00\x00\x00\xe62\x00\x00\x00\x00\x00@\x0b\x00\x00\x00\x00\x00\x00\x00OFOFFICIAL_FIXTFTEMPORAR" +
+	"Y_FIXWWORKAROUNDUUNAVAILABLENDNOT_DEFINED\x00\x00\x00\x00\x00\x00\x00reportConfidence\x883\x00\x00\x00\x00\x00@\x02\x00\x00\x00\x00\x00\x00\x00\x8a3\x00\x00\x00\x00\x00@\x0b\x00\x00\x00\x00\x00\x00\x00\x953\x00\x00" +
+	"\x00\x00\x00@\x02\x00\x00\x00\x00\x00\x00\x00\x973\x00\x00\x00\x00\x00@\x0e\x00\x00\x00\x00\x00\x00\x00\xa53\x00\x00\x00\x00\x00@\x01\x00\x00\x00\x00\x00\x00\x00\xa63\x00\x00\x00\x00\x00@\x09\x00\x00\x00\x00\x00\x00\x00\xaf3\x00\x00\x00\x00\x00@\x02\x00\x00\x00\x00\x00\x00\x00\xb13\x00\x00\x00\x00\x00@\x0b\x00\x00\x00\x00\x00\x00\x00UCUNCONF" +
+	"IRMEDURUNCORROBORATEDCCONFIRMEDNDNOT_DEFINED\x00\x00\x00\x00collateralDamagePotential\x00\x00\x00\x00\x00\x00\x00\xa04\x00\x00\x00\x00\x00@\x01\x00\x00\x00\x00\x00\x00\x00\xa14\x00\x00" +
+	"\x00\x00\x00@\x04\x00\x00\x00\x00\x00\x00\x00\xa54\x00\x00\x00\x00\x00@\x01\x00\x00\x00\x00\x00\x00\x00\xa64\x00\x00\x00\x00\x00@\x03\x00\x00\x00\x00\x00\x00\x00\xa94\x00\x00\x00\x00\x00@\x02\x00\x00\x00\x00\x00\x00\x00\xab4\x00\x00\x00\x00\x00@\x0a\x00\x00\x00\x00\x00\x00\x00\xb54\x00\x00\x00\x00\x00@\x02\x00\x00\x00\x00\x00\x00\x00\xb74\x00\x00\x00\x00\x00@" +
+	"\x0b\x00\x00\x00\x00\x00\x00\x00\xc24\x00\x00\x00\x00\x00@\x01\x00\x00\x00\x00\x00\x00\x00\xc34\x00\x00\x00\x00\x00@\x04\x00\x00\x00\x00\x00\x00\x00\xc74\x00\x00\x00\x00\x00@\x02\x00\x00\x00\x00\x00\x00\x00\xc94\x00\x00\x00\x00\x00@\x0b\x00\x00\x00\x00\x00\x00\x00NNONELLOWLMLOW_MEDIUMMHMEDIU" +
+	"M_HIGHHHIGHNDNOT_DEFINED\x00\x00\x00\x00targetDistribution\x00\x00\x00\x00\x00\x00\x905\x00\x00\x00\x00\x00@\x01\x00\x00\x00\x00\x00\x00\x00\x915\x00\x00\x00\x00\x00@\x04\x00\x00\x00\x00\x00\x00\x00\x955\x00\x00\x00\x00\x00@\x01\x00\x00\x00\x00\x00\x00\x00" +
+	"\x965\x00\x00\x00\x00\x00@\x03\x00\x00\x00\x00\x00\x00\x00\x995\x00\x00\x00\x00\x00@\x01\x00\x00\x00\x00\x00\x00\x00\x9a5\x00\x00\x00\x00\x00@\x06\x00\x00\x00\x00\x00\x00\x00\xa05\x00\x00\x00\x00\x00@\x01\x00\x00\x00\x00\x00\x00\x00\xa15\x00\x00\x00\x00\x00@\x04\x00\x00\x00\x00\x00\x00\x00\xa55\x00\x00\x00\x00\x00@\x02\x00\x00\x00\x00\x00\x00\x00\xa75\x00\x00" +
+	"\x00\x00\x00@\x0b\x00\x00\x00\x00\x00\x00\x00NNONELLOWMMEDIUMHHIGHNDNOT_DEFINED\x00\x00\x00\x00\x00\x00confidentialityRequirement\x00\x00\x00\x00\x00\x00X6\x00\x00\x00\x00\x00@\x01\x00\x00\x00\x00\x00\x00\x00" +
+	"Y6\x00\x00\x00\x00\x00@\x03\x00\x00\x00\x00\x00\x00\x00\x5c6\x00\x00\x00\x00\x00@\x01\x00\x00\x00\x00\x00\x00\x00]6\x00\x00\x00\x00\x00@\x06\x00\x00\x00\x00\x00\x00\x00c6\x00\x00\x00\x00\x00@\x01\x00\x00\x00\x00\x00\x00\x00d6\x00\x00\x00\x00\x00@\x04\x00\x00\x00\x00\x00\x00\x00h6\x00\x00\x00\x00\x00@\x02\x00\x00\x00\x00\x00\x00\x00j6\x00\x00" +
+	"\x00\x00\x00@\x0b\x00\x00\x00\x00\x00\x00\x00LLOWMMEDIUMHHIGHNDNOT_DEFINED\x00\x00\x00integrityRequirementavailabilityRequirementattackVector\x00" +
+	"07\x00\x00\x00\x00\x00@\x01\x00\x00\x00\x00\x00\x00\x0017\x00\x00\x00\x00\x00@\x08\x00\x00\x00\x00\x00\x00\x0097\x00\x00\x00\x00\x00@\x01\x00\x00\x00\x00\x00\x00\x00:7\x00\x00\x00\x00\x00@\x05\x00\x00\x00\x00\x00\x00\x00?7\x00\x00\x00\x00\x00@\x01\x00\x00\x00\x00\x00\x00\x00@7\x00\x00\x00\x00\x00@\x10\x00\x00\x00\x00\x00\x00\x00P7\x00\x00" +
+	"\x00\x00\x00@\x01\x00\x00\x00\x00\x00\x00\x00Q7\x00\x00\x00\x00\x00@\x07\x00\x00\x00\x00\x00\x00\x00PPHYSICALLLOCALAADJACENT_NETWORKNNETWORKattackComplexity\xa87\x00\x00\x00\x00\x00@\x01\x00\x00\x00\x00\x00\x00\x00" +
+	"\xa97\x00\x00\x00\x00\x00@\x04\x00\x00\x00\x00\x00\x00\x00\xad7\x00\x00\x00\x00\x00@\x01\x00\x00\x00\x00\x00\x00\x00\xae7\x00\x00\x00\x00\x00@\x03\x00\x00\x00\x00\x00\x00\x00HHIGHLLOW\x00\x00\x00\x00\x00\x00\x00privilegesRequired\x00\x00\x00\x00\x00\x0008\x00\x00\x00\x00\x00@\x01\x00\x00\x00" +
+	"\x00\x00\x00\x0018\x00\x00\x00\x00\x00@\x04\x00\x00\x00\x00\x00\x00\x0058\x00\x00\x00\x00\x00@\x01\x00\x00\x00\x00\x00\x00\x0068\x00\x00\x00\x00\x00@\x03\x00\x00\x00\x00\x00\x00\x0098\x00\x00\x00\x00\x00@\x01\x00\x00\x00\x00\x00\x00\x00:8\x00\x00\x00\x00\x00@\x04\x00\x00\x00\x00\x00\x00\x00HHIGHLLOWNNONE\x00\x00" +
+	"userInteraction\x00\x908\x00\x00\x00\x00\x00@\x01\x00\x00\x00\x00\x00\x00\x00\x918\x00\x00\x00\x00\x00@\x08\x00\x00\x00\x00\x00\x00\x00\x998\x00\x00\x00\x00\x00@\x01\x00\x00\x00\x00\x00\x00\x00\x9a8\x00\x00\x00\x00\x00@\x04\x00\x00\x00\x00\x00\x00\x00RREQUIREDNNONE\x00\x00\xe08\x00\x00" +
+	"\x00\x00\x00@\x01\x00\x00\x00\x00\x00\x00\x00\xe18\x00\x00\x00\x00\x00@\x09\x00\x00\x00\x00\x00\x00\x00\xea8\x00\x00\x00\x00\x00@\x01\x00\x00\x00\x00\x00\x00\x00\xeb8\x00\x00\x00\x00\x00@\x07\x00\x00\x00\x00\x00\x00\x00UUNCHANGEDCCHANGED\x00\x00\x00\x00\x00\x00X9\x00\x00\x00\x00\x00@\x01\x00\x00\x00\x00\x00\x00\x00" +
+	"Y9\x00\x00\x00\x00\x00@\x04\x00\x00\x00\x00\x00\x00\x00]9\x00\x00\x00\x00\x00@\x01\x00\x00\x00\x00\x00\x00\x00^9\x00\x00\x00\x00\x00@\x03\x00\x00\x00\x00\x00\x00\x00a9\x00\x00\x00\x00\x00@\x01\x00\x00\x00\x00\x00\x00\x00b9\x00\x00\x00\x00\x00@\x04\x00\x00\x00\x00\x00\x00\x00NNONELLOWHHIGH\x00\x00expl" +
+	"oitCodeMaturity\x00\x00\x00\x00\x00 :\x00\x00\x00\x00\x00@\x01\x00\x00\x00\x00\x00\x00\x00!:\x00\x00\x00\x00\x00@\x0b\x00\x00\x00\x00\x00\x00\x00,:\x00\x00\x00\x00\x00@\x01\x00\x00\x00\x00\x00\x00\x00-:\x00\x00\x00\x00\x00@\x04\x00\x00\x00\x00\x00\x00\x001:\x00\x00\x00\x00\x00@\x01\x00\x00\x00\x00\x00\x00\x00" +
+	"2:\x00\x00\x00\x00\x00@\x0a\x00\x00\x00\x00\x00\x00\x00<:\x00\x00\x00\x00\x00@\x01\x00\x00\x00\x00\x00\x00\x00=:\x00\x00\x00\x00\x00@\x10\x00\x00\x00\x00\x00\x00\x00M:\x00\x00\x00\x00\x00@\x01\x00\x00\x00\x00\x00\x00\x00N:\x00\x00\x00\x00\x00@\x08\x00\x00\x00\x00\x00\x00\x00XNOT_DEFINEDHHIGHFFU" +
+	"NCTIONALPPROOF_OF_CONCEPTUUNPROVEN\x00\x00\xf8:\x00\x00\x00\x00\x00@\x01\x00\x00\x00\x00\x00\x00\x00\xf9:\x00\x00\x00\x00\x00@\x0b\x00\x00\x00\x00\x00\x00\x00\x04;\x00\x00\x00\x00\x00@\x01\x00\x00\x00\x00\x00\x00\x00\x05;\x00\x00\x00\x00\x00@\x0b\x00\x00\x00\x00\x00\x00\x00" +
+	"\x10;\x00\x00\x00\x00\x00@\x01\x00\x00\x00\x00\x00\x00\x00\x11;\x00\x00\x00\x00\x00@\x0a\x00\x00\x00\x00\x00\x00\x00\x1b;\x00\x00\x00\x00\x00@\x01\x00\x00\x00\x00\x00\x00\x00\x1c;\x00\x00\x00\x00\x00@\x0d\x00\x00\x00\x00\x00\x00\x00);\x00\x00\x00\x00\x00@\x01\x00\x00\x00\x00\x00\x00\x00*;\x00\x00\x00\x00\x00@\x0c\x00\x00\x00\x00\x00\x00\x00XNOT" +
+	"_DEFINEDUUNAVAILABLEWWORKAROUNDTTEMPORARY_FIXOOFFICIAL_FIX\x00\x00\xb8;\x00\x00\x00\x00\x00@\x01\x00\x00\x00\x00\x00\x00\x00\xb9;\x00\x00\x00\x00\x00@\x0b\x00\x00\x00\x00\x00\x00\x00\xc4;\x00\x00\x00\x00\x00@" +
+	"\x01\x00\x00\x00\x00\x00\x00\x00\xc5;\x00\x00\x00\x00\x00@\x09\x00\x00\x00\x00\x00\x00\x00\xce;\x00\x00\x00\x00\x00@\x01\x00\x00\x00\x00\x00\x00\x00\xcf;\x00\x00\x00\x00\x00@\x0a\x00\x00\x00\x00\x00\x00\x00\xd9;\x00\x00\x00\x00\x00@\x01\x00\x00\x00\x00\x00\x00\x00\xda;\x00\x00\x00\x00\x00@\x07\x00\x00\x00\x00\x00\x00\x00XNOT_DEFINED" +
+	"CCONFIRMEDRREASONABLEUUNKNOWN\x00\x00\x00\x00\x00\x00\x00h<\x00\x00\x00\x00\x00@\x01\x00\x00\x00\x00\x00\x00\x00i<\x00\x00\x00\x00\x00@\x0b\x00\x00\x00\x00\x00\x00\x00t<\x00\x00\x00\x00\x00@\x01\x00\x00\x00\x00\x00\x00\x00u<\x00\x00\x00\x00\x00@\x04\x00\x00\x00\x00\x00\x00\x00" +
+	"y<\x00\x00\x00\x00\x00@\x01\x00\x00\x00\x00\x00\x00\x00z<\x00\x00\x00\x00\x00@\x06\x00\x00\x00\x00\x00\x00\x00\x80<\x00\x00\x00\x00\x00@\x01\x00\x00\x00\x00\x00\x00\x00\x81<\x00\x00\x00\x00\x00@\x03\x00\x00\x00\x00\x00\x00\x00XNOT_DEFINEDHHIGHMMEDIUMLLOW\x00\x00\x00\x00modi" +
+	"fiedAttackVector\x00\x00\x00\x00@=\x00\x00\x00\x00\x00@\x01\x00\x00\x00\x00\x00\x00\x00A=\x00\x00\x00\x00\x00@\x0b\x00\x00\x00\x00\x00\x00\x00L=\x00\x00\x00\x00\x00@\x01\x00\x00\x00\x00\x00\x00\x00M=\x00\x00\x00\x00\x00@\x08\x00\x00\x00\x00\x00\x00\x00U=\x00\x00\x00\x00\x00@\x01\x00\x00\x00\x00\x00\x00\x00" +
+	"V=\x00\x00\x00\x00\x00@\x05\x00\x00\x00\x00\x00\x00\x00[=\x00\x00\x00\x00\x00@\x01\x00\x00\x00\x00\x00\x00\x00\x5c=\x00\x00\x00\x00\x00@\x10\x00\x00\x00\x00\x00\x00\x00l=\x00\x00\x00\x00\x00@\x01\x00\x00\x00\x00\x00\x00\x00m=\x00\x00\x00\x00\x00@\x07\x00\x00\x00\x00\x00\x00\x00XNOT_DEFINEDPPHYSICA" +
+	"LLLOCALAADJACENT_NETWORKNNETWORK\x00\x00\x00\x00modifiedAttackComplexity\xf0=\x00\x00\x00\x00\x00@\x01\x00\x00\x00\x00\x00\x00\x00\xf1=\x00\x00\x00\x00\x00@\x0b\x00\x00\x00\x00\x00\x00\x00\xfc=\x00\x00\x00\x00\x00@" +
+	"\x01\x00\x00\x00\x00\x00\x00\x00\xfd=\x00\x00\x00\x00\x00@\x04\x00\x00\x00\x00\x00\x00\x00\x01>\x00\x00\x00\x00\x00@\x01\x00\x00\x00\x00\x00\x00\x00\x02>\x00\x00\x00\x00\x00@\x03\x00\x00\x00\x00\x00\x00\x00XNOT_DEFINEDHHIGHLLOW\x00\x00\x00modifiedPrivilegesRe" +
+	"quired\x00\x00\x00\x00\x00\x00\xa8>\x00\x00\x00\x00\x00@\x01\x00\x00\x00\x00\x00\x00\x00\xa9>\x00\x00\x00\x00\x00@\x0b\x00\x00\x00\x00\x00\x00\x00\xb4>\x00\x00\x00\x00\x00@\x01\x00\x00\x00\x00\x00\x00\x00\xb5>\x00\x00\x00\x00\x00@\x04\x00\x00\x00\x00\x00\x00\x00\xb9>\x00\x00\x00\x00\x00@\x01\x00\x00\x00\x00\x00\x00\x00\xba>\x00\x00\x00\x00\x00@" +
+	"\x03\x00\x00\x00\x00\x00\x00\x00\xbd>\x00\x00\x00\x00\x00@\x01\x00\x00\x00\x00\x00\x00\x00\xbe>\x00\x00\x00\x00\x00@\x04\x00\x00\x00\x00\x00\x00\x00XNOT_DEFINEDHHIGHLLOWNNONE\x00\x00\x00\x00\x00\x00modifiedUserInteraction\x00@?\x00\x00" +
+	"\x00\x00\x00@\x01\x00\x00\x00\x00\x00\x00\x00A?\x00\x00\x00\x00\x00@\x0b\x00\x00\x00\x00\x00\x00\x00L?\x00\x00\x00\x00\x00@\x01\x00\x00\x00\x00\x00\x00\x00M?\x00\x00\x00\x00\x00@\x08\x00\x00\x00\x00\x00\x00\x00U?\x00\x00\x00\x00\x00@\x01\x00\x00\x00\x00\x00\x00\x00V?\x00\x00\x00\x00\x00@\x04\x00\x00\x00\x00\x00\x00\x00XNOT_DEF" +
+	"INEDRREQUIREDNNONE\x00\x00\x00\x00\x00\x00\xc0?\x00\x00\x00\x00\x00@\x01\x00\x00\x00\x00\x00\x00\x00\xc1?\x00\x00\x00\x00\x00@\x0b\x00\x00\x00\x00\x00\x00\x00\xcc?\x00\x00\x00\x00\x00@\x01\x00\x00\x00\x00\x00\x00\x00\xcd?\x00\x00\x00\x00\x00@\x09\x00\x00\x00\x00\x00\x00\x00\xd6?\x00\x00\x00\x00\x00@\x01\x00\x00\x00" +
+	"\x00\x00\x00\x00\xd7?\x00\x00\x00\x00\x00@\x07\x00\x00\x00\x00\x00\x00\x00XNOT_DEFINEDUUNCHANGEDCCHANGED\x00\x00modifiedConfidentialityImpact\x00\x00\x00\x80@\x00\x00\x00\x00\x00@\x01\x00\x00\x00\x00\x00\x00\x00" +
+	"\x81@\x00\x00\x00\x00\x00@\x0b\x00\x00\x00\x00\x00\x00\x00\x8c@\x00\x00\x00\x00\x00@\x01\x00\x00\x00\x00\x00\x00\x00\x8d@\x00\x00\x00\x00\x00@\x04\x00\x00\x00\x00\x00\x00\x00\x91@\x00\x00\x00\x00\x00@\x01\x00\x00\x00\x00\x00\x00\x00\x92@\x00\x00\x00\x00\x00@\x03\x00\x00\x00\x00\x00\x00\x00\x95@\x00\x00\x00\x00\x00@\x01\x00\x00\x00\x00\x00\x00\x00\x96@\x00\x00" +
+	"\x00\x00\x00@\x04\x00\x00\x00\x00\x00\x00\x00XNOT_DEFINEDNNONELLOWHHIGH\x00\x00\x00\x00\x00\x00modifiedIntegrityImpactmodifiedAvailabilityImpact\x00\x00\x00\x00\x00\x00\x00" +
+	"XA\x00\x00\x00\x00\x00@\x01\x00\x00\x00\x00\x00\x00\x00YA\x00\x00\x00\x00\x00@\x08\x00\x00\x00\x00\x00\x00\x00aA\x00\x00\x00\x00\x00@\x01\x00\x00\x00\x00\x00\x00\x00bA\x00\x00\x00\x00\x00@\x05\x00\x00\x00\x00\x00\x00\x00gA\x00\x00\x00\x00\x00@\x01\x00\x00\x00\x00\x00\x00\x00hA\x00\x00\x00\x00\x00@\x08\x00\x00\x00\x00\x00\x00\x00pA\x00\x00" +
+	"\x00\x00\x00@\x01\x00\x00\x00\x00\x00\x00\x00qA\x00\x00\x00\x00\x00@\x07\x00\x00\x00\x00\x00\x00\x00PPHYSICALLLOCALAADJACENTNNETWORKattackRequirements\x00\x00\x00\x00\x00\x00\xd0A\x00\x00\x00\x00\x00@\x01\x00\x00\x00\x00\x00\x00\x00" +
+	"\xd1A\x00\x00\x00\x00\x00@\x07\x00\x00\x00\x00\x00\x00\x00\xd8A\x00\x00\x00\x00\x00@\x01\x00\x00\x00\x00\x00\x00\x00\xd9A\x00\x00\x00\x00\x00@\x04\x00\x00\x00\x00\x00\x00\x00PPRESENTNNONE\x00\x00\x00@B\x00\x00\x00\x00\x00@\x01\x00\x00\x00\x00\x00\x00\x00AB\x00\x00\x00\x00\x00@\x06\x00\x00\x00\x00\x00\x00\x00GB\x00\x00" +
+	"\x00\x00\x00@\x01\x00\x00\x00\x00\x00\x00\x00HB\x00\x00\x00\x00\x00@\x07\x00\x00\x00\x00\x00\x00\x00OB\x00\x00\x00\x00\x00@\x01\x00\x00\x00\x00\x00\x00\x00PB\x00\x00\x00\x00\x00@\x04\x00\x00\x00\x00\x00\x00\x00AACTIVEPPASSIVENNONE\x00\x00\x00\x00vulnConfidential" +
+	"ityImpactvulnIntegrityImpactvulnAvailabilityImpactsubConfidentialityImpactsubIntegrityImpactsubAvail" +
+	"abilityImpactexploitMaturityhC\x00\x00\x00\x00\x00@\x01\x00\x00\x00\x00\x00\x00\x00iC\x00\x00\x00\x00\x00@\x0b\x00\x00\x00\x00\x00\x00\x00tC\x00\x00\x00\x00\x00@\x01\x00\x00\x00\x00\x00\x00\x00uC\x00\x00\x00\x00\x00@\x0a\x00\x00\x00\x00\x00\x00\x00\x7fC\x00\x00\x00\x00\x00@" +
+	"\x01\x00\x00\x00\x00\x00\x00\x00\x80C\x00\x00\x00\x00\x00@\x10\x00\x00\x00\x00\x00\x00\x00\x90C\x00\x00\x00\x00\x00@\x01\x00\x00\x00\x00\x00\x00\x00\x91C\x00\x00\x00\x00\x00@\x08\x00\x00\x00\x00\x00\x00\x00XNOT_DEFINEDUUNREPORTEDPPROOF_OF_CONCEPTAATT" +
+	"ACKED\x00\x00\x00\x00\x00\x00\x00 D\x00\x00\x00\x00\x00@\x01\x00\x00\x00\x00\x00\x00\x00!D\x00\x00\x00\x00\x00@\x0b\x00\x00\x00\x00\x00\x00\x00,D\x00\x00\x00\x00\x00@\x01\x00\x00\x00\x00\x00\x00\x00-D\x00\x00\x00\x00\x00@\x03\x00\x00\x00\x00\x00\x00\x000D\x00\x00\x00\x00\x00@\x01\x00\x00\x00\x00\x00\x00\x001D\x00\x00\x00\x00\x00@" +
+	"\x06\x00\x00\x00\x00\x00\x00\x007D\x00\x00\x00\x00\x00@\x01\x00\x00\x00\x00\x00\x00\x008D\x00\x00\x00\x00\x00@\x04\x00\x00\x00\x00\x00\x00\x00XNOT_DEFINEDLLOWMMEDIUMHHIGH\x00\x00\x00\x00\xe0D\x00\x00\x00\x00\x00@\x01\x00\x00\x00\x00\x00\x00\x00\xe1D\x00\x00\x00\x00\x00@\x08\x00\x00\x00" +
+	"\x00\x00\x00\x00\xe9D\x00\x00\x00\x00\x00@\x01\x00\x00\x00\x00\x00\x00\x00\xeaD\x00\x00\x00\x00\x00@\x05\x00\x00\x00\x00\x00\x00\x00\xefD\x00\x00\x00\x00\x00@\x01\x00\x00\x00\x00\x00\x00\x00\xf0D\x00\x00\x00\x00\x00@\x08\x00\x00\x00\x00\x00\x00\x00\xf8D\x00\x00\x00\x00\x00@\x01\x00\x00\x00\x00\x00\x00\x00\xf9D\x00\x00\x00\x00\x00@\x07\x00\x00\x00\x00\x00\x00\x00" +
+	"\x00E\x00\x00\x00\x00\x00@\x01\x00\x00\x00\x00\x00\x00\x00\x01E\x00\x00\x00\x00\x00@\x0b\x00\x00\x00\x00\x00\x00\x00PPHYSICALLLOCALAADJACENTNNETWORKXNOT_DEFINED\x00\x00\x00\x00modifiedAttackRequir" +
+	"ements\x00\x00\x00\x00\x00\x00\x90E\x00\x00\x00\x00\x00@\x01\x00\x00\x00\x00\x00\x00\x00\x91E\x00\x00\x00\x00\x00@\x0b\x00\x00\x00\x00\x00\x00\x00\x9cE\x00\x00\x00\x00\x00@\x01\x00\x00\x00\x00\x00\x00\x00\x9dE\x00\x00\x00\x00\x00@\x07\x00\x00\x00\x00\x00\x00\x00\xa4E\x00\x00\x00\x00\x00@\x01\x00\x00\x00\x00\x00\x00\x00\xa5E\x00\x00\x00\x00\x00@" +
+	"\x04\x00\x00\x00\x00\x00\x00\x00XNOT_DEFINEDPPRESENTNNONE\x00\x00\x00\x00\x00\x00\x000F\x00\x00\x00\x00\x00@\x01\x00\x00\x00\x00\x00\x00\x001F\x00\x00\x00\x00\x00@\x0b\x00\x00\x00\x00\x00\x00\x00<F\x00\x00\x00\x00\x00@\x01\x00\x00\x00\x00\x00\x00\x00=F\x00\x00\x00\x00\x00@\x06\x00\x00\x00" +
+	"\x00\x00\x00\x00CF\x00\x00\x00\x00\x00@\x01\x00\x00\x00\x00\x00\x00\x00DF\x00\x00\x00\x00\x00@\x07\x00\x00\x00\x00\x00\x00\x00KF\x00\x00\x00\x00\x00@\x01\x00\x00\x00\x00\x00\x00\x00LF\x00\x00\x00\x00\x00@\x04\x00\x00\x00\x00\x00\x00\x00XNOT_DEFINEDAACTIVEPPASSIVENNONE" +
+	"modifiedVulnConfidentialityImpactmodifiedVulnIntegrityImpactmodifiedVulnAvailabilityImpactmodifiedSu" +
+	"bConfidentialityImpact\x00\x00\x00\x00\x00\x00PG\x00\x00\x00\x00\x00@\x01\x00\x00\x00\x00\x00\x00\x00QG\x00\x00\x00\x00\x00@\x0b\x00\x00\x00\x00\x00\x00\x00\x5cG\x00\x00\x00\x00\x00@\x01\x00\x00\x00\x00\x00\x00\x00]G\x00\x00\x00\x00\x00@\x0a\x00\x00\x00\x00\x00\x00\x00gG\x00\x00\x00\x00\x00@" +
+	"\x01\x00\x00\x00\x00\x00\x00\x00hG\x00\x00\x00\x00\x00@\x03\x00\x00\x00\x00\x00\x00\x00kG\x00\x00\x00\x00\x00@\x01\x00\x00\x00\x00\x00\x00\x00lG\x00\x00\x00\x00\x00@\x04\x00\x00\x00\x00\x00\x00\x00XNOT_DEFINEDNNEGLIGIBLELLOWHHIGHmodifiedSubI" +
+	"ntegrityImpact\x00\x00\x00\x00\x00\x000H\x00\x00\x00\x00\x00@\x01\x00\x00\x00\x00\x00\x00\x001H\x00\x00\x00\x00\x00@\x0b\x00\x00\x00\x00\x00\x00\x00<H\x00\x00\x00\x00\x00@\x01\x00\x00\x00\x00\x00\x00\x00=H\x00\x00\x00\x00\x00@\x0a\x00\x00\x00\x00\x00\x00\x00GH\x00\x00\x00\x00\x00@\x01\x00\x00\x00\x00\x00\x00\x00" +
+	"HH\x00\x00\x00\x00\x00@\x03\x00\x00\x00\x00\x00\x00\x00KH\x00\x00\x00\x00\x00@\x01\x00\x00\x00\x00\x00\x00\x00LH\x00\x00\x00\x00\x00@\x04\x00\x00\x00\x00\x00\x00\x00PH\x00\x00\x00\x00\x00@\x01\x00\x00\x00\x00\x00\x00\x00QH\x00\x00\x00\x00\x00@\x06\x00\x00\x00\x00\x00\x00\x00XNOT_DEFINEDNNEGLIGI" +
+	"BLELLOWHHIGHSSAFETY\x00modifiedSubAvailabilityImpactSafety\x00\x00\x00\x00\x00\xe0H\x00\x00\x00\x00\x00@\x01\x00\x00\x00\x00\x00\x00\x00\xe1H\x00\x00\x00\x00\x00@\x0b\x00\x00\x00\x00\x00\x00\x00\xecH\x00\x00\x00\x00\x00@" +
+	"\x01\x00\x00\x00\x00\x00\x00\x00\xedH\x00\x00\x00\x00\x00@\x07\x00\x00\x00\x00\x00\x00\x00\xf4H\x00\x00\x00\x00\x00@\x01\x00\x00\x00\x00\x00\x00\x00\xf5H\x00\x00\x00\x00\x00@\x0a\x00\x00\x00\x00\x00\x00\x00XNOT_DEFINEDPPRESENTNNEGLIGIBLE\x00Automatable\x00" +
+	"\x00\x00\x00\x00pI\x00\x00\x00\x00\x00@\x01\x00\x00\x00\x00\x00\x00\x00qI\x00\x00\x00\x00\x00@\x0b\x00\x00\x00\x00\x00\x00\x00|I\x00\x00\x00\x00\x00@\x01\x00\x00\x00\x00\x00\x00\x00}I\x00\x00\x00\x00\x00@\x03\x00\x00\x00\x00\x00\x00\x00\x80I\x00\x00\x00\x00\x00@\x01\x00\x00\x00\x00\x00\x00\x00\x81I\x00\x00\x00\x00\x00@\x02\x00\x00\x00\x00\x00\x00\x00" +
+	"XNOT_DEFINEDYYESNNO\x00\x00\x00\x00\x00Recovery\x10J\x00\x00\x00\x00\x00@\x01\x00\x00\x00\x00\x00\x00\x00\x11J\x00\x00\x00\x00\x00@\x0b\x00\x00\x00\x00\x00\x00\x00\x1cJ\x00\x00\x00\x00\x00@\x01\x00\x00\x00\x00\x00\x00\x00\x1dJ\x00\x00\x00\x00\x00@\x09\x00\x00\x00\x00\x00\x00\x00&J\x00\x00" +
+	"\x00\x00\x00@\x01\x00\x00\x00\x00\x00\x00\x00'J\x00\x00\x00\x00\x00@\x04\x00\x00\x00\x00\x00\x00\x00+J\x00\x00\x00\x00\x00@\x01\x00\x00\x00\x00\x00\x00\x00,J\x00\x00\x00\x00\x00@\x0d\x00\x00\x00\x00\x00\x00\x00XNOT_DEFINEDAAUTOMATICUUSERIIRRECOVERABL" +
+	"E\x00\x00\x00\x00\x00\x00\x00valueDensity\x00\x00\x00\x00\xb0J\x00\x00\x00\x00\x00@\x01\x00\x00\x00\x00\x00\x00\x00\xb1J\x00\x00\x00\x00\x00@\x0b\x00\x00\x00\x00\x00\x00\x00\xbcJ\x00\x00\x00\x00\x00@\x01\x00\x00\x00\x00\x00\x00\x00\xbdJ\x00\x00\x00\x00\x00@\x07\x00\x00\x00\x00\x00\x00\x00\xc4J\x00\x00\x00\x00\x00@\x01\x00\x00\x00" +
+	"\x00\x00\x00\x00\xc5J\x00\x00\x00\x00\x00@\x0c\x00\x00\x00\x00\x00\x00\x00XNOT_DEFINEDDDIFFUSECCONCENTRATED\x00\x00\x00\x00\x00\x00\x00vulnerabilityResponseEffort\x00\x00\x00\x00\x00xK\x00\x00\x00\x00\x00@" +
+	"\x01\x00\x00\x00\x00\x00\x00\x00yK\x00\x00\x00\x00\x00@\x0b\x00\x00\x00\x00\x00\x00\x00\x84K\x00\x00\x00\x00\x00@\x01\x00\x00\x00\x00\x00\x00\x00\x85K\x00\x00\x00\x00\x00@\x03\x00\x00\x00\x00\x00\x00\x00\x88K\x00\x00\x00\x00\x00@\x01\x00\x00\x00\x00\x00\x00\x00\x89K\x00\x00\x00\x00\x00@\x08\x00\x00\x00\x00\x00\x00\x00\x91K\x00\x00\x00\x00\x00@\x01\x00\x00\x00" +
+	"\x00\x00\x00\x00\x92K\x00\x00\x00\x00\x00@\x04\x00\x00\x00\x00\x00\x00\x00XNOT_DEFINEDLLOWMMODERATEHHIGH\x00\x00providerUrgency\x00HL\x00\x00\x00\x00\x00@\x01\x00\x00\x00\x00\x00\x00\x00IL\x00\x00\x00\x00\x00@\x0b\x00\x00\x00\x00\x00\x00\x00" +
+	"TL\x00\x00\x00\x00\x00@\x03\x00\x00\x00\x00\x00\x00\x00WL\x00\x00\x00\x00\x00@\x03\x00\x00\x00\x00\x00\x00\x00ZL\x00\x00\x00\x00\x00@\x05\x00\x00\x00\x00\x00\x00\x00_L\x00\x00\x00\x00\x00@\x05\x00\x00\x00\x00\x00\x00\x00dL\x00\x00\x00\x00\x00@\x05\x00\x00\x00\x00\x00\x00\x00iL\x00\x00\x00\x00\x00@\x05\x00\x00\x00\x00\x00\x00\x00nL\x00\x00" +
+	"\x00\x00\x00@\x05\x00\x00\x00\x00\x00\x00\x00sL\x00\x00\x00\x00\x00@\x05\x00\x00\x00\x00\x00\x00\x00XNOT_DEFINEDRedREDAmberAMBERGreenGREENClearCLEARNONELOWMEDIUMHIGHCRITICA" +
+	"LbaseScoretemporalScoreenvironmentalScorebaseSeveritytemporalSeverityenvironmentalSeverityerror:  \x00\x00" +
+	"\x00\x00\x00\x00HS\x00\x00\x00\x00\x00@\x03\x00\x00\x00\x00\x00\x00\x00KS\x00\x00\x00\x00\x00@\x03\x00\x00\x00\x00\x00\x00\x00NS\x00\x00\x00\x00\x00@\x03\x00\x00\x00\x00\x00\x00\x00QS\x00\x00\x00\x00\x00@\x03\x00\x00\x00\x00\x00\x00\x00TS\x00\x00\x00\x00\x00@\x03\x00\x00\x00\x00\x00\x00\x00WS\x00\x00\x00\x00\x00@\x03\x00\x00\x00\x00\x00\x00\x00" +
+	"ZS\x00\x00\x00\x00\x00@\x03\x00\x00\x00\x00\x00\x00\x00]S\x00\x00\x00\x00\x00@\x03\x00\x00\x00\x00\x00\x00\x00`S\x00\x00\x00\x00\x00@\x03\x00\x00\x00\x00\x00\x00\x00cS\x00\x00\x00\x00\x00@\x03\x00\x00\x00\x00\x00\x00\x00fS\x00\x00\x00\x00\x00@\x03\x00\x00\x00\x00\x00\x00\x00iS\x00\x00\x00\x00\x00@\x03\x00\x00\x00\x00\x00\x00\x00lS\x00\x00" +
+	"\x00\x00\x00@\x03\x00\x00\x00\x00\x00\x00\x00oS\x00\x00\x00\x00\x00@\x03\x00\x00\x00\x00\x00\x00\x00rS\x00\x00\x00\x00\x00@\x03\x00\x00\x00\x00\x00\x00\x00uS\x00\x00\x00\x00\x00@\x03\x00\x00\x00\x00\x00\x00\x00xS\x00\x00\x00\x00\x00@\x03\x00\x00\x00\x00\x00\x00\x00{S\x00\x00\x00\x00\x00@\x03\x00\x00\x00\x00\x00\x00\x00~S\x00\x00\x00\x00\x00@" +
+	"\x03\x00\x00\x00\x00\x00\x00\x00\x81S\x00\x00\x00\x00\x00@\x03\x00\x00\x00\x00\x00\x00\x00\x84S\x00\x00\x00\x00\x00@\x03\x00\x00\x00\x00\x00\x00\x00\x87S\x00\x00\x00\x00\x00@\x03\x00\x00\x00\x00\x00\x00\x00\x8aS\x00\x00\x00\x00\x00@\x03\x00\x00\x00\x00\x00\x00\x00\x8dS\x00\x00\x00\x00\x00@\x03\x00\x00\x00\x00\x00\x00\x00\x90S\x00\x00\x00\x00\x00@\x03\x00\x00\x00" +
+	"\x00\x00\x00\x00\x93S\x00\x00\x00\x00\x00@\x03\x00\x00\x00\x00\x00\x00\x00\x96S\x00\x00\x00\x00\x00@\x03\x00\x00\x00\x00\x00\x00\x00\x99S\x00\x00\x00\x00\x00@\x03\x00\x00\x00\x00\x00\x00\x00\x9cS\x00\x00\x00\x00\x00@\x03\x00\x00\x00\x00\x00\x00\x00\x9fS\x00\x00\x00\x00\x00@\x03\x00\x00\x00\x00\x00\x00\x00\xa2S\x00\x00\x00\x00\x00@\x03\x00\x00\x00\x00\x00\x00\x00" +
+	"\xa5S\x00\x00\x00\x00\x00@\x03\x00\x00\x00\x00\x00\x00\x00\xa8S\x00\x00\x00\x00\x00@\x03\x00\x00\x00\x00\x00\x00\x00\xabS\x00\x00\x00\x00\x00@\x03\x00\x00\x00\x00\x00\x00\x00\xaeS\x00\x00\x00\x00\x00@\x03\x00\x00\x00\x00\x00\x00\x00\xb1S\x00\x00\x00\x00\x00@\x03\x00\x00\x00\x00\x00\x00\x00\xb4S\x00\x00\x00\x00\x00@\x03\x00\x00\x00\x00\x00\x00\x00\xb7S\x00\x00" +
+	"\x00\x00\x00@\x03\x00\x00\x00\x00\x00\x00\x00\xbaS\x00\x00\x00\x00\x00@\x03\x00\x00\x00\x00\x00\x00\x00\xbdS\x00\x00\x00\x00\x00@\x03\x00\x00\x00\x00\x00\x00\x00\xc0S\x00\x00\x00\x00\x00@\x03\x00\x00\x00\x00\x00\x00\x00\xc3S\x00\x00\x00\x00\x00@\x03\x00\x00\x00\x00\x00\x00\x00\xc6S\x00\x00\x00\x00\x00@\x03\x00\x00\x00\x00\x00\x00\x00\xc9S\x00\x00\x00\x00\x00@" +
+	"\x03\x00\x00\x00\x00\x00\x00\x00\xccS\x00\x00\x00\x00\x00@\x03\x00\x00\x00\x00\x00\x00\x00\xcfS\x00\x00\x00\x00\x00@\x03\x00\x00\x00\x00\x00\x00\x00\xd2S\x00\x00\x00\x00\x00@\x03\x00\x00\x00\x00\x00\x00\x00\xd5S\x00\x00\x00\x00\x00@\x03\x00\x00\x00\x00\x00\x00\x00\xd8S\x00\x00\x00\x00\x00@\x03\x00\x00\x00\x00\x00\x00\x00\xdbS\x00\x00\x00\x00\x00@\x03\x00\x00\x00" +
+	"\x00\x00\x00\x00\xdeS\x00\x00\x00\x00\x00@\x03\x00\x00\x00\x00\x00\x00\x00\xe1S\x00\x00\x00\x00\x00@\x03\x00\x00\x00\x00\x00\x00\x00\xe4S\x00\x00\x00\x00\x00@\x03\x00\x00\x00\x00\x00\x00\x00\xe7S\x00\x00\x00\x00\x00@\x03\x00\x00\x00\x00\x00\x00\x00\xeaS\x00\x00\x00\x00\x00@\x03\x00\x00\x00\x00\x00\x00\x00\xedS\x00\x00\x00\x00\x00@\x03\x00\x00\x00\x00\x00\x00\x00" +
+	"\xf0S\x00\x00\x00\x00\x00@\x03\x00\x00\x00\x00\x00\x00\x00\xf3S\x00\x00\x00\x00\x00@\x03\x00\x00\x00\x00\x00\x00\x00\xf6S\x00\x00\x00\x00\x00@\x03\x00\x00\x00\x00\x00\x00\x00\xf9S\x00\x00\x00\x00\x00@\x03\x00\x00\x00\x00\x00\x00\x00\xfcS\x00\x00\x00\x00\x00@\x03\x00\x00\x00\x00\x00\x00\x00\xffS\x00\x00\x00\x00\x00@\x03\x00\x00\x00\x00\x00\x00\x00\x02T\x00\x00" +
+	"\x00\x00\x00@\x03\x00\x00\x00\x00\x00\x00\x00\x05T\x00\x00\x00\x00\x00@\x03\x00\x00\x00\x00\x00\x00\x00\x08T\x00\x00\x00\x00\x00@\x03\x00\x00\x00\x00\x00\x00\x00\x0bT\x00\x00\x00\x00\x00@\x03\x00\x00\x00\x00\x00\x00\x00\x0eT\x00\x00\x00\x00\x00@\x03\x00\x00\x00\x00\x00\x00\x00\x11T\x00\x00\x00\x00\x00@\x03\x00\x00\x00\x00\x00\x00\x00\x14T\x00\x00\x00\x00\x00@" +
+	"\x03\x00\x00\x00\x00\x00\x00\x00\x17T\x00\x00\x00\x00\x00@\x03\x00\x00\x00\x00\x00\x00\x00\x1aT\x00\x00\x00\x00\x00@\x03\x00\x00\x00\x00\x00\x00\x00\x1dT\x00\x00\x00\x00\x00@\x03\x00\x00\x00\x00\x00\x00\x00 T\x00\x00\x00\x00\x00@\x03\x00\x00\x00\x00\x00\x00\x00#T\x00\x00\x00\x00\x00@\x03\x00\x00\x00\x00\x00\x00\x00&T\x00\x00\x00\x00\x00@\x03\x00\x00\x00" +
+	"\x00\x00\x00\x00)T\x00\x00\x00\x00\x00@\x03\x00\x00\x00\x00\x00\x00\x00,T\x00\x00\x00\x00\x00@\x03\x00\x00\x00\x00\x00\x00\x00/T\x00\x00\x00\x00\x00@\x03\x00\x00\x00\x00\x00\x00\x002T\x00\x00\x00\x00\x00@\x03\x00\x00\x00\x00\x00\x00\x005T\x00\x00\x00\x00\x00@\x03\x00\x00\x00\x00\x00\x00\x008T\x00\x00\x00\x00\x00@\x03\x00\x00\x00\x00\x00\x00\x00" +
+	";T\x00\x00\x00\x00\x00@\x03\x00\x00\x00\x00\x00\x00\x00>T\x00\x00\x00\x00\x00@\x03\x00\x00\x00\x00\x00\x00\x00AT\x00\x00\x00\x00\x00@\x03\x00\x00\x00\x00\x00\x00\x00DT\x00\x00\x00\x00\x00@\x03\x00\x00\x00\x00\x00\x00\x00GT\x00\x00\x00\x00\x00@\x03\x00\x00\x00\x00\x00\x00\x00JT\x00\x00\x00\x00\x00@\x03\x00\x00\x00\x00\x00\x00\x00MT\x00\x00" +
+	"\x00\x00\x00@\x03\x00\x00\x00\x00\x00\x00\x00PT\x00\x00\x00\x00\x00@\x03\x00\x00\x00\x00\x00\x00\x00ST\x00\x00\x00\x00\x00@\x03\x00\x00\x00\x00\x00\x00\x00VT\x00\x00\x00\x00\x00@\x03\x00\x00\x00\x00\x00\x00\x00YT\x00\x00\x00\x00\x00@\x03\x00\x00\x00\x00\x00\x00\x00\x5cT\x00\x00\x00\x00\x00@\x03\x00\x00\x00\x00\x00\x00\x00_T\x00\x00\x00\x00\x00@" +
+	"\x03\x00\x00\x00\x00\x00\x00\x00bT\x00\x00\x00\x00\x00@\x03\x00\x00\x00\x00\x00\x00\x00eT\x00\x00\x00\x00\x00@\x03\x00\x00\x00\x00\x00\x00\x00hT\x00\x00\x00\x00\x00@\x03\x00\x00\x00\x00\x00\x00\x00kT\x00\x00\x00\x00\x00@\x03\x00\x00\x00\x00\x00\x00\x00nT\x00\x00\x00\x00\x00@\x03\x00\x00\x00\x00\x00\x00\x00qT\x00\x00\x00\x00\x00@\x03\x00\x00\x00" +
+	"\x00\x00\x00\x00tT\x00\x00\x00\x00\x00@\x04\x00\x00\x00\x00\x00\x00\x000.00.10.20.30.40.50.60.70.80.91.01.11.21.31.41.51.61.71.81.92.02.12.22.32.42.52." +
+	"62.72.82.93.03.13.23.33.43.53.63.73.83.94.04.14.24.34.44.54.64.74.84.95.05.15.25.35.45.55.65.75.85.9" +
+	"6.06.16.26.36.46.56.66.76.86.97.07.17.27.37.47.57.67.77.87.98.08.18.28.38.48.58.68.78.88.99.09.19.29" +
+	".39.49.59.69.79.89.910.0\x0a\x00\x00\x04\x00\x06\x00\x00\x00\x05\x01\x00\x02\x03\x00\x00\x00\x00\x00\x03\x00\x02\x01\x00\x00\x00\x00\x00\x00\x00\x00\x00\xf0\x10\x00\x00\x00\x00\x00@\x18\x11\x00\x00\x00\x00\x00@\xa8\x10\x00\x00\x00\x00\x00@@\x11\x00\x00\x00\x00\x00@\xb0\x11\x00\x00\x00\x00\x00@\xb0\x11\x00\x00" +
+	"\x00\x00\x00@\xb0\x11\x00\x00\x00\x00\x00@x\x11\x00\x00\x00\x00\x00@\xb0\x11\x00\x00\x00\x00\x00@\xb0\x11\x00\x00\x00\x00\x00@\xb0\x11\x00\x00\x00\x00\x00@\xe8\x11\x00\x00\x00\x00\x00@0\x12\x00\x00\x00\x00\x00@0\x12\x00\x00\x00\x00\x00@0\x12\x00\x00\x00\x00\x00@\xd0\x12\x00\x00\x00\x00\x00@\x08\x13\x00\x00\x00\x00\x00@x\x12\x00\x00\x00\x00\x00@" +
+	"@\x13\x00\x00\x00\x00\x00@\x18\x14\x00\x00\x00\x00\x00@\xd0\x13\x00\x00\x00\x00\x00@\x18\x14\x00\x00\x00\x00\x00@\x88\x13\x00\x00\x00\x00\x00@\xd0\x13\x00\x00\x00\x00\x00@\xd0\x13\x00\x00\x00\x00\x00@\xd0\x13\x00\x00\x00\x00\x00@p\x14\x00\x00\x00\x00\x00@\xa8\x14\x00\x00\x00\x00\x00@0\x12\x00\x00\x00\x00\x00@\x08\x13\x00\x00\x00\x00\x00@(\x15\x00\x00" +
+	"\x00\x00\x00@\xf0\x14\x00\x00\x00\x00\x00@\x8b\x01\x00\x00\x00\x00\x00\x00\x86\x02\x00\x00\x00\x00\x00\x00\xe8\x03\x00\x00\x00\x00\x00\x00^\x01\x00\x00\x00\x00\x00\x00b\x02\x00\x00\x00\x00\x00\x00\xc6\x02\x00\x00\x00\x00\x00\x00\xc2\x01\x00\x00\x00\x00\x00\x000\x02\x00\x00\x00\x00\x00\x00\xc0\x02\x00\x00\x00\x00\x00\x00\x00\x00\x00\x00\x00\x00\x00\x00\x13\x01\x00\x00\x00\x00\x00\x00" +
+	"\x94\x02\x00\x00\x00\x00\x00\x00R\x03\x00\x00\x00\x00\x00\x00\x84\x03\x00\x00\x00\x00\x00\x00\xb6\x03\x00\x00\x00\x00\x00\x00\xe8\x03\x00\x00\x00\x00\x00\x00\xe8\x03\x00\x00\x00\x00\x00\x00f\x03\x00\x00\x00\x00\x00\x00\x84\x03\x00\x00\x00\x00\x00\x00\xb6\x03\x00\x00\x00\x00\x00\x00\xe8\x03\x00\x00\x00\x00\x00\x00\xe8\x03\x00\x00\x00\x00\x00\x00\x84\x03\x00\x00\x00\x00\x00\x00\xb6\x03\x00\x00" +
+	"\x00\x00\x00\x00\xe8\x03\x00\x00\x00\x00\x00\x00\xe8\x03\x00\x00\x00\x00\x00\x00\x00\x00\x00\x00\x00\x00\x00\x00d\x00\x00\x00\x00\x00\x00\x00,\x01\x00\x00\x00\x00\x00\x00\x90\x01\x00\x00\x00\x00\x00\x00\xf4\x01\x00\x00\x00\x00\x00\x00\x00\x00\x00\x00\x00\x00\x00\x00\x00\x00\x00\x00\x00\x00\x00\x00\xfa\x00\x00\x00\x00\x00\x00\x00\xee\x02\x00\x00\x00\x00\x00\x00\xe8\x03\x00\x00\x00\x00\x00\x00" +
+	"\xe8\x03\x00\x00\x00\x00\x00\x00\xf4\x01\x00\x00\x00\x00\x00\x00\xe8\x03\x00\x00\x00\x00\x00\x00\xe6\x05\x00\x00\x00\x00\x00\x00\xe8\x03\x00\x00\x00\x00\x00\x00\x1e\x00\x00\x00\x14\x00\x00\x00\x0f\x00\x00\x00\x00\x00\x00\x00d\x00\x00\x00\x00\x00\x00\x00d\x00\x00\x00\x00\x00\x00\x00a\x00\x00\x00\x00\x00\x00\x00^\x00\x00\x00\x00\x00\x00\x00[\x00\x00\x00\x00\x00\x00\x00d\x00\x00\x00" +
+	"\x00\x00\x00\x00d\x00\x00\x00\x00\x00\x00\x00a\x00\x00\x00\x00\x00\x00\x00`\x00\x00\x00\x00\x00\x00\x00_\x00\x00\x00\x00\x00\x00\x00d\x00\x00\x00\x00\x00\x00\x00d\x00\x00\x00\x00\x00\x00\x00`\x00\x00\x00\x00\x00\x00\x00\x5c\x00\x00\x00\x00\x00\x00\x00d\x00\x00\x00\x00\x00\x00\x00\x96\x00\x00\x00\x00\x00\x00\x00d\x00\x00\x00\x00\x00\x00\x002\x00\x00\x00\x00\x00\x00\x00" +
+	"\x14\x00\x00\x00\x00\x00\x00\x007\x00\x00\x00\x00\x00\x00\x00>\x00\x00\x00\x00\x00\x00\x00U\x00\x00\x00\x00\x00\x00\x00\x00\x00\x00\x00\x00\x00\x00\x00\x16\x00\x00\x00\x00\x00\x00\x008\x00\x00\x00\x00\x00\x00\x00\x03\x00\x00\x00\x00\x00\x00\x00\x06\x00\x00\x00\x00\x00\x00\x00\x0e\x00\x00\x00\x00\x00\x00\x00\x01\x00\x00\x00\x00\x00\x00\x00\x06\x00\x00\x00\x00\x00\x00\x00\x05\x00\x00\x00" +
+	"\x00\x00\x00\x00\x05\x00\x00\x00\x00\x00\x00\x00\x04\x00\x00\x00\x00\x00\x00\x00\x0e\x00\x00\x00\x00\x00\x00\x00\x16\x00\x00\x00\x00\x00\x00\x00\x0b\x00\x00\x00\x00\x00\x00\x00\x0a\x00\x00\x00\x00\x00\x00\x00\x0e\x00\x00\x00\x00\x00\x00\x00\x0c\x00\x00\x00\x00\x00\x00\x00\x10\x00\x00\x00\x00\x00\x00\x00\x05\x00\x00\x00\x00\x00\x00\x00\xe0)\x00\x00\x00\x00\x00@\xe3)\x00\x00\x00\x00\x00@" +
+	"\xe9)\x00\x00\x00\x00\x00@\xf7)\x00\x00\x00\x00\x00@\xf8)\x00\x00\x00\x00\x00@\x04)\x00\x00\x00\x00\x00@\x04)\x00\x00\x00\x00\x00@\xfe)\x00\x00\x00\x00\x00@\x02*\x00\x00\x00\x00\x00@\x10*\x00\x00\x00\x00\x00@&*\x00\x00\x00\x00\x00@1*\x00\x00\x00\x00\x00@;*\x00\x00\x00\x00\x00@I*\x00\x00\x00\x00\x00@U*\x00\x00" +
+	"\x00\x00\x00@\x04)\x00\x00\x00\x00\x00@\xb0E<\x00\x00\x00\x00\x00`\x92b\x00\x00\x00\x00\x00\x80\x96\x98\x00\x00\x00\x00\x00\xe0g5\x00\x00\x00\x00\x00 \x14]\x00\x00\x00\x00\x00`Vl\x00\x00\x00\x00\x00 \xaaD\x00\x00\x00\x00\x00\x00sU\x00\x00\x00\x00\x00\x00lk\x00\x00\x00\x00\x00\x00\x00\x00\x00\x00\x00\x00\x000\xf6)\x00\x00\x00\x00\x00" +
+	"@\xb5d\x00\x00\x00\x00\x00 \xb3\x81\x00\x00\x00\x00\x00@T\x89\x00\x00\x00\x00\x00`\xf5\x90\x00\x00\x00\x00\x00\x80\x96\x98\x00\x00\x00\x00\x00\x80\x96\x98\x00\x00\x00\x00\x00`\xc0\x84\x00\x00\x00\x00\x00@T\x89\x00\x00\x00\x00\x00`\xf5\x90\x00\x00\x00\x00\x00\x80\x96\x98\x00\x00\x00\x00\x00\x80\x96\x98\x00\x00\x00\x00\x00@T\x89\x00\x00\x00\x00\x00`\xf5\x90\x00" +
+	"\x00\x00\x00\x00\x80\x96\x98\x00\x00\x00\x00\x00\x80\x96\x98\x00\x00\x00\x00\x00\x00\x00\x00\x00\x00\x00\x00\x00@B\x0f\x00\x00\x00\x00\x00\xc0\xc6-\x00\x00\x00\x00\x00\x00\x09=\x00\x00\x00\x00\x00@KL\x00\x00\x00\x00\x00\x00\x00\x00\x00\x00\x00\x00\x00\x00\x00\x00\x00\x00\x00\x00\x00\xa0%&\x00\x00\x00\x00\x00\xe0pr\x00\x00\x00\x00\x00\x80\x96\x98\x00\x00\x00\x00\x00" +
+	"\x80\x96\x98\x00\x00\x00\x00\x00@KL\x00\x00\x00\x00\x00\x80\x96\x98\x00\x00\x00\x00\x00`h\xe6\x00\x00\x00\x00\x00\x80\x96\x98\x00\x00\x00\x00\x00b\x06\x00\x00\x00\x00\x00@`\x06\x00\x00\x00\x00\x00@\x0e\x00\x00\x00\x00\x00\x00@\x10\x00\x00\x00\x00\x00\x00@\x0f\x00\x00\x00\x00\x00\x00@c\x06\x00\x00\x00\x00\x00@e\x06\x00\x00\x00\x00\x00@\x0f\x00\x00\x00" +
+	"\x00\x00\x00@c\x06\x00\x00\x00\x00\x00@\x10\x00\x00\x00\x00\x00\x00@\xf0&\x00\x00\x00\x00\x00@e\x06\x00\x00\x00\x00\x00@c\x06\x00\x00\x00\x00\x00@\x0f\x00\x00\x00\x00\x00\x00@c\x06\x00\x00\x00\x00\x00@\x0e\x00\x00\x00\x00\x00\x00@\x0f\x00\x00\x00\x00\x00\x00@\x10\x00\x00\x00\x00\x00\x00@\xf0&\x00\x00\x00\x00\x00@\xf0&\x00\x00\x00\x00\x00@" +
+	"`\x06\x00\x00\x00\x00\x00@\x0e\x00\x00\x00\x00\x00\x00@\xf0&\x00\x00\x00\x00\x00@`\x06\x00\x00\x00\x00\x00@\x0e\x00\x00\x00\x00\x00\x00@\x10\x00\x00\x00\x00\x00\x00@\xf0&\x00\x00\x00\x00\x00@\x0f\x00\x00\x00\x00\x00\x00@c\x06\x00\x00\x00\x00\x00@\x10\x00\x00\x00\x00\x00\x00@\xf0&\x00\x00\x00\x00\x00@\x10\x00\x00\x00\x00\x00\x00@\x0e\x00\x00\x00" +
+	"\x00\x00\x00@`\x06\x00\x00\x00\x00\x00@\xf0&\x00\x00\x00\x00\x00@\x10\x00\x00\x00\x00\x00\x00@\x0e\x00\x00\x00\x00\x00\x00@`\x06\x00\x00\x00\x00\x00@b\x06\x00\x00\x00\x00\x00@\xf0&\x00\x00\x00\x00\x00@c\x06\x00\x00\x00\x00\x00@\x10\x00\x00\x00\x00\x00\x00@\xf0&\x00\x00\x00\x00\x00@\x9a)\x00\x00\x00\x00\x00@\x10\x00\x00\x00\x00\x00\x00@" +
+	"\xf0&\x00\x00\x00\x00\x00@\x0f\x00\x00\x00\x00\x00\x00@e\x06\x00\x00\x00\x00\x00@\x9b)\x00\x00\x00\x00\x00@\xf0&\x00\x00\x00\x00\x00@\x9c)\x00\x00\x00\x00\x00@d\x06\x00\x00\x00\x00\x00@\xf0&\x00\x00\x00\x00\x00@\x0e\x00\x00\x00\x00\x00\x00@a\x06\x00\x00\x00\x00\x00@`\x06\x00\x00\x00\x00\x00@\xf0&\x00\x00\x00\x00\x00@`\x06\x00\x00" +
+	"\x00\x00\x00@i\x06\x00\x00\x00\x00\x00@c\x06\x00\x00\x00\x00\x00@e\x06\x00\x00\x00\x00\x00@\xf0&\x00\x00\x00\x00\x00@e\x06\x00\x00\x00\x00\x00@p\x06\x00\x00\x00\x00\x00@I(\x00\x00\x00\x00\x00@J(\x00\x00\x00\x00\x00@\xf0&\x00\x00\x00\x00\x00@d\x06\x00\x00\x00\x00\x00@H(\x00\x00\x00\x00\x00@e\x06\x00\x00\x00\x00\x00@" +
+	"\xf0&\x00\x00\x00\x00\x00@`\x06\x00\x00\x00\x00\x00@a\x06\x00\x00\x00\x00\x00@\x0e\x00\x00\x00\x00\x00\x00@c\x06\x00\x00\x00\x00\x00@\x0e\x00\x00\x00\x00\x00\x00@\x0f\x00\x00\x00\x00\x00\x00@\x10\x00\x00\x00\x00\x00\x00@`\x06\x00\x00\x00\x00\x00@\x0e\x00\x00\x00\x00\x00\x00@\x10\x00\x00\x00\x00\x00\x00@\x10\x00\x00\x00\x00\x00\x00@\x0e\x00\x00\x00" +
+	"\x00\x00\x00@`\x06\x00\x00\x00\x00\x00@\x04\x00\x00\x00\x00\x03\x01\x00\x02\x00\x00\x00\x01\x02\x00\x00\x00\x00\x00\x01\x00\x01\x01\x00\x00\x00\x00\x00\x02\x00\x01\x00\x00\x00\x00\x00\x00\x00\x00\x00\x0e\x00\x00\x00\x00\x00\x00@\x0f\x00\x00\x00\x00\x00\x00@\x10\x00\x00\x00\x00\x00\x00@`\x06\x00\x00\x00\x00\x00@a\x06\x00\x00\x00\x00\x00@\x0e\x00\x00\x00\x00\x00\x00@" +
+	"a\x06\x00\x00\x00\x00\x00@b\x06\x00\x00\x00\x00\x00@\x10\x00\x00\x00\x00\x00\x00@\x10\x00\x00\x00\x00\x00\x00@c\x06\x00\x00\x00\x00\x00@d\x06\x00\x00\x00\x00\x00@e\x06\x00\x00\x00\x00\x00@f\x06\x00\x00\x00\x00\x00@i\x06\x00\x00\x00\x00\x00@`\x06\x00\x00\x00\x00\x00@j\x06\x00\x00\x00\x00\x00@\x01\x00\x00\x00\x00\x00\x00\x00\x03\x00\x00\x00" +
+	"\x00\x00\x00\x00\x01\x00\x00\x00\x00\x00\x00\x00\x01\x00\x00\x00\x00\x00\x00\x00\x02\x00\x00\x00\x00\x00\x00\x00l\x06\x00\x00\x00\x00\x00@n\x06\x00\x00\x00\x00\x00@p\x06\x00\x00\x00\x00\x00@e\x06\x00\x00\x00\x00\x00@j\x06\x00\x00\x00\x00\x00@\x02\x00\x00\x00\x00\x00\x00\x00\x02\x00\x00\x00\x00\x00\x00\x00\x01\x00\x00\x00\x00\x00\x00\x00\x01\x00\x00\x00\x00\x00\x00\x00" +
+	"\x02\x00\x00\x00\x00\x00\x00\x00q\x06\x00\x00\x00\x00\x00@s\x06\x00\x00\x00\x00\x00@d\x06\x00\x00\x00\x00\x00@j\x06\x00\x00\x00\x00\x00@\x02\x00\x00\x00\x00\x00\x00\x00\x02\x00\x00\x00\x00\x00\x00\x00\x01\x00\x00\x00\x00\x00\x00\x00\x02\x00\x00\x00\x00\x00\x00\x00\x10\x00\x00\x00\x00\x00\x00@\x0e\x00\x00\x00\x00\x00\x00@u\x06\x00\x00\x00\x00\x00@w\x06\x00\x00" +
+	"\x00\x00\x00@`\x06\x00\x00\x00\x00\x00@j\x06\x00\x00\x00\x00\x00@\x01\x00\x00\x00\x00\x00\x00\x00\x01\x00\x00\x00\x00\x00\x00\x00\x02\x00\x00\x00\x00\x00\x00\x00\x02\x00\x00\x00\x00\x00\x00\x00\x01\x00\x00\x00\x00\x00\x00\x00\x02\x00\x00\x00\x00\x00\x00\x00\x10\x00\x00\x00\x00\x00\x00@\x0e\x00\x00\x00\x00\x00\x00@a\x06\x00\x00\x00\x00\x00@`\x06\x00\x00\x00\x00\x00@" +
+	"j\x06\x00\x00\x00\x00\x00@\x01\x00\x00\x00\x00\x00\x00\x00\x01\x00\x00\x00\x00\x00\x00\x00\x01\x00\x00\x00\x00\x00\x00\x00\x01\x00\x00\x00\x00\x00\x00\x00\x02\x00\x00\x00\x00\x00\x00\x00\x0e\x00\x00\x00\x00\x00\x00@a\x06\x00\x00\x00\x00\x00@`\x06\x00\x00\x00\x00\x00@j\x06\x00\x00\x00\x00\x00@\x01\x00\x00\x00\x00\x00\x00\x00\x01\x00\x00\x00\x00\x00\x00\x00\x01\x00\x00\x00" +
+	"\x00\x00\x00\x00\x02\x00\x00\x00\x00\x00\x00\x00\x04\x00\x00\x00\x00\x00\x00\x00\x03\x00\x00\x00\x00\x00\x00\x00\x06\x00\x00\x00\x00\x00\x00\x00\x04\x00\x00\x00\x00\x00\x00\x00\x08\x00\x00\x00\x00\x00\x00\x00s)\x00\x00\x00\x00\x00@w)\x00\x00\x00\x00\x00@z)\x00\x00\x00\x00\x00@\x80)\x00\x00\x00\x00\x00@\x84)\x00\x00\x00\x00\x00@\x06\x00\x00\x00\x00\x00\x00\x00" +
+	"\x07\x00\x00\x00\x00\x00\x00\x00\x07\x00\x00\x00\x00\x00\x00\x00\x08\x00\x00\x00\x00\x00\x00\x00\xd5*\x00\x00\x00\x00\x00@\xdb*\x00\x00\x00\x00\x00@\xe2*\x00\x00\x00\x00\x00@\xe9*\x00\x00\x00\x00\x00@\x03\x00\x00\x00\x00\x00\x00\x00\x03\x00\x00\x00\x00\x00\x00\x00\x03\x00\x00\x00\x00\x00\x00\x00\x03\x00\x00\x00\x00\x00\x00\x00\x03\x00\x00\x00\x00\x00\x00\x00\x03\x00\x00\x00" +
+	"\x00\x00\x00\x00\x05\x00\x00\x00\x00\x00\x00\x00\x05\x00\x00\x00\x00\x00\x00\x00\x04\x00\x00\x00\x00\x00\x00\x00\x06\x00\x00\x00\x00\x00\x00\x00\x05\x00\x00\x00\x00\x00\x00\x00\x04\x00\x00\x00\x00\x00\x00\x00\x04\x00\x00\x00\x00\x00\x00\x00\x04\x00\x00\x00\x00\x00\x00\x00\x800\x00\x00\x00\x00\x00@p/\x00\x00\x00\x00\x00@\xe0.\x00\x00\x00\x00\x00@\xf0/\x00\x00\x00\x00\x00@" +
+	"\x800\x00\x00\x00\x00\x00@\x800\x00\x00\x00\x00\x00@ 1\x00\x00\x00\x00\x00@\x102\x00\x00\x00\x00\x00@\x083\x00\x00\x00\x00\x00@\xe03\x00\x00\x00\x00\x00@\xf04\x00\x00\x00\x00\x00@\xd85\x00\x00\x00\x00\x00@\xd85\x00\x00\x00\x00\x00@\xd85\x00\x00\x00\x00\x00@\x03\x00\x00\x00\x00\x00\x00\x00\x02\x00\x00\x00\x00\x00\x00\x00\x04\x00\x00\x00" +
+	"\x00\x00\x00\x00\x03\x00\x00\x00\x00\x00\x00\x00\x03\x00\x00\x00\x00\x00\x00\x00\x03\x00\x00\x00\x00\x00\x00\x00\x02\x00\x00\x00\x00\x00\x00\x00\x02\x00\x00\x00\x00\x00\x00\x00\x05\x00\x00\x00\x00\x00\x00\x00\x05\x00\x00\x00\x00\x00\x00\x00\x04\x00\x00\x00\x00\x00\x00\x00\x04\x00\x00\x00\x00\x00\x00\x00\x04\x00\x00\x00\x00\x00\x00\x00\x04\x00\x00\x00\x00\x00\x00\x00\x05\x00\x00\x00\x00\x00\x00\x00" +
+	"\x03\x00\x00\x00\x00\x00\x00\x00\x04\x00\x00\x00\x00\x00\x00\x00\x03\x00\x00\x00\x00\x00\x00\x00\x03\x00\x00\x00\x00\x00\x00\x00\x04\x00\x00\x00\x00\x00\x00\x00\x04\x00\x00\x00\x00\x00\x00\x00\x04\x00\x00\x00\x00\x00\x00\x00\xf88\x00\x00\x00\x00\x00@h7\x00\x00\x00\x00\x00@\xb06\x00\x00\x00\x00\x00@\xf88\x00\x00\x00\x00\x00@\xf88\x00\x00\x00\x00\x00@\xd07\x00\x00" +
+	"\x00\x00\x00@\xa08\x00\x00\x00\x00\x00@P8\x00\x00\x00\x00\x00@\x809\x00\x00\x00\x00\x00@X:\x00\x00\x00\x00\x00@8;\x00\x00\x00\x00\x00@\xe8;\x00\x00\x00\x00\x00@\xe8;\x00\x00\x00\x00\x00@\xe8;\x00\x00\x00\x00\x00@\xa0<\x00\x00\x00\x00\x00@\x90=\x00\x00\x00\x00\x00@(>\x00\x00\x00\x00\x00@\xe0>\x00\x00\x00\x00\x00@" +
+	"`?\x00\x00\x00\x00\x00@\x00@\x00\x00\x00\x00\x00@\x00@\x00\x00\x00\x00\x00@\x00@\x00\x00\x00\x00\x00@\x02\x00\x00\x00\x00\x00\x00\x00\x02\x00\x00\x00\x00\x00\x00\x00\x04\x00\x00\x00\x00\x00\x00\x00\x03\x00\x00\x00\x00\x00\x00\x00\x03\x00\x00\x00\x00\x00\x00\x00\x03\x00\x00\x00\x00\x00\x00\x00\x03\x00\x00\x00\x00\x00\x00\x00\x03\x00\x00\x00\x00\x00\x00\x00\x03\x00\x00\x00" +
+	"\x00\x00\x00\x00\x03\x00\x00\x00\x00\x00\x00\x00\x03\x00\x00\x00\x00\x00\x00\x00\x04\x00\x00\x00\x00\x00\x00\x00\x04\x00\x00\x00\x00\x00\x00\x00\x04\x00\x00\x00\x00\x00\x00\x00\x04\x00\x00\x00\x00\x00\x00\x00\x03\x00\x00\x00\x00\x00\x00\x00\x03\x00\x00\x00\x00\x00\x00\x00\x05\x00\x00\x00\x00\x00\x00\x00\x04\x00\x00\x00\x00\x00\x00\x00\x05\x00\x00\x00\x00\x00\x00\x00\x04\x00\x00\x00\x00\x00\x00\x00" +
+	"\x05\x00\x00\x00\x00\x00\x00\x00\x04\x00\x00\x00\x00\x00\x00\x00\x04\x00\x00\x00\x00\x00\x00\x00\x04\x00\x00\x00\x00\x00\x00\x00\x04\x00\x00\x00\x00\x00\x00\x00\x03\x00\x00\x00\x00\x00\x00\x00\x04\x00\x00\x00\x00\x00\x00\x00\x04\x00\x00\x00\x00\x00\x00\x00\x03\x00\x00\x00\x00\x00\x00\x00\x05\x00\x00\x00\x00\x00\x00\x00\x03\x00\x00\x00\x00\x00\x00\x00h7\x00\x00\x00\x00\x00@\x90A\x00\x00" +
+	"\x00\x00\x00@\xd8@\x00\x00\x00\x00\x00@\xd07\x00\x00\x00\x00\x00@\xf88\x00\x00\x00\x00\x00@\xf88\x00\x00\x00\x00\x00@\xf88\x00\x00\x00\x00\x00@\xe0A\x00\x00\x00\x00\x00@\xf88\x00\x00\x00\x00\x00@\xf88\x00\x00\x00\x00\x00@\xf88\x00\x00\x00\x00\x00@\xe8B\x00\x00\x00\x00\x00@\xa0C\x00\x00\x00\x00\x00@\xa0C\x00\x00\x00\x00\x00@" +
+	"\xa0C\x00\x00\x00\x00\x00@\x90=\x00\x00\x00\x00\x00@0E\x00\x00\x00\x00\x00@@D\x00\x00\x00\x00\x00@(>\x00\x00\x00\x00\x00@\x90G\x00\x00\x00\x00\x00@\xd0F\x00\x00\x00\x00\x00@\x90G\x00\x00\x00\x00\x00@\xb0E\x00\x00\x00\x00\x00@\x00@\x00\x00\x00\x00\x00@\x00@\x00\x00\x00\x00\x00@\x00@\x00\x00\x00\x00\x00@\x10I\x00\x00" +
+	"\x00\x00\x00@\x90I\x00\x00\x00\x00\x00@\xf8J\x00\x00\x00\x00\x00@\x80H\x00\x00\x00\x00\x00@\xa8K\x00\x00\x00\x00\x00@PJ\x00\x00\x00\x00\x00@\x06\x00\x00\x00\x00\x00\x00\x00\x04\x00\x00\x00\x00\x00\x00\x00\x08\x00\x00\x00\x00\x00\x00\x00\x7fL\x00\x00\x00\x00\x00@\x85L\x00\x00\x00\x00\x00@\x89L\x00\x00\x00\x00\x00@\x9d)\x00\x00\x00\x00\x00@" +
+	"\x0b\x00\x00\x00\x00\x00\x00@\x05\x00\x00\x00\x00\x00\x00@\x08\x00\x00\x00\x00\x00\x00@\x14\x00\x00\x00\x1e\x00\x00\x00\x1f\x00\x00\x00(\x00\x00\x00"
 
 func (m *memory) i32_load(a uint64) uint32     { return binary.LittleEndian.Uint32(m.read(a)) }
 func (m *memory) i32_load16_u(a uint64) uint32 { return uint32(binary.LittleEndian.Uint16(m.read(a))) }
@@ -4299,7 +4307,7 @@ B4:
 						goto B331
 					}
 					m.i32_store8(l3+44, 1)
-					m.i32_store8(l3+45, m.i32_load8_u((uint64(l21)&255)+4611686018427409050))
+					m.i32_store8(l3+45, m.i32_load8_u((uint64(l21)&255)+4611686018427409538))
 					l4 = l4 + 6
 					p1 = p1 - 6
 					if p1 < 4 {
@@ -4420,7 +4428,7 @@ B4:
 					goto B384
 				}
 				m.i32_store8(l3+48, 1)
-				m.i32_store8(l3+49, m.i32_load8_u((uint64(l21)&255)+4611686018427409059))
+				m.i32_store8(l3+49, m.i32_load8_u((uint64(l21)&255)+4611686018427409547))
 				l4 = l4 + 6
 				p1 = p1 - 6
 				if p1 < 4 {
@@ -4451,7 +4459,7 @@ B4:
 					goto B386
 				}
 				m.i32_store8(l3+50, 1)
-				m.i32_store8(l3+51, m.i32_load8_u((uint64(l21)&255)+4611686018427409059))
+				m.i32_store8(l3+51, m.i32_load8_u((uint64(l21)&255)+4611686018427409547))
 				l4 = l4 + 6
 				p1 = p1 - 6
 				if p1 < 4 {
@@ -4482,7 +4490,7 @@ B4:
 					goto B388
 				}
 				m.i32_store8(l3+52, 1)
-				m.i32_store8(l3+53, m.i32_load8_u((uint64(l21)&255)+4611686018427409059))
+				m.i32_store8(l3+53, m.i32_load8_u((uint64(l21)&255)+4611686018427409547))
 				l4 = l4 + 6
 				p1 = p1 - 6
 				if p1 < 4 {
@@ -4513,7 +4521,7 @@ B4:
 					goto B390
 				}
 				m.i32_store8(l3+54, 1)
-				m.i32_store8(l3+55, m.i32_load8_u((uint64(l21)&255)+4611686018427409059))
+				m.i32_store8(l3+55, m.i32_load8_u((uint64(l21)&255)+4611686018427409547))
 				l4 = l4 + 6
 				p1 = p1 - 6
 				if p1 < 4 {
@@ -7394,7 +7402,7 @@ func (m *memory) f27(p0 uint64, p1 uint64, p2 uint64, p3 uint64) {
 						goto B57
 					}
 					m.i32_store8(l4+26, 1)
-					m.i32_store8(l4+27, m.i32_load8_u((uint64(l21)&255)+4611686018427410872))
+					m.i32_store8(l4+27, m.i32_load8_u((uint64(l21)&255)+4611686018427411616))
 					p2 = p2 + 5
 					p1 = p1 - 5
 					if p1 < 4 {
@@ -7883,8 +7891,8 @@ func (m *memory) f27(p0 uint64, p1 uint64, p2 uint64, p3 uint64) {
 				}
 				m.i32_store8(l4+42, 1)
 				l8 = uint64(l20) & 255
-				m.i32_store8(l4+44, m.i32_load8_u(l8+4611686018427410882))
-				m.i32_store8(l4+43, m.i32_load8_u(l8+4611686018427410891))
+				m.i32_store8(l4+44, m.i32_load8_u(l8+4611686018427411626))
+				m.i32_store8(l4+43, m.i32_load8_u(l8+4611686018427411635))
 				p2 = p2 + 6
 				p1 = p1 - 6
 				if p1 < 4 {
@@ -8052,8 +8060,8 @@ func (m *memory) f27(p0 uint64, p1 uint64, p2 uint64, p3 uint64) {
 				}
 				m.i32_store8(l4+51, 1)
 				l8 = uint64(l21) & 255
-				m.i32_store8(l4+53, m.i32_load8_u(l8+4611686018427410900))
-				m.i32_store8(l4+52, m.i32_load8_u(l8+4611686018427410891))
+				m.i32_store8(l4+53, m.i32_load8_u(l8+4611686018427411644))
+				m.i32_store8(l4+52, m.i32_load8_u(l8+4611686018427411635))
 				p2 = p2 + 5
 				p1 = p1 - 5
 				if p1 < 4 {
@@ -8081,8 +8089,8 @@ func (m *memory) f27(p0 uint64, p1 uint64, p2 uint64, p3 uint64) {
 				}
 				m.i32_store8(l4+54, 1)
 				l8 = uint64(l21) & 255
-				m.i32_store8(l4+56, m.i32_load8_u(l8+4611686018427410900))
-				m.i32_store8(l4+55, m.i32_load8_u(l8+4611686018427410891))
+				m.i32_store8(l4+56, m.i32_load8_u(l8+4611686018427411644))
+				m.i32_store8(l4+55, m.i32_load8_u(l8+4611686018427411635))
 				l4 = l4 + 57
 				p2 = p2 + 5
 				l20 = 0
@@ -8119,9 +8127,9 @@ func (m *memory) f27(p0 uint64, p1 uint64, p2 uint64, p3 uint64) {
 				p2 = p2 + 5
 				p1 = p1 - 5
 				l8 = uint64(l22) & 255
-				l22 = m.i32_load8_u(l8 + 4611686018427410900)
+				l22 = m.i32_load8_u(l8 + 4611686018427411644)
 				l20 = 1
-				i0 = m.i32_load8_u(l8 + 4611686018427410891)
+				i0 = m.i32_load8_u(l8 + 4611686018427411635)
 				goto B44
 			B55:
 				m.i32_store16(l4+33, 0)
@@ -8887,7 +8895,7 @@ func (m *memory) f27(p0 uint64, p1 uint64, p2 uint64, p3 uint64) {
 				goto B4
 			}
 			m.i32_store8(l4, 1)
-			m.i32_store8(l6+27, m.i32_load8_u((uint64(l23)&255)+4611686018427410872))
+			m.i32_store8(l6+27, m.i32_load8_u((uint64(l23)&255)+4611686018427411616))
 			goto B145
 		B157:
 			p1 = 1
@@ -9352,8 +9360,8 @@ func (m *memory) f27(p0 uint64, p1 uint64, p2 uint64, p3 uint64) {
 			}
 			m.i32_store8(l4, 1)
 			l4 = uint64(l23) & 255
-			m.i32_store8(l6+44, m.i32_load8_u(l4+4611686018427410882))
-			m.i32_store8(l6+43, m.i32_load8_u(l4+4611686018427410891))
+			m.i32_store8(l6+44, m.i32_load8_u(l4+4611686018427411626))
+			m.i32_store8(l6+43, m.i32_load8_u(l4+4611686018427411635))
 			goto B145
 		B150:
 			p1 = 1
@@ -9515,8 +9523,8 @@ func (m *memory) f27(p0 uint64, p1 uint64, p2 uint64, p3 uint64) {
 			}
 			m.i32_store8(l4, 1)
 			l4 = uint64(l23) & 255
-			m.i32_store8(l6+53, m.i32_load8_u(l4+4611686018427410900))
-			m.i32_store8(l6+52, m.i32_load8_u(l4+4611686018427410891))
+			m.i32_store8(l6+53, m.i32_load8_u(l4+4611686018427411644))
+			m.i32_store8(l6+52, m.i32_load8_u(l4+4611686018427411635))
 			goto B145
 		B147:
 			p1 = 1
@@ -9547,8 +9555,8 @@ func (m *memory) f27(p0 uint64, p1 uint64, p2 uint64, p3 uint64) {
 			}
 			m.i32_store8(l4, 1)
 			l4 = uint64(l23) & 255
-			m.i32_store8(l6+56, m.i32_load8_u(l4+4611686018427410900))
-			m.i32_store8(l6+55, m.i32_load8_u(l4+4611686018427410891))
+			m.i32_store8(l6+56, m.i32_load8_u(l4+4611686018427411644))
+			m.i32_store8(l6+55, m.i32_load8_u(l4+4611686018427411635))
 			goto B145
 		B146:
 			p1 = 1
@@ -9576,8 +9584,8 @@ func (m *memory) f27(p0 uint64, p1 uint64, p2 uint64, p3 uint64) {
 			}
 			m.i32_store8(l4, 1)
 			l4 = uint64(l23) & 255
-			m.i32_store8(l6+59, m.i32_load8_u(l4+4611686018427410900))
-			m.i32_store8(l6+58, m.i32_load8_u(l4+4611686018427410891))
+			m.i32_store8(l6+59, m.i32_load8_u(l4+4611686018427411644))
+			m.i32_store8(l6+58, m.i32_load8_u(l4+4611686018427411635))
 		B145:
 			l13 = l10
 			l12 = l8
@@ -9941,7 +9949,7 @@ B2:
 		goto B0
 	}
 	p2 = p2 - 2
-	l3 = m.i32_load8_u((uint64(l3) & 255) + 4611686018427409041)
+	l3 = m.i32_load8_u((uint64(l3) & 255) + 4611686018427409529)
 	j0 = p1 + 2
 B1:
 	p1 = j0
@@ -10092,7 +10100,7 @@ func (m *memory) f29(p0 uint64, p1 uint64, p2 uint64) {
 		if ((uint32(277) >> (l3 & 31)) & 1) == 0 {
 			goto B3
 		}
-		l3 = m.i32_load8_u((uint64(l4) & 255) + 4611686018427409041)
+		l3 = m.i32_load8_u((uint64(l4) & 255) + 4611686018427409529)
 		i0 = l3
 		goto B4
 	B17:
@@ -12095,8 +12103,8 @@ func (m *memory) f36(p0 uint64, p1 uint32, p2 uint64, p3 uint64) {
 	_, _, _, _, _, _, _ = i0, l4, l5, l6, l7, l8, l9
 	if int64(m.stackPointer) >= 16 {
 		l4 = (uint64(p1) & 255) << 3
-		l5 = m.i64_load(l4 + 4611686018427409072)
-		l6 = m.i64_load(l4 + 4611686018427412192)
+		l5 = m.i64_load(l4 + 4611686018427409560)
+		l6 = m.i64_load(l4 + 4611686018427412936)
 		if p3 <= 1 {
 			if uint32(p3) == 1 {
 				goto B3
@@ -12441,11 +12449,11 @@ Bfunc:
 
 func (m *memory) f39(p0 uint64) uint32 {
 	var l5, i0, i1 uint32
-	var l1, l2, l3, l4, j0, j1 uint64
-	_, _, _, _, _, _, _, _, _ = l5, i0, i1, l1, l2, l3, l4, j0, j1
-	l2 = m.stackPointer - 128
-	m.stackPointer = l2
-	if int64(l2) >= 16 {
+	var l1, l2, l3, l4, j0, j1, j2 uint64
+	_, _, _, _, _, _, _, _, _, _ = l5, i0, i1, l1, l2, l3, l4, j0, j1, j2
+	l3 = m.stackPointer - 128
+	m.stackPointer = l3
+	if int64(l3) >= 16 {
 		switch uint32(m.i64_load8_u(p0)) - 1 {
 		case 0:
 			goto B2
@@ -12457,7 +12465,7 @@ func (m *memory) f39(p0 uint64) uint32 {
 			goto B4
 		}
 	B4:
-		l1 = p0 + 1
+		l2 = p0 + 1
 		if m.i32_load8_u(p0+13) != 0 {
 			goto B6
 		}
@@ -12483,11 +12491,10 @@ func (m *memory) f39(p0 uint64) uint32 {
 			goto B5
 		}
 	B6:
-		p0 = l1
-		l1 = m.stackPointer - 128
-		m.stackPointer = l1
-		if int64(l1) >= 16 {
-			i0 = m.f45(p0)
+		l4 = m.stackPointer - 128
+		m.stackPointer = l4
+		if int64(l4) >= 16 {
+			i0 = m.f45(l2)
 			switch (i0 & 255) - 1 {
 			case 0:
 				goto B11
@@ -12497,41 +12504,41 @@ func (m *memory) f39(p0 uint64) uint32 {
 				goto B12
 			}
 		B12:
-			m.memory_fill(l1+16, 0, 112)
-			m.f40(l1+16, p0)
-			p0 = ((((1000 - m.i64_load(l1+40)) * (1000 - m.i64_load(l1+48))) * (m.i64_load(l1+56) - 1000)) * 1041) + 1041000000000
+			m.memory_fill(l4+16, 0, 112)
+			m.f40(l4+16, l2)
+			l2 = ((((1000 - m.i64_load(l4+40)) * (1000 - m.i64_load(l4+48))) * (m.i64_load(l4+56) - 1000)) * 1041) + 1041000000000
 			i0 = 0
-			if p0 == 0 {
+			if l2 == 0 {
 				goto B9
 			}
-			p0 = (((((m.i64_load(l1+32) * m.i64_load(l1+24)) * m.i64_load(l1+16)) * 8000) + (p0 * 6)) * 1176) - 1763999000000000
-			l3 = uint64(int64(p0) >> 63)
-			i0 = select32(b32(int64(p0) < 0), 0, uint32((((p0^l3)-l3)+50000000000000)/100000000000000))
+			l2 = (((((m.i64_load(l4+32) * m.i64_load(l4+24)) * m.i64_load(l4+16)) * 8000) + (l2 * 6)) * 1176) - 1763999000000000
+			l1 = uint64(int64(l2) >> 63)
+			i0 = select32(b32(int64(l2) < 0), 0, uint32((((l2^l1)-l1)+50000000000000)/100000000000000))
 			goto B9
 		B11:
-			i0 = m.f46(p0)
+			i0 = m.f46(l2)
 			goto B9
 		B10:
-			m.memory_fill(l1+16, 0, 112)
-			m.f47(l1+16, p0)
-			j1 = m.f48(l1 + 16)
-			p0 = m.i64_load(l1 + 88)
-			p0 = ((j1 * (1000 - p0)) + (p0 * 100)) * m.i64_load(l1+96)
-			m.f18(l1, p0, uint64(int64(p0)>>63), 3875820019684212736, 54)
-			p0 = m.i64_load(l1)
-			l3 = p0 + 1864712049423024128
-			l4 = (m.i64_load(l1+8) + uint64(b32(l3 < p0))) + 542
-			l5 = b32(int64(l4) < 0)
-			j1 = select64(l5, 0-(l4+uint64(b32(l3 != 0))), l4)
-			l3 = select64(l5, 16582032024286527488-p0, l3)
-			p0 = l3 + 5757922623132532736
-			l3 = (((j1 + uint64(b32(p0 < l3))) << 5) | (p0 >> 59)) + 867361728
-			j1 = l3
-			l3 = l3 / 1220703125
-			i0 = select32(l5, 0, uint32((((((j1-(l3*1220703125))<<32)|((p0>>27)&4294967295))/1220703125)+(l3<<32))/6103515625))
+			m.memory_fill(l4+16, 0, 112)
+			m.f47(l4+16, l2)
+			j1 = m.f48(l4 + 16)
+			l2 = m.i64_load(l4 + 88)
+			l2 = ((j1 * (1000 - l2)) + (l2 * 100)) * m.i64_load(l4+96)
+			m.f18(l4, l2, uint64(int64(l2)>>63), 3875820019684212736, 54)
+			l2 = m.i64_load(l4)
+			l1 = l2 + 1864712049423024128
+			p0 = (m.i64_load(l4+8) + uint64(b32(l1 < l2))) + 542
+			l5 = b32(int64(p0) < 0)
+			j1 = select64(l5, 0-(p0+uint64(b32(l1 != 0))), p0)
+			l1 = select64(l5, 16582032024286527488-l2, l1)
+			l2 = l1 + 5757922623132532736
+			l1 = (((j1 + uint64(b32(l2 < l1))) << 5) | (l2 >> 59)) + 867361728
+			j1 = l1
+			l1 = l1 / 1220703125
+			i0 = select32(l5, 0, uint32((((((j1-(l1*1220703125))<<32)|((l2>>27)&4294967295))/1220703125)+(l1<<32))/6103515625))
 		B9:
 			l5 = i0
-			m.stackPointer = l1 + 128
+			m.stackPointer = l4 + 128
 			i0 = l5
 			goto B7
 		}
@@ -12539,53 +12546,53 @@ func (m *memory) f39(p0 uint64) uint32 {
 	B7:
 		goto B1
 	B5:
-		m.memory_fill(l2, 0, 112)
-		m.f40(l2, l1)
-		l1 = ((((1000 - m.i64_load(l2+24)) * (1000 - m.i64_load(l2+32))) * (m.i64_load(l2+40) - 1000)) * 1041) + 1041000000000
+		m.memory_fill(l3, 0, 112)
+		m.f40(l3, l2)
+		l2 = ((((1000 - m.i64_load(l3+24)) * (1000 - m.i64_load(l3+32))) * (m.i64_load(l3+40) - 1000)) * 1041) + 1041000000000
 		i0 = 0
-		if l1 == 0 {
+		if l2 == 0 {
 			goto B1
 		}
-		l1 = (((((m.i64_load(l2+16) * m.i64_load(l2+8)) * m.i64_load(l2)) * 8000) + (l1 * 6)) * 1176) - 1763999000000000
-		p0 = uint64(int64(l1) >> 63)
-		i0 = select32(b32(int64(l1) < 0), 0, uint32((((l1^p0)-p0)+50000000000000)/100000000000000))
+		l2 = (((((m.i64_load(l3+16) * m.i64_load(l3+8)) * m.i64_load(l3)) * 8000) + (l2 * 6)) * 1176) - 1763999000000000
+		p0 = uint64(int64(l2) >> 63)
+		i0 = select32(b32(int64(l2) < 0), 0, uint32((((l2^p0)-p0)+50000000000000)/100000000000000))
 		goto B1
 	B3:
-		m.i64_store(l2+119, 0)
-		m.i64_store(l2+112, 0)
-		m.f41(l2+112, p0+8)
-		m.i64_store(l2+32, 0)
-		m.i64_store(l2+24, 0)
-		m.i64_store(l2+16, 0)
-		m.i64_store(l2+8, 0)
-		m.i64_store(l2, 0)
-		if m.i32_load8_u(l2+117) != 2 {
+		m.i64_store(l3+119, 0)
+		m.i64_store(l3+112, 0)
+		m.f41(l3+112, p0+8)
+		m.i64_store(l3+32, 0)
+		m.i64_store(l3+24, 0)
+		m.i64_store(l3+16, 0)
+		m.i64_store(l3+8, 0)
+		m.i64_store(l3, 0)
+		if m.i32_load8_u(l3+117) != 2 {
 			goto B13
 		}
-		if (m.i32_load8_u(l2+118) & 255) != 2 {
+		if (m.i32_load8_u(l3+118) & 255) != 2 {
 			goto B13
 		}
-		if (m.i32_load8_u(l2+119) & 255) != 2 {
+		if (m.i32_load8_u(l3+119) & 255) != 2 {
 			goto B13
 		}
-		if (m.i32_load8_u(l2+120) & 255) != 2 {
+		if (m.i32_load8_u(l3+120) & 255) != 2 {
 			goto B13
 		}
-		if (m.i32_load8_u(l2+121) & 255) != 3 {
+		if (m.i32_load8_u(l3+121) & 255) != 3 {
 			goto B13
 		}
 		i0 = 0
-		if (m.i32_load8_u(l2+122) & 255) == 3 {
+		if (m.i32_load8_u(l3+122) & 255) == 3 {
 			goto B1
 		}
 	B13:
-		m.f42(l2, l2+112)
-		i0 = m.i32_load8_u(l2+32) * 50400
-		i1 = m.f43(l2)
+		m.f42(l3, l3+112)
+		i0 = m.i32_load8_u(l3+32) * 50400
+		i1 = m.f43(l3)
 		i0 = ((i0 - i1) + 25200) / 50400
 		goto B1
 	B2:
-		l1 = p0 + 8
+		l2 = p0 + 8
 		if m.i32_load8_u(p0+32) != 0 {
 			goto B15
 		}
@@ -12629,15 +12636,15 @@ func (m *memory) f39(p0 uint64) uint32 {
 			goto B14
 		}
 	B15:
-		m.i64_store(l2+56, m.i64_load(l1+56))
-		m.i64_store(l2+48, m.i64_load(l1+48))
-		m.i64_store(l2+40, m.i64_load(l1+40))
-		m.i64_store(l2+32, m.i64_load(l1+32))
-		m.i64_store(l2+24, m.i64_load(l1+24))
-		m.i64_store(l2+16, m.i64_load(l1+16))
-		m.i64_store(l2+8, m.i64_load(l1+8))
-		m.i64_store(l2, m.i64_load(l1))
-		p0 = l2
+		m.i64_store(l3+56, m.i64_load(l2+56))
+		m.i64_store(l3+48, m.i64_load(l2+48))
+		m.i64_store(l3+40, m.i64_load(l2+40))
+		m.i64_store(l3+32, m.i64_load(l2+32))
+		m.i64_store(l3+24, m.i64_load(l2+24))
+		m.i64_store(l3+16, m.i64_load(l2+16))
+		m.i64_store(l3+8, m.i64_load(l2+8))
+		m.i64_store(l3, m.i64_load(l2))
+		p0 = l3
 		l1 = m.stackPointer - 240
 		m.stackPointer = l1
 		if int64(l1) >= 16 {
@@ -12663,14 +12670,38 @@ func (m *memory) f39(p0 uint64) uint32 {
 			i0 = i0 & 255
 			goto B18
 		B20:
-			i0 = m.f56(l1)
+			m.memory_fill(l1-18446744073709551552, 0, 176)
+			m.f56(l1-18446744073709551552, l1)
+			l5 = b32(m.i64_load(l1) == 0)
+			p0 = (((100 - m.i64_load(l1+112)) * (100 - m.i64_load(l1+104))) * (m.i64_load(l1+120) - 100)) + 1000000
+			j0 = l1 - 18446744073709551552
+			j1 = select64(l5, 999999999999, 999950000000)
+			j2 = 0
+			if p0 == 0 {
+				goto B22
+			}
+			l2 = (((m.i64_load(l1-18446744073709551552) * m.i64_load(l1+72)) * m.i64_load(l1+80)) * m.i64_load(l1+88)) * 822
+			if m.i32_load8_u(l1+96) == 1 {
+				j2 = (p0 * 752000) + (l2 * 10)
+				p0 = (p0 * 1000) - 20000000
+				p0 = (((p0 * p0) / 1000000000) * p0) / 1000000000
+				l2 = (p0 * p0) / 1000000000
+				p0 = ((j2 + (((((l2 * l2) / 1000000000) * p0) / 1000000000) * 18446744073709551291)) * 108) - 2355264000000
+				j2 = select64(b32(p0 < 100000000000000), p0, 100000000000000)
+				goto B22
+			}
+			p0 = ((l2 * 10) + (p0 * 642000)) * 100
+			j2 = select64(b32(p0 < 100000000000000), p0, 100000000000000)
+		B22:
+			j0 = m.f57(j0, (j1+j2)/1000000000000)
+			i0 = uint32(((j0 * 1000000) + select64(l5, 999999999936, 999950000000)) / 1000000000000)
 			goto B18
 		B19:
 			m.memory_fill(l1-18446744073709551552, 0, 176)
-			m.f57(l1-18446744073709551552, l1)
+			m.f56(l1-18446744073709551552, l1)
 			p0 = m.i64_load(l1)
 			j1 = m.f58(l1-18446744073709551552, p0)
-			j0 = m.f59(l1-18446744073709551552, j1)
+			j0 = m.f57(l1-18446744073709551552, j1)
 			i0 = uint32(((j0 * 1000000) + select64(b32(p0 == 0), 999999999936, 999950000000)) / 1000000000000)
 		B18:
 			l5 = i0
@@ -12682,11 +12713,11 @@ func (m *memory) f39(p0 uint64) uint32 {
 	B16:
 		goto B1
 	B14:
-		i0 = m.f44(l1)
+		i0 = m.f44(l2)
 		i0 = i0 & 255
 	B1:
 		l5 = i0
-		m.stackPointer = l2 + 128
+		m.stackPointer = l3 + 128
 		i0 = l5
 		goto Bfunc
 	}
@@ -12700,67 +12731,67 @@ func (m *memory) f40(p0 uint64, p1 uint64) {
 	_, _, _, _, _, _, _, _, _, _, _, _, _, _, _, _ = l2, l3, l4, l5, l6, l7, l8, l9, l10, l11, l12, l13, l14, l15, j0, j1
 	if int64(m.stackPointer) >= 16 {
 		if m.i32_load8_u(p1) == 1 {
-			l3 = m.i64_load((m.i64_load8_u(p1+1) << 3) + 4611686018427409328)
+			l3 = m.i64_load((m.i64_load8_u(p1+1) << 3) + 4611686018427409816)
 			j0 = l3
 		}
 		if m.i32_load8_u(p1+2) == 1 {
-			l2 = m.i64_load((m.i64_load8_u(p1+3) << 3) + 4611686018427409352)
+			l2 = m.i64_load((m.i64_load8_u(p1+3) << 3) + 4611686018427409840)
 			j0 = l2
 		}
 		if m.i32_load8_u(p1+4) == 1 {
-			l5 = m.i64_load((m.i64_load8_u(p1+5) << 3) + 4611686018427409376)
+			l5 = m.i64_load((m.i64_load8_u(p1+5) << 3) + 4611686018427409864)
 			j0 = l5
 		}
 		if m.i32_load8_u(p1+6) == 1 {
-			l4 = m.i64_load((m.i64_load8_u(p1+7) << 3) + 4611686018427409400)
+			l4 = m.i64_load((m.i64_load8_u(p1+7) << 3) + 4611686018427409888)
 			j0 = l4
 		}
 		if m.i32_load8_u(p1+8) == 1 {
-			l7 = m.i64_load((m.i64_load8_u(p1+9) << 3) + 4611686018427409400)
+			l7 = m.i64_load((m.i64_load8_u(p1+9) << 3) + 4611686018427409888)
 			j0 = l7
 		}
 		if m.i32_load8_u(p1+10) == 1 {
-			l6 = m.i64_load((m.i64_load8_u(p1+11) << 3) + 4611686018427409400)
+			l6 = m.i64_load((m.i64_load8_u(p1+11) << 3) + 4611686018427409888)
 			j0 = l6
 		}
 		l8 = 1000
 		l9 = 1000
 		if m.i32_load8_u(p1+12) == 1 {
-			l9 = m.i64_load((m.i64_load8_u(p1+13) << 3) + 4611686018427409424)
+			l9 = m.i64_load((m.i64_load8_u(p1+13) << 3) + 4611686018427409912)
 			j0 = l9
 		}
 		if m.i32_load8_u(p1+14) == 1 {
-			l8 = m.i64_load((m.i64_load8_u(p1+15) << 3) + 4611686018427409464)
+			l8 = m.i64_load((m.i64_load8_u(p1+15) << 3) + 4611686018427409952)
 			j0 = l8
 		}
 		l10 = 1000
 		if m.i32_load8_u(p1+16) == 1 {
-			l10 = m.i64_load((m.i64_load8_u(p1+17) << 3) + 4611686018427409504)
+			l10 = m.i64_load((m.i64_load8_u(p1+17) << 3) + 4611686018427409992)
 			j0 = l10
 		}
 		if m.i32_load8_u(p1+18) == 1 {
-			l11 = m.i64_load((m.i64_load8_u(p1+19) << 3) + 4611686018427409536)
+			l11 = m.i64_load((m.i64_load8_u(p1+19) << 3) + 4611686018427410024)
 			j0 = l11
 		}
 		l12 = 1000
 		l13 = 1000
 		if m.i32_load8_u(p1+20) == 1 {
-			l13 = m.i64_load((m.i64_load8_u(p1+21) << 3) + 4611686018427409584)
+			l13 = m.i64_load((m.i64_load8_u(p1+21) << 3) + 4611686018427410072)
 			j0 = l13
 		}
 		if m.i32_load8_u(p1+22) == 1 {
-			l12 = m.i64_load((m.i64_load8_u(p1+23) << 3) + 4611686018427409624)
+			l12 = m.i64_load((m.i64_load8_u(p1+23) << 3) + 4611686018427410112)
 			j0 = l12
 		}
 		l15 = 1000
 		l14 = 1000
 		if m.i32_load8_u(p1+24) == 1 {
-			l14 = m.i64_load((m.i64_load8_u(p1+25) << 3) + 4611686018427409624)
+			l14 = m.i64_load((m.i64_load8_u(p1+25) << 3) + 4611686018427410112)
 			j0 = l14
 		}
 		j0 = p0 + 104
 		if m.i32_load8_u(p1+26) == 1 {
-			j1 = m.i64_load((m.i64_load8_u(p1+27) << 3) + 4611686018427409624)
+			j1 = m.i64_load((m.i64_load8_u(p1+27) << 3) + 4611686018427410112)
 		} else {
 			j1 = l15
 		}
@@ -13339,7 +13370,7 @@ func (m *memory) f43(p0 uint64) uint32 {
 			i0 = select32(b32(l1 < 2), 60, 12)
 			goto B6
 		}
-		i0 = m.i32_load((uint64(l4) << 2) + 4611686018427409656)
+		i0 = m.i32_load((uint64(l4) << 2) + 4611686018427410144)
 	B6:
 		l1 = i0
 		m.stackPointer = l13 + 16
@@ -13359,7 +13390,7 @@ func (m *memory) f44(p0 uint64) uint32 {
 	m.stackPointer = l2
 	if int64(l2) >= 16 {
 		m.memory_fill(l2, 0, 176)
-		m.f60(l2, p0)
+		m.f59(l2, p0)
 		p0 = m.i64_load(p0)
 		l1 = (((100 - m.i64_load(l2+48)) * (100 - m.i64_load(l2+40))) * (m.i64_load(l2+56) - 100)) + 1000000
 		j0 = 0
@@ -13399,8 +13430,8 @@ func (m *memory) f45(p0 uint64) uint32 {
 			goto B2
 		}
 		l1 = m.i64_load8_u(p0+19) << 3
-		l2 = m.i64_load(l1 + 4611686018427411232)
-		l1 = m.i64_load(l1 + 4611686018427411280)
+		l2 = m.i64_load(l1 + 4611686018427411976)
+		l1 = m.i64_load(l1 + 4611686018427412024)
 		i0 = m.f49(l2, l1, 4611686018427397872, 1)
 		if i0 != 0 {
 			goto B2
@@ -13417,8 +13448,8 @@ func (m *memory) f45(p0 uint64) uint32 {
 			goto B3
 		}
 		l1 = m.i64_load8_u(p0+21) << 3
-		l2 = m.i64_load(l1 + 4611686018427411328)
-		l1 = m.i64_load(l1 + 4611686018427411368)
+		l2 = m.i64_load(l1 + 4611686018427412072)
+		l1 = m.i64_load(l1 + 4611686018427412112)
 		i0 = m.f49(l2, l1, 4611686018427397872, 1)
 		if i0 != 0 {
 			goto B3
@@ -13435,8 +13466,8 @@ func (m *memory) f45(p0 uint64) uint32 {
 			goto B4
 		}
 		l1 = m.i64_load8_u(p0+23) << 3
-		l2 = m.i64_load(l1 + 4611686018427411408)
-		l1 = m.i64_load(l1 + 4611686018427411440)
+		l2 = m.i64_load(l1 + 4611686018427412152)
+		l1 = m.i64_load(l1 + 4611686018427412184)
 		i0 = m.f49(l2, l1, 4611686018427397872, 1)
 		if i0 != 0 {
 			goto B4
@@ -13453,8 +13484,8 @@ func (m *memory) f45(p0 uint64) uint32 {
 			goto B5
 		}
 		l1 = m.i64_load8_u(p0+25) << 3
-		l2 = m.i64_load(l1 + 4611686018427411408)
-		l1 = m.i64_load(l1 + 4611686018427411440)
+		l2 = m.i64_load(l1 + 4611686018427412152)
+		l1 = m.i64_load(l1 + 4611686018427412184)
 		i0 = m.f49(l2, l1, 4611686018427397872, 1)
 		if i0 != 0 {
 			goto B5
@@ -13471,8 +13502,8 @@ func (m *memory) f45(p0 uint64) uint32 {
 			goto B1
 		}
 		l1 = m.i64_load8_u(p0+27) << 3
-		l2 = m.i64_load(l1 + 4611686018427411408)
-		l1 = m.i64_load(l1 + 4611686018427411440)
+		l2 = m.i64_load(l1 + 4611686018427412152)
+		l1 = m.i64_load(l1 + 4611686018427412184)
 		i0 = m.f49(l2, l1, 4611686018427397872, 1)
 		if i0 != 0 {
 			goto B1
@@ -13485,8 +13516,8 @@ func (m *memory) f45(p0 uint64) uint32 {
 			goto B7
 		}
 		l1 = m.i64_load8_u(p0+13) << 3
-		l2 = m.i64_load(l1 + 4611686018427411008)
-		l1 = m.i64_load(l1 + 4611686018427411048)
+		l2 = m.i64_load(l1 + 4611686018427411752)
+		l1 = m.i64_load(l1 + 4611686018427411792)
 		i0 = m.f49(l2, l1, 4611686018427397872, 1)
 		if i0 != 0 {
 			goto B7
@@ -13503,8 +13534,8 @@ func (m *memory) f45(p0 uint64) uint32 {
 			goto B8
 		}
 		l1 = m.i64_load8_u(p0+15) << 3
-		l2 = m.i64_load(l1 + 4611686018427411088)
-		l1 = m.i64_load(l1 + 4611686018427411128)
+		l2 = m.i64_load(l1 + 4611686018427411832)
+		l1 = m.i64_load(l1 + 4611686018427411872)
 		i0 = m.f49(l2, l1, 4611686018427397872, 1)
 		if i0 != 0 {
 			goto B8
@@ -13521,8 +13552,8 @@ func (m *memory) f45(p0 uint64) uint32 {
 			goto B6
 		}
 		p0 = m.i64_load8_u(p0+17) << 3
-		l1 = m.i64_load(p0 + 4611686018427411168)
-		p0 = m.i64_load(p0 + 4611686018427411200)
+		l1 = m.i64_load(p0 + 4611686018427411912)
+		p0 = m.i64_load(p0 + 4611686018427411944)
 		i0 = m.f49(l1, p0, 4611686018427397872, 1)
 		if i0 != 0 {
 			goto B6
@@ -14073,7 +14104,7 @@ func (m *memory) f55(p0 uint64) uint32 {
 	if int64(m.stackPointer) >= 16 {
 		l2 = 1
 		if m.i32_load8_u(p0+33) == 1 {
-			l1 = m.i64_load8_u(m.i64_load((m.i64_load8_u(p0+34) << 3) + 4611686018427410760))
+			l1 = m.i64_load8_u(m.i64_load((m.i64_load8_u(p0+34) << 3) + 4611686018427411504))
 			if (((l1 << 8) | (l1 << 16)) | l1) != 5789784 {
 				goto B1
 			}
@@ -14081,14 +14112,14 @@ func (m *memory) f55(p0 uint64) uint32 {
 		if m.i32_load8_u(p0+35) != 1 {
 			goto B3
 		}
-		l1 = m.i64_load8_u(m.i64_load((m.i64_load8_u(p0+36) << 3) + 4611686018427410760))
+		l1 = m.i64_load8_u(m.i64_load((m.i64_load8_u(p0+36) << 3) + 4611686018427411504))
 		if (((l1 << 8) | (l1 << 16)) | l1) == 5789784 {
 			goto B3
 		}
 		goto B1
 	B3:
 		if m.i32_load8_u(p0+37) == 1 {
-			l1 = m.i64_load8_u(m.i64_load((m.i64_load8_u(p0+38) << 3) + 4611686018427410760))
+			l1 = m.i64_load8_u(m.i64_load((m.i64_load8_u(p0+38) << 3) + 4611686018427411504))
 			if (((l1 << 8) | (l1 << 16)) | l1) != 5789784 {
 				goto B1
 			}
@@ -14097,7 +14128,7 @@ func (m *memory) f55(p0 uint64) uint32 {
 			goto B5
 		}
 		if m.i32_load8_u(p0+31) != 0 {
-			j0 = m.i64_load((m.i64_load8_u(p0+32) << 3) + 4611686018427410792)
+			j0 = m.i64_load((m.i64_load8_u(p0+32) << 3) + 4611686018427411536)
 		} else {
 			j0 = 4611686018427397872
 		}
@@ -14116,7 +14147,7 @@ func (m *memory) f55(p0 uint64) uint32 {
 			goto B8
 		}
 		if m.i32_load8_u(p0+43) != 0 {
-			j0 = m.i64_load((m.i64_load8_u(p0+44) << 3) + 4611686018427410824)
+			j0 = m.i64_load((m.i64_load8_u(p0+44) << 3) + 4611686018427411568)
 		} else {
 			j0 = 4611686018427397872
 		}
@@ -14143,7 +14174,7 @@ func (m *memory) f55(p0 uint64) uint32 {
 			goto B12
 		}
 		if m.i32_load8_u(p0+52) != 0 {
-			j0 = m.i64_load((m.i64_load8_u(p0+53) << 3) + 4611686018427410848)
+			j0 = m.i64_load((m.i64_load8_u(p0+53) << 3) + 4611686018427411592)
 		} else {
 			j0 = 4611686018427397872
 		}
@@ -14157,7 +14188,7 @@ func (m *memory) f55(p0 uint64) uint32 {
 			goto B14
 		}
 		if m.i32_load8_u(p0+55) != 0 {
-			j0 = m.i64_load((m.i64_load8_u(p0+56) << 3) + 4611686018427410848)
+			j0 = m.i64_load((m.i64_load8_u(p0+56) << 3) + 4611686018427411592)
 		} else {
 			j0 = 4611686018427397872
 		}
@@ -14173,7 +14204,7 @@ func (m *memory) f55(p0 uint64) uint32 {
 			goto B1
 		}
 		if m.i32_load8_u(p0+58) != 0 {
-			j0 = m.i64_load((m.i64_load8_u(p0+59) << 3) + 4611686018427410848)
+			j0 = m.i64_load((m.i64_load8_u(p0+59) << 3) + 4611686018427411592)
 		} else {
 			j0 = 4611686018427397872
 		}
@@ -14183,7 +14214,7 @@ func (m *memory) f55(p0 uint64) uint32 {
 	B1:
 		l3 = 1
 		if m.i32_load8_u(p0+24) == 1 {
-			l1 = m.i64_load8_u(m.i64_load((m.i64_load8_u(p0+25) << 3) + 4611686018427410648))
+			l1 = m.i64_load8_u(m.i64_load((m.i64_load8_u(p0+25) << 3) + 4611686018427411392))
 			if (((l1 << 8) | (l1 << 16)) | l1) != 5789784 {
 				goto B18
 			}
@@ -14191,7 +14222,7 @@ func (m *memory) f55(p0 uint64) uint32 {
 		if m.i32_load8_u(p0+26) != 1 {
 			goto B20
 		}
-		l1 = m.i64_load8_u(m.i64_load((m.i64_load8_u(p0+27) << 3) + 4611686018427410688))
+		l1 = m.i64_load8_u(m.i64_load((m.i64_load8_u(p0+27) << 3) + 4611686018427411432))
 		if (((l1 << 8) | (l1 << 16)) | l1) == 5789784 {
 			goto B20
 		}
@@ -14202,7 +14233,7 @@ func (m *memory) f55(p0 uint64) uint32 {
 			i0 = l3
 			goto B18
 		}
-		p0 = m.i64_load8_u(m.i64_load((m.i64_load8_u(p0+29) << 3) + 4611686018427410728))
+		p0 = m.i64_load8_u(m.i64_load((m.i64_load8_u(p0+29) << 3) + 4611686018427411472))
 		l3 = b32((((p0 << 8) | (p0 << 16)) | p0) != 5789784)
 		i0 = l3
 	B18:
@@ -14214,55 +14245,14 @@ Bfunc:
 	return i0
 }
 
-func (m *memory) f56(p0 uint64) uint32 {
-	var l3, i0 uint32
-	var l1, l2, j0, j1, j2 uint64
-	_, _, _, _, _, _, _ = l3, i0, l1, l2, j0, j1, j2
-	l1 = m.stackPointer - 176
-	m.stackPointer = l1
-	if int64(l1) >= 16 {
-		m.memory_fill(l1, 0, 176)
-		m.f57(l1, p0)
-		l3 = b32(m.i64_load(p0) == 0)
-		p0 = (((100 - m.i64_load(l1+48)) * (100 - m.i64_load(l1+40))) * (m.i64_load(l1+56) - 100)) + 1000000
-		j0 = l1
-		j1 = select64(l3, 999999999999, 999950000000)
-		j2 = 0
-		if p0 == 0 {
-			goto B1
-		}
-		l2 = (((m.i64_load(l1) * m.i64_load(l1+8)) * m.i64_load(l1+16)) * m.i64_load(l1+24)) * 822
-		if m.i32_load8_u(l1+32) == 1 {
-			j2 = (p0 * 752000) + (l2 * 10)
-			p0 = (p0 * 1000) - 20000000
-			p0 = (((p0 * p0) / 1000000000) * p0) / 1000000000
-			l2 = (p0 * p0) / 1000000000
-			p0 = ((j2 + (((((l2 * l2) / 1000000000) * p0) / 1000000000) * 18446744073709551291)) * 108) - 2355264000000
-			j2 = select64(b32(p0 < 100000000000000), p0, 100000000000000)
-			goto B1
-		}
-		p0 = ((l2 * 10) + (p0 * 642000)) * 100
-		j2 = select64(b32(p0 < 100000000000000), p0, 100000000000000)
-	B1:
-		j0 = m.f59(j0, (j1+j2)/1000000000000)
-		p0 = j0
-		m.stackPointer = l1 + 176
-		i0 = uint32(((p0 * 1000000) + select64(l3, 999999999936, 999950000000)) / 1000000000000)
-		goto Bfunc
-	}
-	panic("cvss: unreachable")
-Bfunc:
-	return i0
-}
-
-func (m *memory) f57(p0 uint64, p1 uint64) {
+func (m *memory) f56(p0 uint64, p1 uint64) {
 	var l2 uint64
 	_ = l2
 	l2 = m.stackPointer - 176
 	m.stackPointer = l2
 	if int64(l2) >= 16 {
 		m.memory_fill(l2, 0, 176)
-		m.f60(l2, p1)
+		m.f59(l2, p1)
 		m.memory_copy(p0, l2, 176)
 		m.stackPointer = l2 + 176
 		goto Bfunc
@@ -14271,23 +14261,7 @@ func (m *memory) f57(p0 uint64, p1 uint64) {
 Bfunc:
 }
 
-func (m *memory) f58(p0 uint64, p1 uint64) uint64 {
-	var l2, j0 uint64
-	_, _ = l2, j0
-	l2 = m.stackPointer
-	if int64(l2) >= 16 {
-		j0 = m.f61(p0, p1)
-		p0 = j0
-		m.stackPointer = l2
-		j0 = (p0 + select64(b32(p1 == 0), 999999999999, 999950000000)) / 1000000000000
-		goto Bfunc
-	}
-	panic("cvss: unreachable")
-Bfunc:
-	return j0
-}
-
-func (m *memory) f59(p0 uint64, p1 uint64) uint64 {
+func (m *memory) f57(p0 uint64, p1 uint64) uint64 {
 	var j0 uint64
 	_ = j0
 	if int64(m.stackPointer) >= 16 {
@@ -14299,7 +14273,23 @@ Bfunc:
 	return j0
 }
 
-func (m *memory) f60(p0 uint64, p1 uint64) {
+func (m *memory) f58(p0 uint64, p1 uint64) uint64 {
+	var l2, j0 uint64
+	_, _ = l2, j0
+	l2 = m.stackPointer
+	if int64(l2) >= 16 {
+		j0 = m.f60(p0, p1)
+		p0 = j0
+		m.stackPointer = l2
+		j0 = (p0 + select64(b32(p1 == 0), 999999999999, 999950000000)) / 1000000000000
+		goto Bfunc
+	}
+	panic("cvss: unreachable")
+Bfunc:
+	return j0
+}
+
+func (m *memory) f59(p0 uint64, p1 uint64) {
 	var l2, l3, l4, l5, l6, l7, l8, l9, l10, l11, l12, l13, l14, l15, l16, l17, l18, i0, i1 uint32
 	var l19, l20, l21, l22, l23, l24, l25, l26, l27, l28, l29, l30, l31, l32, l33, l34 uint64
 	_, _, _, _, _, _, _, _, _, _, _, _, _, _, _, _, _, _, _, _, _, _, _, _, _, _, _, _, _, _, _, _, _, _, _ = l2, l3, l4, l5, l6, l7, l8, l9, l10, l11, l12, l13, l14, l15, l16, l17, l18, i0, i1, l19, l20, l21, l22, l23, l24, l25, l26, l27, l28, l29, l30, l31, l32, l33, l34
@@ -14311,7 +14301,7 @@ func (m *memory) f60(p0 uint64, p1 uint64) {
 		l6 = m.i32_load8_u(p1 + 9)
 		l3 = m.i32_load8_u(p1 + 8)
 		if l3 == 1 {
-			l22 = m.i64_load(((uint64(l6) & 255) << 3) + 4611686018427409816)
+			l22 = m.i64_load(((uint64(l6) & 255) << 3) + 4611686018427410304)
 		}
 		l14 = l2 & l4
 		l8 = m.i32_load8_u(p1 + 13)
@@ -14347,46 +14337,46 @@ func (m *memory) f60(p0 uint64, p1 uint64) {
 		l9 = m.i32_load8_u(p1 + 19)
 		l4 = m.i32_load8_u(p1 + 18)
 		if l4 == 1 {
-			l24 = m.i64_load(((uint64(l9) & 255) << 3) + 4611686018427409848)
+			l24 = m.i64_load(((uint64(l9) & 255) << 3) + 4611686018427410336)
 		}
 		l10 = m.i32_load8_u(p1 + 21)
 		l5 = m.i32_load8_u(p1 + 20)
 		if l5 == 1 {
-			l23 = m.i64_load(((uint64(l10) & 255) << 3) + 4611686018427409848)
+			l23 = m.i64_load(((uint64(l10) & 255) << 3) + 4611686018427410336)
 		}
 		l15 = m.i32_load8_u(p1 + 23)
 		l7 = m.i32_load8_u(p1 + 22)
 		if l7 == 1 {
-			l25 = m.i64_load(((uint64(l15) & 255) << 3) + 4611686018427409848)
+			l25 = m.i64_load(((uint64(l15) & 255) << 3) + 4611686018427410336)
 		}
 		l26 = 100
 		l27 = 100
 		if m.i32_load8_u(p1+24) == 1 {
-			l27 = m.i64_load((m.i64_load8_u(p1+25) << 3) + 4611686018427409672)
+			l27 = m.i64_load((m.i64_load8_u(p1+25) << 3) + 4611686018427410160)
 		}
 		if m.i32_load8_u(p1+26) == 1 {
-			l26 = m.i64_load((m.i64_load8_u(p1+27) << 3) + 4611686018427409712)
+			l26 = m.i64_load((m.i64_load8_u(p1+27) << 3) + 4611686018427410200)
 		}
 		l28 = 100
 		l29 = 100
 		if m.i32_load8_u(p1+28) == 1 {
-			l29 = m.i64_load((m.i64_load8_u(p1+29) << 3) + 4611686018427409752)
+			l29 = m.i64_load((m.i64_load8_u(p1+29) << 3) + 4611686018427410240)
 		}
 		if m.i32_load8_u(p1+33) == 1 {
-			l28 = m.i64_load((m.i64_load8_u(p1+34) << 3) + 4611686018427409784)
+			l28 = m.i64_load((m.i64_load8_u(p1+34) << 3) + 4611686018427410272)
 		}
 		l30 = 100
 		l31 = 100
 		if m.i32_load8_u(p1+35) == 1 {
-			l31 = m.i64_load((m.i64_load8_u(p1+36) << 3) + 4611686018427409784)
+			l31 = m.i64_load((m.i64_load8_u(p1+36) << 3) + 4611686018427410272)
 		}
 		if m.i32_load8_u(p1+37) == 1 {
-			l30 = m.i64_load((m.i64_load8_u(p1+38) << 3) + 4611686018427409784)
+			l30 = m.i64_load((m.i64_load8_u(p1+38) << 3) + 4611686018427410272)
 		}
 		l11 = m.i32_load8_u(p1 + 31)
 		l16 = m.i32_load8_u(p1 + 30)
 		if select32(b32(l16 == 1), select32(l11, 1, l3), l3) == 1 {
-			l32 = m.i64_load(((uint64(select32(b32(l16 == 1), select32(l11, m.i32_load8_u(p1+32), l6), l6)) & 255) << 3) + 4611686018427409816)
+			l32 = m.i64_load(((uint64(select32(b32(l16 == 1), select32(l11, m.i32_load8_u(p1+32), l6), l6)) & 255) << 3) + 4611686018427410304)
 		}
 		l6 = b32(m.i32_load8_u(p1+48) == 1) & b32((m.i32_load8_u(p1+49)&255) == 1)
 		l13 = select32(l6, m.i32_load8_u(p1+50), l13)
@@ -14424,13 +14414,13 @@ func (m *memory) f60(p0 uint64, p1 uint64) {
 		l3 = m.i32_load8_u(p1 + 52)
 		l2 = m.i32_load8_u(p1 + 51)
 		if select32(b32(l2 == 1), select32(l3, 1, l4), l4) == 1 {
-			l34 = m.i64_load(((uint64(select32(b32(l2 == 1), select32(l3, m.i32_load8_u(p1+53), l9), l9)) & 255) << 3) + 4611686018427409848)
+			l34 = m.i64_load(((uint64(select32(b32(l2 == 1), select32(l3, m.i32_load8_u(p1+53), l9), l9)) & 255) << 3) + 4611686018427410336)
 		}
 		l21 = p1 + 11
 		l3 = m.i32_load8_u(p1 + 55)
 		l2 = b32(m.i32_load8_u(p1+54) == 1)
 		if select32(l2, select32(l3, 1, l5), l5) == 1 {
-			l33 = m.i64_load(((uint64(select32(l2, select32(l3, m.i32_load8_u(p1+56), l10), l10)) & 255) << 3) + 4611686018427409848)
+			l33 = m.i64_load(((uint64(select32(l2, select32(l3, m.i32_load8_u(p1+56), l10), l10)) & 255) << 3) + 4611686018427410336)
 		}
 		l3 = m.i32_load8_u(l21)
 		l2 = m.i32_load8_u(p1 + 10)
@@ -14448,7 +14438,7 @@ func (m *memory) f60(p0 uint64, p1 uint64) {
 		i1 = l7
 		l7 = m.i32_load8_u(p1 + 57)
 		if select32(b32(l7 == 1), i0, i1) == 1 {
-			l21 = m.i64_load(((uint64(select32(b32(l7 == 1), select32(l18, m.i32_load8_u(p1+59), l15), l15)) & 255) << 3) + 4611686018427409848)
+			l21 = m.i64_load(((uint64(select32(b32(l7 == 1), select32(l18, m.i32_load8_u(p1+59), l15), l15)) & 255) << 3) + 4611686018427410336)
 		}
 		m.i32_store(p0+33, 0)
 		m.i32_store8(p0+32, l14)
@@ -14486,7 +14476,7 @@ func (m *memory) f60(p0 uint64, p1 uint64) {
 Bfunc:
 }
 
-func (m *memory) f61(p0 uint64, p1 uint64) uint64 {
+func (m *memory) f60(p0 uint64, p1 uint64) uint64 {
 	var l2, l3, j0 uint64
 	_, _, _ = l2, l3, j0
 	l2 = m.stackPointer - 32
@@ -14495,7 +14485,7 @@ func (m *memory) f61(p0 uint64, p1 uint64) uint64 {
 		m.i64_store(l2+24, 0)
 		m.i64_store(l2+16, 0)
 		m.i64_store(l2+8, 0)
-		m.f62(l2+8, p0)
+		m.f61(l2+8, p0)
 		p0 = m.i64_load(l2 + 8)
 		j0 = 0
 		if p0 == 0 {
@@ -14534,7 +14524,7 @@ Bfunc:
 	return j0
 }
 
-func (m *memory) f62(p0 uint64, p1 uint64) {
+func (m *memory) f61(p0 uint64, p1 uint64) {
 	var l12 uint32
 	var l2, l3, l4, l5, l6, l7, l8, l9, l10, l11 uint64
 	_, _, _, _, _, _, _, _, _, _, _ = l12, l2, l3, l4, l5, l6, l7, l8, l9, l10, l11
@@ -14562,43 +14552,7 @@ func (m *memory) f62(p0 uint64, p1 uint64) {
 Bfunc:
 }
 
-func (m *memory) f63(p0 uint64, p1 uint64) {
-	var l2 uint64
-	_ = l2
-	l2 = m.stackPointer - 128
-	m.stackPointer = l2
-	if int64(l2) >= 16 {
-		m.memory_fill(l2+16, 0, 112)
-		m.f47(l2+16, p1)
-		m.f18(l2, ((((1000-m.i64_load(l2+40))*(1000-m.i64_load(l2+48)))*(m.i64_load(l2+56)-1000))*1041)+1041000000000, 0, 10000000000000, 0)
-		m.i64_store(p0+8, m.i64_load(l2+8))
-		m.i64_store(p0, m.i64_load(l2))
-		m.stackPointer = l2 + 128
-		goto Bfunc
-	}
-	panic("cvss: unreachable")
-Bfunc:
-}
-
-func (m *memory) f64(p0 uint64, p1 uint64) {
-	var l2 uint64
-	_ = l2
-	l2 = m.stackPointer - 128
-	m.stackPointer = l2
-	if int64(l2) >= 16 {
-		m.memory_fill(l2+16, 0, 112)
-		m.f47(l2+16, p1)
-		m.f18(l2, ((m.i64_load(l2+16)*m.i64_load(l2+24))*m.i64_load(l2+32))*20, 0, 1000000000000000, 0)
-		m.i64_store(p0+8, m.i64_load(l2+8))
-		m.i64_store(p0, m.i64_load(l2))
-		m.stackPointer = l2 + 128
-		goto Bfunc
-	}
-	panic("cvss: unreachable")
-Bfunc:
-}
-
-func (m *memory) f65(p0 uint64, p1 uint64) uint64 {
+func (m *memory) f62(p0 uint64, p1 uint64) uint64 {
 	var l14 uint32
 	var l2, l3, l4, l5, l6, l7, l8, l9, l10, l11, l12, l13, j1 uint64
 	_, _, _, _, _, _, _, _, _, _, _, _, _, _ = l14, l2, l3, l4, l5, l6, l7, l8, l9, l10, l11, l12, l13, j1
@@ -14667,996 +14621,784 @@ B0:
 	return ((l2 ^ l8) - l8) - 10000000000000
 }
 
-func (m *memory) f66(p0 uint64, p1 uint64) {
-	var l4 uint32
-	var l2, l3, j1 uint64
-	_, _, _, _ = l4, l2, l3, j1
-	l2 = m.stackPointer - 128
-	m.stackPointer = l2
-	if int64(l2) >= 16 {
-		m.memory_fill(l2+16, 0, 112)
-		m.f47(l2+16, p1)
-		j1 = ((1000000 - (m.i64_load(l2+112) * m.i64_load(l2+48))) * (1000000 - (m.i64_load(l2+104) * m.i64_load(l2+40)))) * ((m.i64_load(l2+120) * m.i64_load(l2+56)) - 1000000)
-		m.f18(l2, j1+1000000000000000000, 0, 10410000, 0)
-		p1 = m.i64_load(l2 + 8)
-		l3 = m.i64_load(l2)
-		l4 = select32(b32(p1 == 542101), b32(l3 < 1590897978359414784), b32(p1 < 542101))
-		m.i64_store(p0+8, select64(l4, p1, 542101))
-		m.i64_store(p0, select64(l4, l3, 1590897978359414784))
-		m.stackPointer = l2 + 128
-		goto Bfunc
-	}
-	panic("cvss: unreachable")
-Bfunc:
-}
-
-func (m *memory) f67(p0 uint64, p1 uint64, p2 uint64, p3 uint64) {
-	var l41, l42, l43, l44, l45, l46, l47, l48, l49, l50, l51 uint32
-	var l4, l5, l6, l7, l8, l9, l10, l11, l12, l13, l14, l15, l16, l17, l18, l19, l20, l21, l22, l23, l24, l25, l26, l27, l28, l29, l30, l31, l32, l33, l34, l35, l36, l37, l38, l39, l40, j0, j1 uint64
-	_, _, _, _, _, _, _, _, _, _, _, _, _, _, _, _, _, _, _, _, _, _, _, _, _, _, _, _, _, _, _, _, _, _, _, _, _, _, _, _, _, _, _, _, _, _, _, _, _, _ = l41, l42, l43, l44, l45, l46, l47, l48, l49, l50, l51, l4, l5, l6, l7, l8, l9, l10, l11, l12, l13, l14, l15, l16, l17, l18, l19, l20, l21, l22, l23, l24, l25, l26, l27, l28, l29, l30, l31, l32, l33, l34, l35, l36, l37, l38, l39, l40, j0, j1
-	l4 = m.stackPointer - 2448
-	m.stackPointer = l4
-	if int64(l4) >= 16 {
-		l5 = p0 + 4096
-		l15 = m.i64_load(l5)
-		m.i32_store8(p0+l15, 123)
-		m.i64_store(l5, l15+1)
-		l17 = l4 + 2270
-		l34 = l4 + 2246
-		l19 = l4 + 2114
-		l20 = l4 + 1914
-		l21 = l4 + 1834
-		l35 = l4 + 1609
-		l22 = l4 + 1570
-		l36 = l4 + 1345
-		l23 = l4 + 1306
-		l37 = l4 + 1177
-		l24 = l4 + 1138
-		l25 = l4 + 938
-		l38 = l4 + 850
-		l15 = 0
-		j0 = l15
+func (m *memory) f63(p0 uint64, p1 uint64, p2 uint64, p3 uint64) {
+	var l35, l36, l37, l38, l39, l40, l41, l42, l43, l44, i1 uint32
+	var l4, l5, l6, l7, l8, l9, l10, l11, l12, l13, l14, l15, l16, l17, l18, l19, l20, l21, l22, l23, l24, l25, l26, l27, l28, l29, l30, l31, l32, l33, l34, j0, j1 uint64
+	_, _, _, _, _, _, _, _, _, _, _, _, _, _, _, _, _, _, _, _, _, _, _, _, _, _, _, _, _, _, _, _, _, _, _, _, _, _, _, _, _, _, _, _ = l35, l36, l37, l38, l39, l40, l41, l42, l43, l44, i1, l4, l5, l6, l7, l8, l9, l10, l11, l12, l13, l14, l15, l16, l17, l18, l19, l20, l21, l22, l23, l24, l25, l26, l27, l28, l29, l30, l31, l32, l33, l34, j0, j1
+	l5 = m.stackPointer - 160
+	m.stackPointer = l5
+	if int64(l5) >= 16 {
+		l4 = p0 + 4096
+		l6 = m.i64_load(l4)
+		m.i32_store8(p0+l6, 123)
+		m.i64_store(l4, l6+1)
 	L1:
-		l5 = p2 + (l15 * 80)
-		l6 = m.i64_load16_u(l5 + 29)
-		l9 = m.i64_load8_u(l5 + 31)
-		l8 = m.i64_load32_u(l5 + 25)
-		l41 = m.i32_load8_u(l5 + 24)
-		l46 = m.i32_load8_u(l5 + 22)
-		l47 = m.i32_load8_u(l5 + 19)
-		l48 = m.i32_load8_u(l5 + 18)
-		l44 = m.i32_load8_u(l5 + 17)
-		l10 = m.i64_load(l5 + 8)
-		l11 = m.i64_load(l5)
-		l49 = m.i32_load8_u(l5 + 72)
-		l16 = m.i64_load(l5 - 18446744073709551552)
-		l43 = m.i32_load8_u(l5 + 56)
-		l12 = m.i64_load(l5 + 48)
-		l13 = m.i64_load(l5 + 40)
-		l7 = m.i64_load(l5 + 32)
-		l18 = m.i64_load8_u(l5 + 23)
-		l50 = m.i32_load8_u(l5 + 21)
-		l51 = m.i32_load8_u(l5 + 20)
-		l45 = m.i32_load8_u(l5 + 16)
-		if select32(l41&255, 0, b32(l45 == 2)) == 0 {
-			l9 = (l9 << 48) | (l6 << 32)
-			l6 = p0 + 4096
-			l5 = m.i64_load(l6)
-			l9 = l8 | l9
-			l8 = uint64(l41) & 255
-			if l42&1 != 0 {
-				m.i32_store8(p0+l5, 44)
-				l5 = l5 + 1
-				j0 = l5
+		l4 = p2 + (l30 * 56)
+		l8 = m.i64_load16_u(l4 + 29)
+		l7 = m.i64_load8_u(l4 + 31)
+		l11 = m.i64_load32_u(l4 + 25)
+		l35 = m.i32_load8_u(l4 + 24)
+		l42 = m.i32_load8_u(l4 + 23)
+		l36 = m.i32_load8_u(l4 + 22)
+		l39 = m.i32_load8_u(l4 + 20)
+		l40 = m.i32_load8_u(l4 + 19)
+		l37 = m.i32_load8_u(l4 + 18)
+		l38 = m.i32_load8_u(l4 + 17)
+		l13 = m.i64_load(l4 + 8)
+		l10 = m.i64_load(l4)
+		l9 = m.i64_load(l4 + 48)
+		l6 = m.i64_load(l4 + 40)
+		l12 = m.i64_load(l4 + 32)
+		l41 = m.i32_load8_u(l4 + 21)
+		l44 = m.i32_load8_u(l4 + 16)
+		if select32(l35&255, 0, b32(l44 == 2)) == 0 {
+			l8 = (l7 << 48) | (l8 << 32)
+			l7 = p0 + 4096
+			l4 = m.i64_load(l7)
+			l14 = uint64(l36)
+			l15 = uint64(l37)
+			l8 = l8 | l11
+			l16 = uint64(l35) & 255
+			if l43 != 0 {
+				m.i32_store8(p0+l4, 44)
+				l4 = l4 + 1
+				j0 = l4
 			}
-			m.i32_store8(p0+l5, 34)
-			m.i64_store(l6, l5+1)
-			m.f68(p0, l11, l10)
-			l5 = m.i64_load(l6)
-			l6 = p0 + l5
-			if (l6 - 4611686018427398281) <= 1 {
-				m.i32_store16(l6, 14882)
+			m.i32_store8(p0+l4, 34)
+			m.i64_store(l7, l4+1)
+			m.f64(p0, l10, l13)
+			l4 = m.i64_load(l7)
+			l7 = p0 + l4
+			if (l7 - 4611686018427398484) <= 1 {
+				m.i32_store16(l7, 14882)
 				goto B4
 			}
-			m.i32_store16(l6, 14882)
+			m.i32_store16(l7, 14882)
 		B4:
-			l10 = p0 + 4096
-			l11 = l5 + 2
-			m.i64_store(l10, l11)
-			l14 = 0
-			m.i64_store(l4+2216, 0)
-			m.i64_store(l4+2224, 0)
-			m.i64_store(l4+2232, 0)
-			m.i32_store(l4+2208, 0)
-			m.i32_store16(l4+2212, 0)
-			m.i64_store(l4+2200, 0)
-			m.i64_store(l4+2192, 0)
-			m.i64_store(l4+2184, 0)
-			m.i64_store(l4+2176, 0)
-			m.i64_store(l4+2168, 0)
-			m.i64_store(l4+2160, 0)
-			m.i64_store(l4+2152, 0)
-			m.i64_store(l4+2144, 0)
-			m.i64_store(l4+2136, 0)
-			m.memory_fill(l4+1936, 0, 200)
-			m.memory_fill(l4+1856, 0, 80)
-			m.memory_fill(l4+1656, 0, 200)
-			m.i64_store(l4+1646, 0)
-			m.i64_store(l4+1640, 0)
-			m.i64_store(l4+1632, 0)
-			m.memory_fill(l4+1392, 0, 240)
-			m.i64_store(l4+1382, 0)
-			m.i64_store(l4+1376, 0)
-			m.i64_store(l4+1368, 0)
-			m.memory_fill(l4+1248, 0, 120)
-			m.i64_store(l4+1238, 0)
-			m.i64_store(l4+1232, 0)
-			m.i64_store(l4+1224, 0)
-			m.i64_store(l4+1200, 0)
-			m.i64_store(l4+1208, 0)
-			m.i64_store(l4+1214, 0)
-			m.memory_fill(l4+880, 0, 320)
-			m.i32_store16(l4+876, 0)
-			m.i32_store(l4+872, 0)
-			m.memory_fill(l4+72, 0, 800)
-			l6 = (l9 << 8) | l8
-			l42 = uint32(l7)
-			switch l45 - 1 {
+			l14 = l14 & 255
+			l15 = l15 & 255
+			l13 = p0 + 4096
+			l10 = l4 + 2
+			m.i64_store(l13, l10)
+			l17 = 0
+			m.i64_store(l5+104, 0)
+			m.i64_store(l5+112, 0)
+			m.i64_store(l5+120, 0)
+			m.i32_store(l5+96, 0)
+			m.i32_store16(l5+100, 0)
+			m.i64_store(l5+72, 0)
+			m.i64_store(l5+80, 0)
+			m.i64_store(l5+88, 0)
+			m.i64_store(l5+48, 0)
+			m.i64_store(l5+56, 0)
+			m.i64_store(l5-18446744073709551552, 0)
+			m.i64_store(l5+24, 0)
+			m.i64_store(l5+32, 0)
+			m.i64_store(l5+40, 0)
+			l11 = l8 & 72057594037927935
+			l7 = (l8 << 8) | l16
+			switch l44 - 1 {
 			case 0:
-				goto B21
-			case 1:
-				goto B20
-			case 2:
-				goto B19
-			case 3:
-				goto B18
-			case 4:
-				goto B17
-			case 5:
 				goto B16
-			case 6:
+			case 1:
 				goto B15
-			case 7:
+			case 2:
 				goto B14
-			case 8:
+			case 3:
 				goto B13
-			case 9:
+			case 4:
 				goto B12
-			case 10:
+			case 5:
 				goto B11
-			case 11:
+			case 6:
 				goto B10
-			case 12:
+			case 7:
 				goto B9
-			case 13:
+			case 8:
 				goto B8
-			case 14:
+			case 9:
 				goto B7
 			default:
-				goto B22
+				goto B17
 			}
-		B22:
-			m.i64_store(l4+2232, l13)
-			m.i64_store(l4+2224, l7)
-			m.i64_store8(l4+2217, l9)
-			m.i32_store8(l4+2216, l41)
-			m.f69(l4+2216, p0)
-			goto B6
-		B21:
-			m.i32_store8(l4+2213, l46)
-			m.i32_store8(l4+2212, l50)
-			m.i32_store8(l4+2211, l51)
-			m.i32_store8(l4+2210, l47)
-			m.i32_store8(l4+2209, l48)
-			m.i32_store8(l4+2208, l44)
-			m.i64_store(l4+2200, 6)
-			m.i32_store8(l4+2184, 3)
-			m.i64_store(l4+2192, l4+2208)
-			m.f69(l4+2184, p0)
-			goto B6
-		B20:
-			if (l41 & 255) == 0 {
-				goto B6
-			}
-			m.f70(p0, l7)
-			goto B6
-		B19:
-			m.f71(l4+8, p1, l44)
-			m.i32_store8(l4+2160, 4)
-			m.i64_store(l4+2176, m.i64_load(l4+16))
-			m.i64_store(l4+2168, m.i64_load(l4+8))
-			m.f69(l4+2160, p0)
-			goto B6
-		B18:
-			m.i32_store8(p0+l11, 34)
-			m.i64_store(l10, l5+3)
-			m.f72(p0, p1)
-			l5 = m.i64_load(l10)
-			m.i32_store8(p0+l5, 34)
-			m.i64_store(l10, l5+1)
-			goto B6
 		B17:
-			m.i32_store8(l4+2136, 4)
-			m.i64_store(l4+2152, 3)
-			m.i64_store(l4+2144, m.i64_load((m.i64_load8_u(p1)<<3)+4611686018427412752))
-			m.f69(l4+2136, p0)
+			m.i64_store(l5+120, l6)
+			m.i64_store(l5+112, l12)
+			m.i64_store8(l5+105, l8)
+			m.i32_store8(l5+104, l35)
+			m.f65(l5+104, p0)
 			goto B6
 		B16:
-			m.i64_store(l19, 0)
-			m.i64_store(l19+8, 0)
-			m.i64_store(l19+14, 0)
-			m.i32_store8(l4+2113, l43)
-			m.i32_store8(l4+2112, 1)
-			m.i64_store(l4+2104, 5)
-			m.i64_store(l4+2096, 4611686018427398240)
-			m.i64_store(l4+2080, l12)
-			m.i64_store(l4+2064, 6)
-			m.i64_store(l4+2056, 4611686018427398445)
-			m.i64_store(l4+2040, l6)
-			m.i64_store(l4+2024, 6)
-			m.i64_store(l4+2016, 4611686018427398439)
-			m.i64_store(l4+2000, l13)
-			m.i64_store(l4+1984, 1)
-			m.i64_store(l4+1976, 4611686018427398438)
-			m.i64_store(l4+1960, l7)
-			m.i64_store(l4+1944, 14)
-			m.i64_store(l4+1936, 4611686018427398424)
-			m.f73(p0, l4+1936, 5)
+			m.i32_store8(l5+101, l36)
+			m.i32_store8(l5+100, l41)
+			m.i32_store8(l5+99, l39)
+			m.i32_store8(l5+98, l40)
+			m.i32_store8(l5+97, l37)
+			m.i32_store8(l5+96, l38)
+			m.i64_store(l5+88, 6)
+			m.i32_store8(l5+72, 3)
+			m.i64_store(l5+80, l5+96)
+			m.f65(l5+72, p0)
 			goto B6
 		B15:
-			m.i64_store(l20, 0)
-			m.i64_store(l20+8, 0)
-			m.i64_store(l20+14, 0)
-			m.i32_store8(l4+1913, l42)
-			m.i32_store8(l4+1912, 1)
-			m.i64_store(l4+1904, 5)
-			m.i64_store(l4+1896, 4611686018427398240)
-			m.i64_store(l4+1880, l6)
-			m.i64_store(l4+1864, 6)
-			m.i64_store(l4+1856, 4611686018427398445)
-			m.f73(p0, l4+1856, 2)
+			if (l35 & 255) == 0 {
+				goto B6
+			}
+			m.f66(p0, l12)
 			goto B6
 		B14:
-			m.i64_store(l21, 0)
-			m.i64_store(l21+8, 0)
-			m.i64_store(l21+14, 0)
-			m.i32_store8(l4+1833, l43)
-			m.i32_store8(l4+1832, 1)
-			m.i64_store(l4+1824, 5)
-			m.i64_store(l4+1816, 4611686018427398240)
-			m.i64_store(l4+1800, l12)
-			m.i64_store(l4+1784, 6)
-			m.i64_store(l4+1776, 4611686018427398445)
-			m.i64_store(l4+1760, l13)
-			m.i64_store(l4+1744, 16)
-			m.i64_store(l4+1736, 4611686018427398477)
-			m.i64_store(l4+1720, l6)
-			m.i64_store(l4+1704, 14)
-			m.i64_store(l4+1696, 4611686018427398463)
-			m.i64_store(l4+1680, l7)
-			m.i64_store(l4+1664, 12)
-			m.i64_store(l4+1656, 4611686018427398451)
-			m.f73(p0, l4+1656, 5)
+			l13 = l5 + 8
+			l9 = p1
+			l10 = m.stackPointer - 16
+			m.stackPointer = l10
+			if int64(l10) >= 16 {
+				m.f18(l10, uint64(l38)&255, 0, 200376420520689664, 5421)
+				l6 = m.i64_load(l10)
+				l4 = m.i64_load(l10 + 8)
+				j0 = l13 + 8
+				if int64(m.stackPointer) >= 16 {
+					i1 = select32(select32(b32(l4 == 216840), b32(l6 < 8015056820827586560), b32(l4 < 216840)), 1, select32(select32(b32(l4 == 379470), b32(l6 < 14026349436448276480), b32(l4 < 379470)), 2, 3))
+					if m.i32_load8_u(l9) == 0 {
+						goto B20
+					}
+					i1 = 0
+					if select32(b32(l4 == 5421), b32(l6 < 200376420520689664), b32(l4 < 5421)) != 0 {
+						goto B20
+					}
+					i1 = 1
+					if select32(b32(l4 == 216840), b32(l6 < 8015056820827586560), b32(l4 < 216840)) != 0 {
+						goto B20
+					}
+					i1 = select32(select32(b32(l4 == 379470), b32(l6 < 14026349436448276480), b32(l4 < 379470)), 2, select32(select32(b32(l4 == 487890), b32(l6 < 18033877846862069760), b32(l4 < 487890)), 3, 4))
+					goto B20
+				}
+				panic("cvss: unreachable")
+			B20:
+				l9 = uint64(i1&255) << 3
+				m.i64_store(j0, m.i64_load(l9+4611686018427412216))
+				m.i64_store(l13, m.i64_load(l9+4611686018427412256))
+				m.stackPointer = l10 + 16
+				goto B18
+			}
+			panic("cvss: unreachable")
+		B18:
+			m.i32_store8(l5+48, 4)
+			m.i64_store(l5-18446744073709551552, m.i64_load(l5+16))
+			m.i64_store(l5+56, m.i64_load(l5+8))
+			m.f65(l5+48, p0)
 			goto B6
 		B13:
-			m.i32_store8(p0+l11, 123)
-			l7 = l5 + 3
-			m.i64_store(l10, l7)
-			if m.i32_load8_u(l6+10) == 1 {
-				l14 = m.i64_load((m.i64_load8_u(l6+11) << 3) + 4611686018427409944)
-				j0 = l14
-			}
-			m.i32_store8(p0+l7, 34)
-			l7 = p0 + 4096
-			m.i64_store(l7, l5+4)
-			m.i64_store(l4+2264, 0)
-			m.f68(p0, 4611686018427388712, 1)
-			l5 = m.i64_load(l7)
-			l7 = p0 + l5
-			if (l7 - 4611686018427398281) >= 2 {
-				m.i32_store16(l7, 14882)
-				goto B24
-			}
-			m.i32_store16(l7, 14882)
-		B24:
-			m.i64_store(p0+4096, l5+2)
-			m.i64_store(l4+2280, 0)
-			m.i64_store(l4+2272, l14)
-			m.f69(l4+2264, p0)
-			l5 = 1
-			j0 = l5
-		L26:
-			l8 = m.i64_load8_u(l5 + 4611686018427398283)
-			switch uint32(l8) - 1 {
-			case 0:
-				goto B40
-			case 1:
-				goto B41
-			case 2:
-				goto B39
-			case 3:
-				goto B38
-			case 4:
-				goto B37
-			case 5:
-				goto B35
-			case 6:
-				goto B34
-			case 7:
-				goto B33
-			case 8:
-				goto B32
-			case 9:
-				goto B31
-			case 10:
-				goto B30
-			case 11:
-				goto B29
-			case 12:
-				goto B28
-			default:
-				goto B36
-			}
-		B41:
-			j0 = 0
-			if m.i32_load8_u(l6) != 1 {
-				goto B27
-			}
-			j0 = m.i64_load((m.i64_load8_u(l6+1) << 3) + 4611686018427409872)
-			goto B27
-		B40:
-			j0 = 0
-			if m.i32_load8_u(l6+2) != 1 {
-				goto B27
-			}
-			j0 = m.i64_load((m.i64_load8_u(l6+3) << 3) + 4611686018427409896)
-			goto B27
-		B39:
-			j0 = 0
-			if m.i32_load8_u(l6+4) != 1 {
-				goto B27
-			}
-			j0 = m.i64_load((m.i64_load8_u(l6+5) << 3) + 4611686018427409920)
-			goto B27
-		B38:
-			j0 = 0
-			if m.i32_load8_u(l6+6) != 1 {
-				goto B27
-			}
-			j0 = m.i64_load((m.i64_load8_u(l6+7) << 3) + 4611686018427409944)
-			goto B27
-		B37:
-			j0 = 0
-			if m.i32_load8_u(l6+8) != 1 {
-				goto B27
-			}
-			j0 = m.i64_load((m.i64_load8_u(l6+9) << 3) + 4611686018427409944)
-			goto B27
-		B36:
-			j0 = 0
-			if m.i32_load8_u(l6+10) != 1 {
-				goto B27
-			}
-			j0 = m.i64_load((m.i64_load8_u(l6+11) << 3) + 4611686018427409944)
-			goto B27
-		B35:
-			j0 = 10000000
-			if m.i32_load8_u(l6+12) != 1 {
-				goto B27
-			}
-			j0 = m.i64_load((m.i64_load8_u(l6+13) << 3) + 4611686018427409968)
-			goto B27
-		B34:
-			j0 = 10000000
-			if m.i32_load8_u(l6+14) != 1 {
-				goto B27
-			}
-			j0 = m.i64_load((m.i64_load8_u(l6+15) << 3) + 4611686018427410008)
-			goto B27
-		B33:
-			j0 = 10000000
-			if m.i32_load8_u(l6+16) != 1 {
-				goto B27
-			}
-			j0 = m.i64_load((m.i64_load8_u(l6+17) << 3) + 4611686018427410048)
-			goto B27
-		B32:
-			j0 = 0
-			if m.i32_load8_u(l6+18) != 1 {
-				goto B27
-			}
-			j0 = m.i64_load((m.i64_load8_u(l6+19) << 3) + 4611686018427410080)
-			goto B27
-		B31:
-			j0 = 10000000
-			if m.i32_load8_u(l6+20) != 1 {
-				goto B27
-			}
-			j0 = m.i64_load((m.i64_load8_u(l6+21) << 3) + 4611686018427410128)
-			goto B27
-		B30:
-			j0 = 10000000
-			if m.i32_load8_u(l6+22) != 1 {
-				goto B27
-			}
-			j0 = m.i64_load((m.i64_load8_u(l6+23) << 3) + 4611686018427410168)
-			goto B27
-		B29:
-			j0 = 10000000
-			if m.i32_load8_u(l6+24) != 1 {
-				goto B27
-			}
-			j0 = m.i64_load((m.i64_load8_u(l6+25) << 3) + 4611686018427410168)
-			goto B27
-		B28:
-			j0 = 10000000
-			if m.i32_load8_u(l6+26) != 1 {
-				goto B27
-			}
-			j0 = m.i64_load((m.i64_load8_u(l6+27) << 3) + 4611686018427410168)
-		B27:
-			l9 = j0
-			l7 = p0 + 4096
-			l10 = m.i64_load(l7)
-			m.i32_store16(p0+l10, 8748)
-			m.i64_store(l7, l10+2)
-			m.i64_store(l4+2264, 0)
-			l8 = l8 * 56
-			m.f68(p0, m.i64_load(l8+4611686018427387928), m.i64_load(l8+4611686018427387936))
-			l7 = m.i64_load(l7)
-			l8 = p0 + l7
-			if (l8 - 4611686018427398281) <= 1 {
-				m.i32_store16(l8, 14882)
-				goto B42
-			}
-			m.i32_store16(l8, 14882)
-		B42:
-			l8 = p0 + 4096
-			m.i64_store(l8, l7+2)
-			m.i64_store(l4+2280, 0)
-			m.i64_store(l4+2272, l9)
-			m.f69(l4+2264, p0)
-			l5 = l5 + 1
-			if l5 != 14 {
-				goto L26
-			}
-			l5 = m.i64_load(l8)
-			m.i32_store8(p0+l5, 125)
-			m.i64_store(l8, l5+1)
+			m.i32_store8(p0+l10, 34)
+			m.i64_store(l13, l4+3)
+			m.f67(p0, p1)
+			l4 = m.i64_load(l13)
+			m.i32_store8(p0+l4, 34)
+			m.i64_store(l13, l4+1)
 			goto B6
 		B12:
-			m.i32_store16(l4+2268, 0)
-			m.i32_store(l4+2264, 0)
-			m.f71(l4+24, p1, l43)
-			l5 = m.i64_load(l4 + 24)
-			l9 = m.i64_load(l4 + 32)
-			m.i64_store(l17+8, 0)
-			m.i64_store(l17, 0)
-			m.i64_store(l4+1632, m.i64_load(l4+2264))
-			m.i64_store(l4+1640, m.i64_load(l4+2272))
-			m.i64_store(l4+1646, m.i64_load(l4+2278))
-			m.i32_store8(l4+1569, l43)
-			m.i32_store8(l4+1568, 1)
-			m.i64_store(l4+1560, 5)
-			m.i64_store(l4+1552, 4611686018427398240)
-			m.i64_store(l4+1544, 0)
-			m.i64_store(l4+1536, l12)
-			m.i64_store(l4+1528, 0)
-			m.i64_store(l4+1520, 6)
-			m.i64_store(l4+1512, 4611686018427398445)
-			m.i64_store(l4+1504, 0)
-			m.i64_store(l4+1496, l6)
-			m.i64_store(l4+1488, 0)
-			m.i64_store(l4+1480, 3)
-			m.i64_store(l4+1472, 4611686018427398493)
-			m.i64_store(l4+1464, 0)
-			m.i64_store(l4+1456, l7)
-			m.i64_store(l4+1448, 0)
-			m.i64_store(l4+1440, 6)
-			m.i64_store(l4+1432, 4611686018427398439)
-			m.i64_store(l4+1424, 0)
-			m.i64_store(l4+1416, l13)
-			m.i64_store(l4+1408, 0)
-			m.i64_store(l4+1400, 14)
-			m.i64_store(l4+1392, 4611686018427398424)
-			m.i32_store(l35+3, 0)
-			m.i32_store(l35, 0)
-			m.i64_store(l22+14, m.i64_load(l4+1646))
-			m.i64_store(l22+8, m.i64_load(l4+1640))
-			m.i64_store(l22, m.i64_load(l4+1632))
-			m.i32_store8(l4+1608, 4)
-			m.i64_store(l4+1600, 8)
-			m.i64_store(l4+1592, 4611686018427398245)
-			m.i64_store(l4+1624, l9)
-			m.i64_store(l4+1616, l5)
-			m.f73(p0, l4+1392, 6)
+			m.i32_store8(l5+24, 4)
+			m.i64_store(l5+40, 3)
+			m.i64_store(l5+32, m.i64_load((m.i64_load8_u(p1)<<3)+4611686018427413496))
+			m.f65(l5+24, p0)
 			goto B6
 		B11:
-			m.i32_store16(l4+2268, 0)
-			m.i32_store(l4+2264, 0)
-			m.f71(l4+40, p1, l42)
-			l5 = m.i64_load(l4 + 40)
-			l7 = m.i64_load(l4 + 48)
-			m.i64_store(l17+8, 0)
-			m.i64_store(l17, 0)
-			m.i64_store(l4+1368, m.i64_load(l4+2264))
-			m.i64_store(l4+1376, m.i64_load(l4+2272))
-			m.i64_store(l4+1382, m.i64_load(l4+2278))
-			m.i32_store8(l4+1305, l42)
-			m.i32_store8(l4+1304, 1)
-			m.i64_store(l4+1296, 5)
-			m.i64_store(l4+1288, 4611686018427398240)
-			m.i64_store(l4+1280, 0)
-			m.i64_store(l4+1272, l6)
-			m.i64_store(l4+1264, 0)
-			m.i64_store(l4+1256, 6)
-			m.i64_store(l4+1248, 4611686018427398445)
-			m.i64_store(l23, m.i64_load(l4+1368))
-			m.i64_store(l23+8, m.i64_load(l4+1376))
-			m.i64_store(l23+14, m.i64_load(l4+1382))
-			m.i32_store(l36, 0)
-			m.i32_store(l36+3, 0)
-			m.i32_store8(l4+1344, 4)
-			m.i64_store(l4+1336, 8)
-			m.i64_store(l4+1328, 4611686018427398245)
-			m.i64_store(l4+1360, l7)
-			m.i64_store(l4+1352, l5)
-			m.f73(p0, l4+1248, 3)
+			m.i32_store8(p0+l10, 123)
+			l4 = l4 + 3
+			m.i64_store(l13, l4)
+			if b32(l9 == 0) == 0 {
+				l35 = 0
+			L23:
+				l4 = m.i64_load(l6 + 8)
+				if m.i32_load8_u(l6) == 0 {
+					if l4 >= l12 {
+						goto B24
+					}
+					l4 = l7 + (l4 * 24)
+					l36 = m.i32_load8_u(l4 + 8)
+					l10 = select64(l36, 0, m.i64_load(l4+16))
+					l8 = uint64(b32(l36 != 0)) | ((uint64(select32(l36, m.i32_load8_u(l4+9), 0)) & 255) << 8)
+					l4 = m.i64_load8_u(l4) << 3
+					l16 = m.i64_load(l4 + 4611686018427410488)
+					l14 = m.i64_load(l4 + 4611686018427410360)
+					j0 = 0
+					goto B25
+				}
+				if l4 >= l12 {
+					goto B24
+				}
+				l4 = l7 + (l4 * 24)
+				if m.i32_load8_u(l4+8) != 2 {
+					goto B24
+				}
+				l8 = 4
+				l14 = 8
+				l16 = 4611686018427398409
+				l37 = m.i32_load8_u(l4 + 9)
+				l36 = l37 & 255
+				if l36 == 0 {
+					l10 = 4611686018427398515
+					j0 = 4
+					goto B27
+				}
+				if l36 < 40 {
+					l10 = 4611686018427398519
+					j0 = 3
+					goto B27
+				}
+				l36 = l37 & 255
+				if l36 < 70 {
+					l10 = 4611686018427398522
+					j0 = 6
+					goto B27
+				}
+				l36 = b32(l36 < 90)
+				l10 = select64(l36, 4611686018427398528, 4611686018427398532)
+				j0 = select64(l36, 4, 8)
+			B27:
+			B25:
+				l13 = j0
+				m.i64_store(l5+128, 0)
+				l11 = p0 + 4096
+				l4 = m.i64_load(l11)
+				l15 = l8 >> 8
+				if l35&1 != 0 {
+					m.i32_store8(p0+l4, 44)
+					l4 = l4 + 1
+					j0 = l4
+				}
+				l35 = uint32(l15)
+				l36 = uint32(l8)
+				m.i32_store8(p0+l4, 34)
+				m.i64_store(l11, l4+1)
+				m.f64(p0, l16, l14)
+				l4 = m.i64_load(l11)
+				l8 = p0 + l4
+				if (l8 - 4611686018427398484) <= 1 {
+					m.i32_store16(l8, 14882)
+					goto B32
+				}
+				m.i32_store16(l8, 14882)
+			B32:
+				m.i64_store(p0+4096, l4+2)
+				m.i64_store(l5+144, l13)
+				m.i64_store(l5+136, l10)
+				m.i32_store8(l5+129, l35)
+				m.i32_store8(l5+128, l36)
+				m.f65(l5+128, p0)
+				l35 = 1
+			B24:
+				l6 = l6 + 16
+				l9 = l9 - 1
+				if l9 != 0 {
+					goto L23
+				}
+				l4 = m.i64_load(p0 + 4096)
+				j0 = l4
+			}
+			m.i32_store8(p0+l4, 125)
+			m.i64_store(p0+4096, l4+1)
 			goto B6
 		B10:
-			m.i32_store(l4+2264, 0)
-			m.i32_store16(l4+2268, 0)
-			m.i32_store(l4+2240, 0)
-			m.i32_store16(l4+2244, 0)
-			m.f71(l4+56, p1, l49)
-			l5 = m.i64_load(l4 + 56)
-			l9 = m.i64_load(l4 - 18446744073709551552)
-			m.i64_store(l17+8, 0)
-			m.i64_store(l17, 0)
-			m.i64_store(l34, 0)
-			m.i64_store(l34+8, 0)
-			m.i64_store(l4+1224, m.i64_load(l4+2264))
-			m.i64_store(l4+1232, m.i64_load(l4+2272))
-			m.i64_store(l4+1238, m.i64_load(l4+2278))
-			m.i64_store(l4+1200, m.i64_load(l4+2240))
-			m.i64_store(l4+1208, m.i64_load(l4+2248))
-			m.i64_store(l4+1214, m.i64_load(l4+2254))
-			m.i32_store8(l4+937, l43)
-			m.i32_store8(l4+936, 1)
-			m.i64_store(l4+928, 10)
-			m.i64_store(l4+920, 4611686018427398507)
-			m.i64_store(l4+912, 0)
-			m.i64_store(l4+904, l12)
-			m.i64_store(l4+896, 0)
-			m.i64_store(l4+888, 11)
-			m.i64_store(l4+880, 4611686018427398496)
-			m.i64_store(l25, m.i64_load(l4+1224))
-			m.i64_store(l25+8, m.i64_load(l4+1232))
-			m.i64_store(l25+14, m.i64_load(l4+1238))
-			m.i32_store8(l4+1137, l49)
-			m.i32_store8(l4+1136, 1)
-			m.i64_store(l4+1128, 5)
-			m.i64_store(l4+1120, 4611686018427398240)
-			m.i64_store(l4+1112, 0)
-			m.i64_store(l4+1104, l16)
-			m.i64_store(l4+1096, 0)
-			m.i64_store(l4+1088, 6)
-			m.i64_store(l4+1080, 4611686018427398445)
-			m.i64_store(l4+1072, 0)
-			m.i64_store(l4+1064, l7)
-			m.i64_store(l4+1056, 0)
-			m.i64_store(l4+1048, 14)
-			m.i64_store(l4+1040, 4611686018427398543)
-			m.i64_store(l4+1032, 0)
-			m.i64_store(l4+1024, l13)
-			m.i64_store(l4+1016, 0)
-			m.i64_store(l4+1008, 22)
-			m.i64_store(l4+1000, 4611686018427398521)
-			m.i64_store(l4+992, 0)
-			m.i64_store(l4+984, l6)
-			m.i64_store(l4+976, 0)
-			m.i64_store(l4+968, 4)
-			m.i64_store(l4+960, 4611686018427398517)
-			m.i32_store(l37+3, 0)
-			m.i32_store(l37, 0)
-			m.i64_store(l24+14, m.i64_load(l4+1214))
-			m.i64_store(l24+8, m.i64_load(l4+1208))
-			m.i64_store(l24, m.i64_load(l4+1200))
-			m.i32_store8(l4+1176, 4)
-			m.i64_store(l4+1168, 8)
-			m.i64_store(l4+1160, 4611686018427398245)
-			m.i64_store(l4+1192, l9)
-			m.i64_store(l4+1184, l5)
-			m.f73(p0, l4+880, 8)
+			m.f68(p0, l7, l12)
 			goto B6
 		B9:
-			m.i32_store(l4+872, 0)
-			m.i32_store16(l4+876, 0)
-			m.memory_fill(l4+2264, 0, 176)
-			m.f57(l4+2264, l6)
-			l5 = m.i64_load(l4 + 2288)
-			l7 = m.i64_load(l4 + 2320)
-			l6 = m.i64_load(l4 + 2272)
-			l9 = m.i64_load(l4 + 2368)
-			l8 = m.i64_load(l4 + 2264)
-			l10 = m.i64_load(l4 + 2304)
-			l11 = m.i64_load(l4 + 2352)
-			l13 = m.i64_load(l4 + 2328)
-			l12 = m.i64_load(l4 + 2312)
-			l16 = m.i64_load(l4 + 2360)
-			l18 = m.i64_load(l4 + 2432)
-			l14 = m.i64_load(l4 + 2384)
-			l26 = m.i64_load(l4 + 2376)
-			l27 = m.i64_load(l4 + 2416)
-			l28 = m.i64_load(l4 + 2424)
-			l29 = m.i64_load(l4 + 2392)
-			l30 = m.i64_load(l4 + 2400)
-			l31 = m.i64_load(l4 + 2280)
-			l32 = m.i64_load(l4 + 2344)
-			l33 = m.i64_load(l4 + 2336)
-			m.i32_store16(l4+848, 0)
-			m.i64_store(l4+840, 2)
-			m.i64_store(l4+832, 4611686018427398592)
-			m.i64_store(l4+824, 0)
-			m.i64_store(l4+808, 0)
-			m.i64_store(l4+800, 2)
-			m.i64_store(l4+792, 4611686018427398590)
-			m.i64_store(l4+784, 0)
-			m.i64_store(l4+768, 0)
-			m.i64_store(l4+760, 2)
-			m.i64_store(l4+752, 4611686018427398588)
-			m.i64_store(l4+744, 0)
-			m.i64_store(l4+728, 0)
-			m.i64_store(l4+720, 2)
-			m.i64_store(l4+712, 4611686018427398586)
-			m.i64_store(l4+704, 0)
-			m.i64_store(l4+688, 0)
-			m.i64_store(l4+680, 3)
-			m.i64_store(l4+672, 4611686018427398583)
-			m.i64_store(l4+664, 0)
-			m.i64_store(l4+648, 0)
-			m.i64_store(l4+640, 3)
-			m.i64_store(l4+632, 4611686018427398580)
-			m.i64_store(l4+624, 0)
-			m.i64_store(l4+608, 0)
-			m.i64_store(l4+600, 2)
-			m.i64_store(l4+592, 4611686018427398578)
-			m.i64_store(l4+584, 0)
-			m.i64_store(l4+568, 0)
-			m.i64_store(l4+560, 2)
-			m.i64_store(l4+552, 4611686018427398576)
-			m.i64_store(l4+544, 0)
-			m.i64_store(l4+528, 0)
-			m.i64_store(l4+520, 3)
-			m.i64_store(l4+512, 4611686018427398573)
-			m.i64_store(l4+504, 0)
-			m.i64_store(l4+488, 0)
-			m.i64_store(l4+480, 3)
-			m.i64_store(l4+472, 4611686018427398570)
-			m.i64_store(l4+464, 0)
-			m.i64_store(l4+448, 0)
-			m.i64_store(l4+440, 2)
-			m.i64_store(l4+432, 4611686018427398568)
-			m.i64_store(l4+424, 0)
-			m.i64_store(l4+408, 0)
-			m.i64_store(l4+400, 2)
-			m.i64_store(l4+392, 4611686018427398566)
-			m.i64_store(l4+384, 0)
-			m.i64_store(l4+368, 0)
-			m.i64_store(l4+360, 1)
-			m.i64_store(l4+352, 4611686018427398352)
-			m.i64_store(l4+344, 0)
-			m.i64_store(l4+328, 0)
-			m.i64_store(l4+320, 1)
-			m.i64_store(l4+312, 4611686018427398565)
-			m.i64_store(l4+304, 0)
-			m.i64_store(l4+288, 0)
-			m.i64_store(l4+280, 2)
-			m.i64_store(l4+272, 4611686018427398563)
-			m.i64_store(l4+264, 0)
-			m.i64_store(l4+248, 0)
-			m.i64_store(l4+240, 1)
-			m.i64_store(l4+232, 4611686018427389540)
-			m.i64_store(l4+224, 0)
-			m.i64_store(l4+208, 0)
-			m.i64_store(l4+200, 2)
-			m.i64_store(l4+192, 4611686018427398561)
-			m.i64_store(l4+184, 0)
-			m.i64_store(l4+168, 0)
-			m.i64_store(l4+160, 2)
-			m.i64_store(l4+152, 4611686018427398559)
-			m.i64_store(l4+144, 0)
-			m.i64_store(l4+128, 0)
-			m.i64_store(l4+120, 2)
-			m.i64_store(l4+112, 4611686018427398557)
-			m.i64_store(l4+104, 0)
-			m.i64_store(l4+88, 0)
-			m.i64_store(l4+80, 1)
-			m.i64_store(l4+72, 4611686018427387919)
-			m.i64_store(l4+816, l33*100000)
-			m.i64_store(l4+776, l32*100000)
-			m.i64_store(l4+736, l31*100000)
-			m.i64_store(l4+696, l30*100000)
-			m.i64_store(l4+656, l29*100000)
-			m.i64_store(l4+616, l28*100000)
-			m.i64_store(l4+576, l27*100000)
-			m.i64_store(l4+536, l26*100000)
-			m.i64_store(l4+496, l14*100000)
-			m.i64_store(l4+456, l18*100000)
-			m.i64_store(l4+416, l16*100000)
-			m.i64_store(l4+376, l12*100000)
-			m.i64_store(l4+336, l13*100000)
-			m.i64_store(l4+296, l11*100000)
-			m.i64_store(l4+256, l10*100000)
-			m.i64_store(l4+216, l8*100000)
-			m.i64_store(l4+176, l9*100000)
-			m.i64_store(l4+136, l6*100000)
-			m.i64_store(l4+96, l7*100000)
-			m.i32_store16(l38+4, m.i32_load16_u(l4+876))
-			m.i32_store(l38, m.i32_load(l4+872))
-			m.i64_store(l4+856, l5*100000)
-			m.i64_store(l4+864, 0)
-			m.f73(p0, l4+72, 20)
-			goto B6
-		B8:
-			l6 = uint64(l46) & 255
-			l12 = uint64(l47) & 255
-			l16 = uint64(l48) & 255
-			l14 = uint64(l44) & 255
-			l7 = l9 & 72057594037927935
-			l11 = p0 + l11
-			m.i32_store8(l11, 123)
-			m.i32_store8(l11+1, 34)
-			m.i64_store(l4+2264, 4)
-			m.i64_store(l10, l5+4)
-			m.f68(p0, 4611686018427395216, 2)
-			l13 = select64(b32((l51&255) == 1), 4611686018427387918, 4611686018427389536)
-			l5 = m.i64_load(l10)
-			l10 = p0 + l5
-			if (l10 - 4611686018427398281) >= 2 {
-				m.i32_store16(l10, 14882)
-				goto B44
+			l9 = uint64(l39)
+			m.i32_store8(p0+l10, 123)
+			l8 = l4 + 3
+			m.i64_store(l13, l8)
+			l7 = l11 & 16711680
+			if l7 == 65536 {
+				l17 = m.i64_load(((l11 >> 21) & 24) + 4611686018427410688)
+				j0 = l17
 			}
-			m.i32_store16(l10, 14882)
-		B44:
-			m.i64_store(p0+4096, l5+2)
-			l5 = 1
-			m.i64_store(l4+2280, 1)
-			m.i64_store(l4+2272, l13)
-			m.f69(l4+2264, p0)
-			l26 = select64(b32((l50&255) == 1), 4611686018427387920, 4611686018427389539)
-			l14 = (l14 << 3) + 4611686018427410792
-			l16 = (l16 << 3) + 4611686018427410824
-			l12 = (l12 << 3) + 4611686018427410256
-			l27 = (l6 << 3) + 4611686018427410824
-			l18 = (l18 << 3) + 4611686018427410824
-			l28 = (l8 << 3) + 4611686018427410824
-			l29 = ((l9 & 255) << 3) + 4611686018427410824
-			l30 = ((l7 >> 5) & 2040) + 4611686018427410200
-			l31 = ((l7 >> 13) & 2040) + 4611686018427410200
-			l32 = ((l7 >> 45) & 2040) + 4611686018427410232
-			l33 = ((l7 >> 21) & 2040) + 4611686018427410936
-			l39 = ((l7 >> 29) & 2040) + 4611686018427410936
-			l40 = ((l7 >> 37) & 2040) + 4611686018427410936
-			j0 = l40
-		L46:
-			l7 = m.i64_load8_u(l5 + 4611686018427398297)
-			l6 = l7 * 56
-			l8 = m.i64_load(l6 + 4611686018427393432)
-			l10 = m.i64_load(l6 + 4611686018427393424)
-			l6 = 4611686018427397840
-			l9 = 0
-			switch uint32(l7) - 1 {
-			case 0:
-				goto B62
-			case 1:
-				goto B61
-			case 2:
-				goto B60
-			case 3:
-				goto B53
-			case 4:
-				goto B55
-			case 5:
-				goto B54
-			case 6:
-				goto B59
-			case 7:
-				goto B56
-			case 8:
-				goto B58
-			case 9:
-				goto B57
-			case 10:
-				goto B52
-			case 11:
-				goto B49
-			case 12:
-				goto B51
-			case 13:
-				goto B50
-			case 14:
-				goto B47
-			case 15:
-				goto B47
-			case 16:
-				goto B47
-			case 17:
-				goto B47
-			case 18:
-				goto B47
-			case 19:
-				goto B47
-			case 20:
-				goto B47
-			case 21:
-				goto B47
-			case 22:
-				goto B47
-			case 23:
-				goto B47
-			case 24:
-				goto B47
-			case 25:
-				goto B47
-			case 26:
-				goto B47
-			case 27:
-				goto B47
-			case 28:
-				goto B47
-			case 29:
-				goto B47
-			case 30:
-				goto B47
-			default:
-				goto B63
-			}
-		B63:
-			l9 = 1
-			l6 = l13
-			j0 = l6
-			goto B47
-		B62:
-			l9 = 1
-			l6 = l26
-			j0 = l6
-			goto B47
-		B61:
-			j0 = m.i64_load(l14)
-			goto B48
-		B60:
-			j0 = m.i64_load(l16)
-			goto B48
-		B59:
-			j0 = m.i64_load(l12)
-			goto B48
-		B58:
-			j0 = m.i64_load(l27)
-			goto B48
-		B57:
-			j0 = m.i64_load(l18)
-			goto B48
-		B56:
-			j0 = m.i64_load(l28)
-			goto B48
-		B55:
-			j0 = m.i64_load(l29)
-			goto B48
-		B54:
-			j0 = m.i64_load(l30)
-			goto B48
-		B53:
-			j0 = m.i64_load(l31)
-			goto B48
-		B52:
-			j0 = m.i64_load(l32)
-			goto B48
-		B51:
-			j0 = m.i64_load(l33)
-			goto B48
-		B50:
-			j0 = m.i64_load(l39)
-			goto B48
-		B49:
-			j0 = m.i64_load(l40)
-		B48:
-			l6 = j0
-			l9 = 1
-			j0 = l9
-		B47:
-			l7 = p0 + 4096
-			l11 = m.i64_load(l7)
-			m.i32_store16(p0+l11, 8748)
-			m.i64_store(l7, l11+2)
-			m.i64_store(l4+2264, 4)
-			m.f68(p0, l10, l8)
-			l7 = m.i64_load(l7)
-			l8 = p0 + l7
-			if (l8 - 4611686018427398281) <= 1 {
+			l9 = l9 & 255
+			l18 = l12 >> 48
+			l19 = l12 >> 32
+			l20 = l12 >> 16
+			m.i32_store8(p0+l8, 34)
+			l8 = p0 + 4096
+			m.i64_store(l8, l4+4)
+			m.i64_store(l5+128, 0)
+			m.f64(p0, 4611686018427388712, 1)
+			l4 = m.i64_load(l8)
+			l8 = p0 + l4
+			if (l8 - 4611686018427398484) >= 2 {
 				m.i32_store16(l8, 14882)
-				goto B64
+				goto B35
 			}
 			m.i32_store16(l8, 14882)
-		B64:
-			l8 = p0 + 4096
-			m.i64_store(l8, l7+2)
-			m.i64_store(l4+2280, l9)
-			m.i64_store(l4+2272, l6)
-			m.f69(l4+2264, p0)
-			l5 = l5 + 1
-			if l5 != 15 {
-				goto L46
+		B35:
+			m.i64_store(p0+4096, l4+2)
+			m.i64_store(l5+144, 0)
+			m.i64_store(l5+136, l17)
+			m.f65(l5+128, p0)
+			l13 = l11 & 255
+			l10 = l11 & 1095216660480
+			l17 = l11 & 71776119061217280
+			l21 = l12 & 65280
+			l22 = l12 & 4278190080
+			l23 = l12 & 280375465082880
+			l24 = l12 & 18374686479671623680
+			l25 = l6 & 65280
+			l26 = l6 & 4278190080
+			l15 = (l15 << 3) + 4611686018427410616
+			l27 = (l9 << 3) + 4611686018427410640
+			l14 = (l14 << 3) + 4611686018427410664
+			l16 = (l16 << 3) + 4611686018427410688
+			l28 = ((l11 >> 5) & 2040) + 4611686018427410688
+			l29 = ((l11 >> 21) & 24) + 4611686018427410688
+			l11 = ((l11 >> 37) & 2040) + 4611686018427410712
+			l31 = ((l12 & 255) << 3) + 4611686018427410752
+			l20 = ((l20 & 255) << 3) + 4611686018427410792
+			l19 = ((l19 & 255) << 3) + 4611686018427410824
+			l18 = ((l18 & 255) << 3) + 4611686018427410872
+			l32 = ((l6 & 255) << 3) + 4611686018427410912
+			l33 = ((l6 >> 13) & 2040) + 4611686018427410912
+			l34 = ((l6 >> 29) & 2040) + 4611686018427410912
+			l4 = 1
+			j0 = l4
+		L37:
+			l9 = m.i64_load8_u(l4 + 4611686018427398486)
+			switch uint32(l9) - 1 {
+			case 0:
+				goto B64
+			case 1:
+				goto B65
+			case 2:
+				goto B63
+			case 3:
+				goto B62
+			case 4:
+				goto B61
+			case 5:
+				goto B59
+			case 6:
+				goto B58
+			case 7:
+				goto B57
+			case 8:
+				goto B56
+			case 9:
+				goto B55
+			case 10:
+				goto B54
+			case 11:
+				goto B53
+			case 12:
+				goto B52
+			default:
+				goto B60
 			}
-			l5 = m.i64_load(l8)
-			m.i32_store8(p0+l5, 125)
-			m.i64_store(l8, l5+1)
+		B65:
+			if (l38 & 255) == 1 {
+				goto B51
+			}
+			j0 = 0
+			goto B38
+		B64:
+			if (l40 & 255) == 1 {
+				goto B50
+			}
+			j0 = 0
+			goto B38
+		B63:
+			if (l41 & 255) == 1 {
+				goto B49
+			}
+			j0 = 0
+			goto B38
+		B62:
+			if (l42 & 255) == 1 {
+				goto B48
+			}
+			j0 = 0
+			goto B38
+		B61:
+			if l13 == 1 {
+				goto B47
+			}
+			j0 = 0
+			goto B38
+		B60:
+			j0 = 0
+			if l7 != 65536 {
+				goto B38
+			}
+			j0 = m.i64_load(l29)
+			goto B38
+		B59:
+			if l10 == 4294967296 {
+				goto B46
+			}
+			j0 = 10000000
+			goto B38
+		B58:
+			if l17 == 281474976710656 {
+				goto B45
+			}
+			j0 = 10000000
+			goto B38
+		B57:
+			if l21 == 256 {
+				goto B44
+			}
+			j0 = 10000000
+			goto B38
+		B56:
+			if l22 == 16777216 {
+				goto B43
+			}
+			j0 = 0
+			goto B38
+		B55:
+			if l23 == 1099511627776 {
+				goto B42
+			}
+			j0 = 10000000
+			goto B38
+		B54:
+			if l24 == 72057594037927936 {
+				goto B41
+			}
+			j0 = 10000000
+			goto B38
+		B53:
+			if l25 == 256 {
+				goto B40
+			}
+			j0 = 10000000
+			goto B38
+		B52:
+			if l26 == 16777216 {
+				goto B39
+			}
+			j0 = 10000000
+			goto B38
+		B51:
+			j0 = m.i64_load(l15)
+			goto B38
+		B50:
+			j0 = m.i64_load(l27)
+			goto B38
+		B49:
+			j0 = m.i64_load(l14)
+			goto B38
+		B48:
+			j0 = m.i64_load(l16)
+			goto B38
+		B47:
+			j0 = m.i64_load(l28)
+			goto B38
+		B46:
+			j0 = m.i64_load(l11)
+			goto B38
+		B45:
+			j0 = m.i64_load(l31)
+			goto B38
+		B44:
+			j0 = m.i64_load(l20)
+			goto B38
+		B43:
+			j0 = m.i64_load(l19)
+			goto B38
+		B42:
+			j0 = m.i64_load(l18)
+			goto B38
+		B41:
+			j0 = m.i64_load(l32)
+			goto B38
+		B40:
+			j0 = m.i64_load(l33)
+			goto B38
+		B39:
+			j0 = m.i64_load(l34)
+		B38:
+			l8 = j0
+			l6 = p0 + 4096
+			l12 = m.i64_load(l6)
+			m.i32_store16(p0+l12, 8748)
+			m.i64_store(l6, l12+2)
+			m.i64_store(l5+128, 0)
+			l9 = l9 * 56
+			m.f64(p0, m.i64_load(l9+4611686018427387928), m.i64_load(l9+4611686018427387936))
+			l6 = m.i64_load(l6)
+			l9 = p0 + l6
+			if (l9 - 4611686018427398484) <= 1 {
+				m.i32_store16(l9, 14882)
+				goto B66
+			}
+			m.i32_store16(l9, 14882)
+		B66:
+			l9 = p0 + 4096
+			m.i64_store(l9, l6+2)
+			m.i64_store(l5+144, 0)
+			m.i64_store(l5+136, l8)
+			m.f65(l5+128, p0)
+			l4 = l4 + 1
+			if l4 != 14 {
+				goto L37
+			}
+			l4 = m.i64_load(l9)
+			m.i32_store8(p0+l4, 125)
+			m.i64_store(l9, l4+1)
+			goto B6
+		B8:
+			l6 = uint64(l42) & 255
+			l9 = uint64(l40) & 255
+			l12 = uint64(l38) & 255
+			l7 = p0 + l10
+			m.i32_store8(l7, 123)
+			m.i32_store8(l7+1, 34)
+			m.i64_store(l5+128, 4)
+			m.i64_store(l13, l4+4)
+			m.f64(p0, 4611686018427395216, 2)
+			l10 = select64(b32((l39&255) == 1), 4611686018427387918, 4611686018427389536)
+			l4 = m.i64_load(l13)
+			l7 = p0 + l4
+			if (l7 - 4611686018427398484) >= 2 {
+				m.i32_store16(l7, 14882)
+				goto B68
+			}
+			m.i32_store16(l7, 14882)
+		B68:
+			m.i64_store(p0+4096, l4+2)
+			l4 = 1
+			m.i64_store(l5+144, 1)
+			m.i64_store(l5+136, l10)
+			m.f65(l5+128, p0)
+			l13 = select64(b32((l41&255) == 1), 4611686018427387920, 4611686018427389539)
+			l17 = (l12 << 3) + 4611686018427411536
+			l15 = (l15 << 3) + 4611686018427411568
+			l21 = (l9 << 3) + 4611686018427411000
+			l14 = (l14 << 3) + 4611686018427411568
+			l22 = (l6 << 3) + 4611686018427411568
+			l16 = (l16 << 3) + 4611686018427411568
+			l23 = ((l8 & 255) << 3) + 4611686018427411568
+			l24 = ((l11 >> 5) & 2040) + 4611686018427410944
+			l25 = ((l11 >> 13) & 2040) + 4611686018427410944
+			l26 = ((l11 >> 45) & 2040) + 4611686018427410976
+			l27 = ((l11 >> 21) & 2040) + 4611686018427411680
+			l28 = ((l11 >> 29) & 2040) + 4611686018427411680
+			l29 = ((l11 >> 37) & 2040) + 4611686018427411680
+			j0 = l29
+		L70:
+			l6 = m.i64_load8_u(l4 + 4611686018427398500)
+			l9 = l6 * 56
+			l8 = m.i64_load(l9 + 4611686018427393432)
+			l7 = m.i64_load(l9 + 4611686018427393424)
+			l9 = 4611686018427397840
+			l12 = 0
+			switch uint32(l6) - 1 {
+			case 0:
+				goto B86
+			case 1:
+				goto B85
+			case 2:
+				goto B84
+			case 3:
+				goto B77
+			case 4:
+				goto B79
+			case 5:
+				goto B78
+			case 6:
+				goto B83
+			case 7:
+				goto B80
+			case 8:
+				goto B82
+			case 9:
+				goto B81
+			case 10:
+				goto B76
+			case 11:
+				goto B73
+			case 12:
+				goto B75
+			case 13:
+				goto B74
+			case 14:
+				goto B71
+			case 15:
+				goto B71
+			case 16:
+				goto B71
+			case 17:
+				goto B71
+			case 18:
+				goto B71
+			case 19:
+				goto B71
+			case 20:
+				goto B71
+			case 21:
+				goto B71
+			case 22:
+				goto B71
+			case 23:
+				goto B71
+			case 24:
+				goto B71
+			case 25:
+				goto B71
+			case 26:
+				goto B71
+			case 27:
+				goto B71
+			case 28:
+				goto B71
+			case 29:
+				goto B71
+			case 30:
+				goto B71
+			default:
+				goto B87
+			}
+		B87:
+			l12 = 1
+			l9 = l10
+			j0 = l9
+			goto B71
+		B86:
+			l12 = 1
+			l9 = l13
+			j0 = l9
+			goto B71
+		B85:
+			j0 = m.i64_load(l17)
+			goto B72
+		B84:
+			j0 = m.i64_load(l15)
+			goto B72
+		B83:
+			j0 = m.i64_load(l21)
+			goto B72
+		B82:
+			j0 = m.i64_load(l14)
+			goto B72
+		B81:
+			j0 = m.i64_load(l22)
+			goto B72
+		B80:
+			j0 = m.i64_load(l16)
+			goto B72
+		B79:
+			j0 = m.i64_load(l23)
+			goto B72
+		B78:
+			j0 = m.i64_load(l24)
+			goto B72
+		B77:
+			j0 = m.i64_load(l25)
+			goto B72
+		B76:
+			j0 = m.i64_load(l26)
+			goto B72
+		B75:
+			j0 = m.i64_load(l27)
+			goto B72
+		B74:
+			j0 = m.i64_load(l28)
+			goto B72
+		B73:
+			j0 = m.i64_load(l29)
+		B72:
+			l9 = j0
+			l12 = 1
+			j0 = l12
+		B71:
+			l6 = p0 + 4096
+			l11 = m.i64_load(l6)
+			m.i32_store16(p0+l11, 8748)
+			m.i64_store(l6, l11+2)
+			m.i64_store(l5+128, 4)
+			m.f64(p0, l7, l8)
+			l6 = m.i64_load(l6)
+			l8 = p0 + l6
+			if (l8 - 4611686018427398484) <= 1 {
+				m.i32_store16(l8, 14882)
+				goto B88
+			}
+			m.i32_store16(l8, 14882)
+		B88:
+			l8 = p0 + 4096
+			m.i64_store(l8, l6+2)
+			m.i64_store(l5+144, l12)
+			m.i64_store(l5+136, l9)
+			m.f65(l5+128, p0)
+			l4 = l4 + 1
+			if l4 != 15 {
+				goto L70
+			}
+			l4 = m.i64_load(l8)
+			m.i32_store8(p0+l4, 125)
+			m.i64_store(l8, l4+1)
 			goto B6
 		B7:
 			j0 = p0 + 4096
-			if m.i32_load8_u(l6+24) == 1 {
-				l41 = m.i32_load8_u(l6 + 21)
-				m.i32_store8(p0+l11, 91)
-				l7 = p0 + 4096
-				m.i64_store(l7, l5+3)
-				m.i32_store8(l4+2240, m.i32_load8_u(l6+15))
-				m.f74(p0, 4611686018427398596, 3, l4+2240, 1, l41, l6+28)
-				l5 = m.i64_load(l7)
-				m.i32_store8(p0+l5, 44)
-				m.i64_store(l7, l5+1)
-				m.i32_store8(l4+2447, m.i32_load8_u(l6+16))
-				m.f74(p0, 4611686018427398599, 3, l4+2447, 1, l41, l6+44)
-				l5 = m.i64_load(l7)
-				m.i32_store8(p0+l5, 44)
-				m.i64_store(l7, l5+1)
-				l45 = m.i32_load8_u(l6 + 17)
-				m.i32_store8(l4+2265, m.i32_load8_u(l6+20))
-				m.i32_store8(l4+2264, l45)
-				m.f74(p0, 4611686018427398602, 7, l4+2264, 2, l41, l6+60)
-				l5 = m.i64_load(l7)
-				m.i32_store8(p0+l5, 44)
-				m.i64_store(l7, l5+1)
-				m.i32_store8(l4+2446, m.i32_load8_u(l6+18))
-				m.f74(p0, 4611686018427398609, 3, l4+2446, 1, l41, l6+76)
-				l5 = m.i64_load(l7)
-				m.i32_store8(p0+l5, 44)
-				m.i64_store(l7, l5+1)
-				m.i32_store8(l4+2445, m.i32_load8_u(l6+19))
-				m.f74(p0, 4611686018427398612, 3, l4+2445, 1, l41, l6+92)
-				l5 = m.i64_load(l7)
-				m.i32_store8(p0+l5, 93)
-				j1 = l5 + 1
-				goto B66
+			if m.i32_load8_u(l7+24) == 1 {
+				l35 = m.i32_load8_u(l7 + 21)
+				m.i32_store8(p0+l10, 91)
+				l6 = p0 + 4096
+				m.i64_store(l6, l4+3)
+				m.i32_store8(l5+159, m.i32_load8_u(l7+15))
+				m.f69(p0, 4611686018427398759, 3, l5+159, 1, l35, l7+28)
+				l4 = m.i64_load(l6)
+				m.i32_store8(p0+l4, 44)
+				m.i64_store(l6, l4+1)
+				m.i32_store8(l5+158, m.i32_load8_u(l7+16))
+				m.f69(p0, 4611686018427398762, 3, l5+158, 1, l35, l7+44)
+				l4 = m.i64_load(l6)
+				m.i32_store8(p0+l4, 44)
+				m.i64_store(l6, l4+1)
+				l36 = m.i32_load8_u(l7 + 17)
+				m.i32_store8(l5+129, m.i32_load8_u(l7+20))
+				m.i32_store8(l5+128, l36)
+				m.f69(p0, 4611686018427398765, 7, l5+128, 2, l35, l7+60)
+				l4 = m.i64_load(l6)
+				m.i32_store8(p0+l4, 44)
+				m.i64_store(l6, l4+1)
+				m.i32_store8(l5+157, m.i32_load8_u(l7+18))
+				m.f69(p0, 4611686018427398772, 3, l5+157, 1, l35, l7+76)
+				l4 = m.i64_load(l6)
+				m.i32_store8(p0+l4, 44)
+				m.i64_store(l6, l4+1)
+				m.i32_store8(l5+156, m.i32_load8_u(l7+19))
+				m.f69(p0, 4611686018427398775, 3, l5+156, 1, l35, l7+92)
+				l4 = m.i64_load(l6)
+				m.i32_store8(p0+l4, 93)
+				j1 = l4 + 1
+				goto B90
 			}
-			l7 = p0 + l11
-			if (l7 - 4611686018427398594) <= 1 {
-				m.i32_store16(l7, 23899)
-				goto B68
+			l6 = p0 + l10
+			if (l6 - 4611686018427398757) <= 1 {
+				m.i32_store16(l6, 23899)
+				goto B92
 			}
-			m.i32_store16(l7, 23899)
-		B68:
-			j1 = l5 + 4
-		B66:
+			m.i32_store16(l6, 23899)
+		B92:
+			j1 = l4 + 4
+		B90:
 			m.i64_store(j0, j1)
 		B6:
-			l42 = 1
+			l43 = 1
 		}
-		l15 = l15 + 1
-		if l15 != p3 {
+		l30 = l30 + 1
+		if l30 != p3 {
 			goto L1
 		}
-		l5 = p0 + 4096
-		l15 = m.i64_load(l5)
-		m.i32_store8(p0+l15, 125)
-		m.i64_store(l5, l15+1)
-		m.stackPointer = l4 + 2448
+		l4 = p0 + 4096
+		l6 = m.i64_load(l4)
+		m.i32_store8(p0+l6, 125)
+		m.i64_store(l4, l6+1)
+		m.stackPointer = l5 + 160
 		goto Bfunc
 	}
 	panic("cvss: unreachable")
 Bfunc:
 }
 
-func (m *memory) f68(p0 uint64, p1 uint64, p2 uint64) {
+func (m *memory) f64(p0 uint64, p1 uint64, p2 uint64) {
 	var l3, l4, l5, l6, l7, l8, l9 uint64
 	_, _, _, _, _, _, _ = l3, l4, l5, l6, l7, l8, l9
 	if int64(m.stackPointer) >= 16 {
@@ -15749,7 +15491,7 @@ func (m *memory) f68(p0 uint64, p1 uint64, p2 uint64) {
 Bfunc:
 }
 
-func (m *memory) f69(p0 uint64, p1 uint64) {
+func (m *memory) f65(p0 uint64, p1 uint64) {
 	var l6 uint32
 	var l2, l3, l4, l5 uint64
 	_, _, _, _, _ = l6, l2, l3, l4, l5
@@ -15781,26 +15523,26 @@ func (m *memory) f69(p0 uint64, p1 uint64) {
 		l3 = uint64(int64(l2) >> 63)
 		l2 = (l2 ^ l3) - l3
 		l3 = l2 / 10000000
-		m.f70(p1, l3)
+		m.f66(p1, l3)
 		p0 = p1 + 4096
 		l5 = m.i64_load(p0)
 		m.i32_store8(p1+l5, 46)
 		m.i64_store(p0, l5+1)
-		m.f79(p1, l2-(l3*10000000))
+		m.f74(p1, l2-(l3*10000000))
 		m.stackPointer = l4
 		goto Bfunc
 	B5:
 		l6 = m.i32_load8_u(p0 + 1)
-		m.f70(p1, uint64(l6/10))
+		m.f66(p1, uint64(l6/10))
 		l2 = p1 + 4096
 		l3 = m.i64_load(l2)
 		m.i32_store8(p1+l3, 46)
 		m.i64_store(l2, l3+1)
-		m.f79(p1, uint64((l6*1000000)%10000000))
+		m.f74(p1, uint64((l6*1000000)%10000000))
 		m.stackPointer = l4
 		goto Bfunc
 	B4:
-		m.f70(p1, l2)
+		m.f66(p1, l2)
 		m.stackPointer = l4
 		goto Bfunc
 	B3:
@@ -15811,7 +15553,7 @@ func (m *memory) f69(p0 uint64, p1 uint64) {
 		m.i64_store(l5, p0)
 		if b32(l3 == 0) == 0 {
 		L9:
-			m.f70(p1, m.i64_load8_u(l2))
+			m.f66(p1, m.i64_load8_u(l2))
 			l2 = l2 + 1
 			l3 = l3 - 1
 			if l3 != 0 {
@@ -15828,7 +15570,7 @@ func (m *memory) f69(p0 uint64, p1 uint64) {
 		l5 = m.i64_load(p0)
 		m.i32_store8(p1+l5, 34)
 		m.i64_store(p0, l5+1)
-		m.f68(p1, l2, l3)
+		m.f64(p1, l2, l3)
 		l2 = m.i64_load(p0)
 		m.i32_store8(p1+l2, 34)
 		m.i64_store(p0, l2+1)
@@ -15837,7 +15579,7 @@ func (m *memory) f69(p0 uint64, p1 uint64) {
 	B1:
 		l2 = m.i64_load(p1 + 4096)
 		l3 = p1 + l2
-		if (l3 - 4611686018427398357) <= 3 {
+		if (l3 - 4611686018427398560) <= 3 {
 			m.i32_store(l3, 1819047278)
 			goto B10
 		}
@@ -15851,7 +15593,7 @@ func (m *memory) f69(p0 uint64, p1 uint64) {
 Bfunc:
 }
 
-func (m *memory) f70(p0 uint64, p1 uint64) {
+func (m *memory) f66(p0 uint64, p1 uint64) {
 	var l2, l3, l4, l5 uint64
 	_, _, _, _ = l2, l3, l4, l5
 	l4 = m.stackPointer
@@ -15865,7 +15607,7 @@ func (m *memory) f70(p0 uint64, p1 uint64) {
 			goto Bfunc
 		}
 		l2 = p1 / 10
-		m.f70(p0, l2)
+		m.f66(p0, l2)
 		l3 = p0 + 4096
 		l5 = m.i64_load(l3)
 		m.i32_store8(p0+l5, uint32(p1-(l2*10))|48)
@@ -15877,46 +15619,7 @@ func (m *memory) f70(p0 uint64, p1 uint64) {
 Bfunc:
 }
 
-func (m *memory) f71(p0 uint64, p1 uint64, p2 uint32) {
-	var i1 uint32
-	var l3, l4, l5, j0 uint64
-	_, _, _, _, _ = i1, l3, l4, l5, j0
-	l5 = m.stackPointer - 16
-	m.stackPointer = l5
-	if int64(l5) >= 16 {
-		m.f18(l5, uint64(p2)&255, 0, 200376420520689664, 5421)
-		l4 = m.i64_load(l5)
-		l3 = m.i64_load(l5 + 8)
-		j0 = p0 + 8
-		if int64(m.stackPointer) >= 16 {
-			i1 = select32(select32(b32(l3 == 216840), b32(l4 < 8015056820827586560), b32(l3 < 216840)), 1, select32(select32(b32(l3 == 379470), b32(l4 < 14026349436448276480), b32(l3 < 379470)), 2, 3))
-			if m.i32_load8_u(p1) == 0 {
-				goto B1
-			}
-			i1 = 0
-			if select32(b32(l3 == 5421), b32(l4 < 200376420520689664), b32(l3 < 5421)) != 0 {
-				goto B1
-			}
-			i1 = 1
-			if select32(b32(l3 == 216840), b32(l4 < 8015056820827586560), b32(l3 < 216840)) != 0 {
-				goto B1
-			}
-			i1 = select32(select32(b32(l3 == 379470), b32(l4 < 14026349436448276480), b32(l3 < 379470)), 2, select32(select32(b32(l3 == 487890), b32(l4 < 18033877846862069760), b32(l3 < 487890)), 3, 4))
-			goto B1
-		}
-		panic("cvss: unreachable")
-	B1:
-		p1 = uint64(i1&255) << 3
-		m.i64_store(j0, m.i64_load(p1+4611686018427411472))
-		m.i64_store(p0, m.i64_load(p1+4611686018427411512))
-		m.stackPointer = l5 + 16
-		goto Bfunc
-	}
-	panic("cvss: unreachable")
-Bfunc:
-}
-
-func (m *memory) f72(p0 uint64, p1 uint64) {
+func (m *memory) f67(p0 uint64, p1 uint64) {
 	var l2, l3, l4, l5 uint64
 	_, _, _, _ = l2, l3, l4, l5
 	l2 = m.stackPointer - 448
@@ -15934,48 +15637,48 @@ func (m *memory) f72(p0 uint64, p1 uint64) {
 		}
 	B4:
 		m.memory_fill(l2+16, 0, 216)
-		m.f75(l2, p1+1, l2+16)
-		m.f68(p0, m.i64_load(l2), m.i64_load(l2+8))
+		m.f70(l2, p1+1, l2+16)
+		m.f64(p0, m.i64_load(l2), m.i64_load(l2+8))
 		goto B1
 	B3:
 		l3 = p1 + 8
 		l4 = m.i64_load(l3)
 		l5 = m.i64_load(p0 + 4096)
 		p1 = p0 + l5
-		if (p1 - 4611686018427398337) <= 6 {
+		if (p1 - 4611686018427398540) <= 6 {
 			m.i32_store8(p1+6, 46)
 			m.i32_store16(p1+4, 13370)
 			m.i32_store(p1, 1397970499)
 			goto B5
 		}
-		m.i32_store(p1+3, m.i32_load(4611686018427398340))
-		m.i32_store(p1, m.i32_load(4611686018427398337))
+		m.i32_store(p1+3, m.i32_load(4611686018427398543))
+		m.i32_store(p1, m.i32_load(4611686018427398540))
 	B5:
 		m.i64_store(p0+4096, l5+7)
-		m.f70(p0, l4)
+		m.f66(p0, l4)
 		m.memory_fill(l2+232, 0, 216)
-		m.f76(l3, l2+232)
-		m.f68(p0, l2+232, m.i64_load(l2+440))
+		m.f71(l3, l2+232)
+		m.f64(p0, l2+232, m.i64_load(l2+440))
 		goto B1
 	B2:
 		l3 = p1 + 8
 		l4 = m.i64_load(l3)
 		l5 = m.i64_load(p0 + 4096)
 		p1 = p0 + l5
-		if (p1 - 4611686018427398344) <= 6 {
+		if (p1 - 4611686018427398547) <= 6 {
 			m.i32_store8(p1+6, 46)
 			m.i32_store16(p1+4, 13114)
 			m.i32_store(p1, 1397970499)
 			goto B7
 		}
-		m.i32_store(p1+3, m.i32_load(4611686018427398347))
-		m.i32_store(p1, m.i32_load(4611686018427398344))
+		m.i32_store(p1+3, m.i32_load(4611686018427398550))
+		m.i32_store(p1, m.i32_load(4611686018427398547))
 	B7:
 		m.i64_store(p0+4096, l5+7)
-		m.f70(p0, l4)
+		m.f66(p0, l4)
 		m.memory_fill(l2+232, 0, 216)
-		m.f77(l3, l2+232)
-		m.f68(p0, l2+232, m.i64_load(l2+440))
+		m.f72(l3, l2+232)
+		m.f64(p0, l2+232, m.i64_load(l2+440))
 	B1:
 		m.stackPointer = l2 + 448
 		goto Bfunc
@@ -15984,86 +15687,90 @@ func (m *memory) f72(p0 uint64, p1 uint64) {
 Bfunc:
 }
 
-func (m *memory) f73(p0 uint64, p1 uint64, p2 uint64) {
-	var l12, l13 uint32
-	var l3, l4, l5, l6, l7, l8, l9, l10, l11 uint64
-	_, _, _, _, _, _, _, _, _, _, _ = l12, l13, l3, l4, l5, l6, l7, l8, l9, l10, l11
+func (m *memory) f68(p0 uint64, p1 uint64, p2 uint64) {
+	var l14, l15 uint32
+	var l3, l4, l5, l6, l7, l8, l9, l10, l11, l12, l13 uint64
+	_, _, _, _, _, _, _, _, _, _, _, _, _ = l14, l15, l3, l4, l5, l6, l7, l8, l9, l10, l11, l12, l13
 	l3 = m.stackPointer - 48
 	m.stackPointer = l3
 	if int64(l3) >= 16 {
-		l4 = p0 + 4096
-		l5 = m.i64_load(l4)
-		m.i32_store8(p0+l5, 123)
-		l8 = l5 + 1
-		m.i64_store(l4, l8)
-		l12 = m.i32_load8_u(p1 + 17)
-		l13 = m.i32_load8_u(p1 + 16)
-		l7 = m.i64_load(p1 + 8)
-		l6 = m.i64_load(p1)
-		l9 = m.i64_load(p1 + 32)
-		l10 = m.i64_load(p1 + 24)
-		m.i32_store8(p0+l8, 34)
-		m.i64_store(l4, l5+2)
-		m.i64_store(l3, 0)
-		m.i64_store(l3+32, l10)
-		m.i64_store(l3+40, l9)
-		m.f68(p0, l6, l7)
-		l8 = l3 + 8
-		l5 = l3 + 32
-		l7 = m.i64_load(l4)
-		l4 = p0 + l7
-		if (l4 - 4611686018427398281) >= 2 {
-			m.i32_store16(l4, 14882)
-			goto B1
+		l8 = p0 + 4096
+		l6 = m.i64_load(l8)
+		m.i32_store8(p0+l6, 123)
+		l4 = l6 + 1
+		m.i64_store(l8, l4)
+		if b32(p2 == 0) == 0 {
+			l14 = m.i32_load8_u(p1 + 17)
+			l15 = m.i32_load8_u(p1 + 16)
+			l7 = m.i64_load(p1 + 8)
+			l5 = m.i64_load(p1)
+			l9 = m.i64_load(p1 + 32)
+			l10 = m.i64_load(p1 + 24)
+			m.i32_store8(p0+l4, 34)
+			m.i64_store(l8, l6+2)
+			m.i64_store(l3, 0)
+			m.i64_store(l3+32, l10)
+			m.i64_store(l3+40, l9)
+			m.f64(p0, l5, l7)
+			l6 = l3 + 8
+			l4 = l3 + 32
+			l7 = m.i64_load(l8)
+			l5 = p0 + l7
+			if (l5 - 4611686018427398484) >= 2 {
+				m.i32_store16(l5, 14882)
+				goto B2
+			}
+			m.i32_store16(l5, 14882)
+		B2:
+			l11 = p0 + 4096
+			m.i64_store(l11, l7+2)
+			m.i64_store(l6, m.i64_load(l4))
+			m.i64_store(l6+8, m.i64_load(l4+8))
+			m.i32_store8(l3+1, l14)
+			m.i32_store8(l3, l15)
+			m.f65(l3, p0)
+			if p2 != 1 {
+				p1 = p1 - 18446744073709551552
+				l7 = p2 - 1
+			L5:
+				l14 = m.i32_load8_u(p1 - 7)
+				l15 = m.i32_load8_u(p1 - 8)
+				l5 = m.i64_load(p1 - 16)
+				l9 = m.i64_load(p1 - 24)
+				l10 = m.i64_load(p1)
+				l12 = m.i64_load(p1 + 8)
+				p2 = p0 + 4096
+				l13 = m.i64_load(p2)
+				m.i32_store16(p0+l13, 8748)
+				m.i64_store(l4+8, l12)
+				m.i64_store(l4, l10)
+				m.i64_store(p2, l13+2)
+				m.i64_store(l3, 0)
+				m.f64(p0, l9, l5)
+				p2 = m.i64_load(p2)
+				l5 = p0 + p2
+				if (l5 - 4611686018427398484) <= 1 {
+					m.i32_store16(l5, 14882)
+					goto B6
+				}
+				m.i32_store16(l5, 14882)
+			B6:
+				m.i64_store(p0+4096, p2+2)
+				m.i64_store(l6, m.i64_load(l4))
+				m.i64_store(l6+8, m.i64_load(l4+8))
+				m.i32_store8(l3+1, l14)
+				m.i32_store8(l3, l15)
+				m.f65(l3, p0)
+				p1 = p1 + 40
+				l7 = l7 - 1
+				if l7 != 0 {
+					goto L5
+				}
+			}
+			l4 = m.i64_load(l11)
 		}
-		m.i32_store16(l4, 14882)
-	B1:
-		l4 = p0 + 4096
-		m.i64_store(l4, l7+2)
-		m.i64_store(l8, m.i64_load(l5))
-		m.i64_store(l8+8, m.i64_load(l5+8))
-		m.i32_store8(l3+1, l12)
-		m.i32_store8(l3, l13)
-		m.f69(l3, p0)
-		p1 = p1 - 18446744073709551552
-		p2 = p2 - 1
-	L3:
-		l12 = m.i32_load8_u(p1 - 7)
-		l13 = m.i32_load8_u(p1 - 8)
-		l7 = m.i64_load(p1 - 16)
-		l6 = m.i64_load(p1 - 24)
-		l9 = m.i64_load(p1)
-		l10 = m.i64_load(p1 + 8)
-		l11 = m.i64_load(l4)
-		m.i32_store16(p0+l11, 8748)
-		m.i64_store(l5+8, l10)
-		m.i64_store(l5, l9)
-		m.i64_store(l4, l11+2)
-		m.i64_store(l3, 0)
-		m.f68(p0, l6, l7)
-		l7 = m.i64_load(l4)
-		l6 = p0 + l7
-		if (l6 - 4611686018427398281) <= 1 {
-			m.i32_store16(l6, 14882)
-			goto B4
-		}
-		m.i32_store16(l6, 14882)
-	B4:
-		l6 = p0 + 4096
-		m.i64_store(l6, l7+2)
-		m.i64_store(l8, m.i64_load(l5))
-		m.i64_store(l8+8, m.i64_load(l5+8))
-		m.i32_store8(l3+1, l12)
-		m.i32_store8(l3, l13)
-		m.f69(l3, p0)
-		p1 = p1 + 40
-		p2 = p2 - 1
-		if p2 != 0 {
-			goto L3
-		}
-		p1 = m.i64_load(l6)
-		m.i32_store8(p0+p1, 125)
-		m.i64_store(l6, p1+1)
+		m.i32_store8(p0+l4, 125)
+		m.i64_store(l8, l4+1)
 		m.stackPointer = l3 + 48
 		goto Bfunc
 	}
@@ -16071,7 +15778,7 @@ func (m *memory) f73(p0 uint64, p1 uint64, p2 uint64) {
 Bfunc:
 }
 
-func (m *memory) f74(p0 uint64, p1 uint64, p2 uint64, p3 uint64, p4 uint64, p5 uint32, p6 uint64) {
+func (m *memory) f69(p0 uint64, p1 uint64, p2 uint64, p3 uint64, p4 uint64, p5 uint32, p6 uint64) {
 	var l9, l10 uint32
 	var l7, l8 uint64
 	_, _, _, _ = l9, l10, l7, l8
@@ -16096,7 +15803,7 @@ func (m *memory) f74(p0 uint64, p1 uint64, p2 uint64, p3 uint64, p4 uint64, p5 u
 			m.i64_store(l7+184, 0)
 			m.i32_store8(l7+176, 5)
 			m.i64_store(l7+192, 0)
-			m.f80(p0, p1, p2, p3, p4, p6, l7+104)
+			m.f75(p0, p1, p2, p3, p4, p6, l7+104)
 			goto B1
 		}
 		m.i64_store(l7+234, 0)
@@ -16127,7 +15834,7 @@ func (m *memory) f74(p0 uint64, p1 uint64, p2 uint64, p3 uint64, p4 uint64, p5 u
 		m.i64_store(l7+96, 0)
 		m.i64_store(l7+88, ((l8*20000000)+8400)/16800)
 		m.i64_store(l7+80, 0)
-		m.f80(p0, p1, p2, p3, p4, p6, l7+8)
+		m.f75(p0, p1, p2, p3, p4, p6, l7+8)
 	B1:
 		m.stackPointer = l7 + 256
 		goto Bfunc
@@ -16136,7 +15843,7 @@ func (m *memory) f74(p0 uint64, p1 uint64, p2 uint64, p3 uint64, p4 uint64, p5 u
 Bfunc:
 }
 
-func (m *memory) f75(p0 uint64, p1 uint64, p2 uint64) {
+func (m *memory) f70(p0 uint64, p1 uint64, p2 uint64) {
 	var l3, l4, l5, l6 uint64
 	_, _, _, _ = l3, l4, l5, l6
 	l6 = m.stackPointer
@@ -16145,7 +15852,7 @@ func (m *memory) f75(p0 uint64, p1 uint64, p2 uint64) {
 			l3 = p2 + 208
 			l4 = m.i64_load(l3)
 			l5 = p2 + l4
-			m.i32_store8(l5+4, m.i32_load8_u(m.i64_load((m.i64_load8_u(p1+1)<<3)+4611686018427410912)))
+			m.i32_store8(l5+4, m.i32_load8_u(m.i64_load((m.i64_load8_u(p1+1)<<3)+4611686018427411656)))
 			m.i32_store(l5, 978731311)
 			m.i64_store(l3, l4+5)
 		}
@@ -16153,7 +15860,7 @@ func (m *memory) f75(p0 uint64, p1 uint64, p2 uint64) {
 			l3 = p2 + 208
 			l4 = m.i64_load(l3)
 			l5 = p2 + l4
-			m.i32_store8(l5+4, m.i32_load8_u(m.i64_load((m.i64_load8_u(p1+3)<<3)+4611686018427410936)))
+			m.i32_store8(l5+4, m.i32_load8_u(m.i64_load((m.i64_load8_u(p1+3)<<3)+4611686018427411680)))
 			m.i32_store(l5, 977486127)
 			m.i64_store(l3, l4+5)
 		}
@@ -16161,59 +15868,59 @@ func (m *memory) f75(p0 uint64, p1 uint64, p2 uint64) {
 			l3 = p2 + 208
 			l4 = m.i64_load(l3)
 			l5 = p2 + l4
-			m.i32_store8(l5+4, m.i32_load8_u(m.i64_load((m.i64_load8_u(p1+5)<<3)+4611686018427410960)))
+			m.i32_store8(l5+4, m.i32_load8_u(m.i64_load((m.i64_load8_u(p1+5)<<3)+4611686018427411704)))
 			m.i32_store(l5, 980762927)
 			m.i64_store(l3, l4+5)
 		}
 		if m.i32_load8_u(p1+6) == 1 {
 			l3 = p2 + 208
 			l4 = m.i64_load(l3)
-			m.i32_store(p2+l4, (m.i32_load8_u(m.i64_load((m.i64_load8_u(p1+7)<<3)+4611686018427410984))<<24)|3818287)
+			m.i32_store(p2+l4, (m.i32_load8_u(m.i64_load((m.i64_load8_u(p1+7)<<3)+4611686018427411728))<<24)|3818287)
 			m.i64_store(l3, l4+4)
 		}
 		if m.i32_load8_u(p1+8) == 1 {
 			l3 = p2 + 208
 			l4 = m.i64_load(l3)
-			m.i32_store(p2+l4, (m.i32_load8_u(m.i64_load((m.i64_load8_u(p1+9)<<3)+4611686018427410984))<<24)|3819823)
+			m.i32_store(p2+l4, (m.i32_load8_u(m.i64_load((m.i64_load8_u(p1+9)<<3)+4611686018427411728))<<24)|3819823)
 			m.i64_store(l3, l4+4)
 		}
 		if m.i32_load8_u(p1+10) == 1 {
 			l3 = p2 + 208
 			l4 = m.i64_load(l3)
-			m.i32_store(p2+l4, (m.i32_load8_u(m.i64_load((m.i64_load8_u(p1+11)<<3)+4611686018427410984))<<24)|3817775)
+			m.i32_store(p2+l4, (m.i32_load8_u(m.i64_load((m.i64_load8_u(p1+11)<<3)+4611686018427411728))<<24)|3817775)
 			m.i64_store(l3, l4+4)
 		}
 		if m.i32_load8_u(p1+12) == 1 {
 			l3 = m.i64_load8_u(p1+13) << 3
-			m.f78(p2, 4611686018427389034, 1, m.i64_load(l3+4611686018427411008), m.i64_load(l3+4611686018427411048))
+			m.f73(p2, 4611686018427389034, 1, m.i64_load(l3+4611686018427411752), m.i64_load(l3+4611686018427411792))
 		}
 		if m.i32_load8_u(p1+14) == 1 {
 			l3 = m.i64_load8_u(p1+15) << 3
-			m.f78(p2, 4611686018427389081, 2, m.i64_load(l3+4611686018427411088), m.i64_load(l3+4611686018427411128))
+			m.f73(p2, 4611686018427389081, 2, m.i64_load(l3+4611686018427411832), m.i64_load(l3+4611686018427411872))
 		}
 		if m.i32_load8_u(p1+16) == 1 {
 			l3 = m.i64_load8_u(p1+17) << 3
-			m.f78(p2, 4611686018427389136, 2, m.i64_load(l3+4611686018427411168), m.i64_load(l3+4611686018427411200))
+			m.f73(p2, 4611686018427389136, 2, m.i64_load(l3+4611686018427411912), m.i64_load(l3+4611686018427411944))
 		}
 		if m.i32_load8_u(p1+18) == 1 {
 			l3 = m.i64_load8_u(p1+19) << 3
-			m.f78(p2, 4611686018427389191, 3, m.i64_load(l3+4611686018427411232), m.i64_load(l3+4611686018427411280))
+			m.f73(p2, 4611686018427389191, 3, m.i64_load(l3+4611686018427411976), m.i64_load(l3+4611686018427412024))
 		}
 		if m.i32_load8_u(p1+20) == 1 {
 			l3 = m.i64_load8_u(p1+21) << 3
-			m.f78(p2, 4611686018427389268, 2, m.i64_load(l3+4611686018427411328), m.i64_load(l3+4611686018427411368))
+			m.f73(p2, 4611686018427389268, 2, m.i64_load(l3+4611686018427412072), m.i64_load(l3+4611686018427412112))
 		}
 		if m.i32_load8_u(p1+22) == 1 {
 			l3 = m.i64_load8_u(p1+23) << 3
-			m.f78(p2, 4611686018427389327, 2, m.i64_load(l3+4611686018427411408), m.i64_load(l3+4611686018427411440))
+			m.f73(p2, 4611686018427389327, 2, m.i64_load(l3+4611686018427412152), m.i64_load(l3+4611686018427412184))
 		}
 		if m.i32_load8_u(p1+24) == 1 {
 			l3 = m.i64_load8_u(p1+25) << 3
-			m.f78(p2, 4611686018427389402, 2, m.i64_load(l3+4611686018427411408), m.i64_load(l3+4611686018427411440))
+			m.f73(p2, 4611686018427389402, 2, m.i64_load(l3+4611686018427412152), m.i64_load(l3+4611686018427412184))
 		}
 		if m.i32_load8_u(p1+26) == 1 {
 			p1 = m.i64_load8_u(p1+27) << 3
-			m.f78(p2, 4611686018427389465, 2, m.i64_load(p1+4611686018427411408), m.i64_load(p1+4611686018427411440))
+			m.f73(p2, 4611686018427389465, 2, m.i64_load(p1+4611686018427412152), m.i64_load(p1+4611686018427412184))
 		}
 		p1 = m.i64_load(p2 + 208)
 		m.i64_store(p0, select64(b32(p1 == 0), 4611686018427397840, p2+1))
@@ -16225,7 +15932,7 @@ func (m *memory) f75(p0 uint64, p1 uint64, p2 uint64) {
 Bfunc:
 }
 
-func (m *memory) f76(p0 uint64, p1 uint64) {
+func (m *memory) f71(p0 uint64, p1 uint64) {
 	var l2, l3, l4, l5 uint64
 	_, _, _, _ = l2, l3, l4, l5
 	l5 = m.stackPointer
@@ -16234,7 +15941,7 @@ func (m *memory) f76(p0 uint64, p1 uint64) {
 			l2 = p1 + 208
 			l3 = m.i64_load(l2)
 			l4 = p1 + l3
-			m.i32_store8(l4+4, m.i32_load8_u(m.i64_load((m.i64_load8_u(p0+9)<<3)+4611686018427410792)))
+			m.i32_store8(l4+4, m.i32_load8_u(m.i64_load((m.i64_load8_u(p0+9)<<3)+4611686018427411536)))
 			m.i32_store(l4, 978731311)
 			m.i64_store(l2, l3+5)
 		}
@@ -16258,7 +15965,7 @@ func (m *memory) f76(p0 uint64, p1 uint64) {
 			l2 = p1 + 208
 			l3 = m.i64_load(l2)
 			l4 = p1 + l3
-			m.i32_store8(l4+4, m.i32_load8_u(m.i64_load((m.i64_load8_u(p0+15)<<3)+4611686018427410824)))
+			m.i32_store8(l4+4, m.i32_load8_u(m.i64_load((m.i64_load8_u(p0+15)<<3)+4611686018427411568)))
 			m.i32_store(l4, 978473007)
 			m.i64_store(l2, l3+5)
 		}
@@ -16266,7 +15973,7 @@ func (m *memory) f76(p0 uint64, p1 uint64) {
 			l2 = p1 + 208
 			l3 = m.i64_load(l2)
 			l4 = p1 + l3
-			m.i32_store8(l4+4, m.i32_load8_u(m.i64_load((m.i64_load8_u(p0+17)<<3)+4611686018427410256)))
+			m.i32_store8(l4+4, m.i32_load8_u(m.i64_load((m.i64_load8_u(p0+17)<<3)+4611686018427411000)))
 			m.i32_store(l4, 977884463)
 			m.i64_store(l2, l3+5)
 		}
@@ -16274,7 +15981,7 @@ func (m *memory) f76(p0 uint64, p1 uint64) {
 			l2 = p1 + 208
 			l3 = m.i64_load(l2)
 			l4 = p1 + l3
-			m.i32_store8(l4+4, m.i32_load8_u(m.i64_load((m.i64_load8_u(p0+19)<<3)+4611686018427410848)))
+			m.i32_store8(l4+4, m.i32_load8_u(m.i64_load((m.i64_load8_u(p0+19)<<3)+4611686018427411592)))
 			m.i32_store(l4, 977491503)
 			m.i64_store(l2, l3+5)
 		}
@@ -16282,7 +15989,7 @@ func (m *memory) f76(p0 uint64, p1 uint64) {
 			l2 = p1 + 208
 			l3 = m.i64_load(l2)
 			l4 = p1 + l3
-			m.i32_store8(l4+4, m.i32_load8_u(m.i64_load((m.i64_load8_u(p0+21)<<3)+4611686018427410848)))
+			m.i32_store8(l4+4, m.i32_load8_u(m.i64_load((m.i64_load8_u(p0+21)<<3)+4611686018427411592)))
 			m.i32_store(l4, 977884719)
 			m.i64_store(l2, l3+5)
 		}
@@ -16290,7 +15997,7 @@ func (m *memory) f76(p0 uint64, p1 uint64) {
 			l2 = p1 + 208
 			l3 = m.i64_load(l2)
 			l4 = p1 + l3
-			m.i32_store8(l4+4, m.i32_load8_u(m.i64_load((m.i64_load8_u(p0+23)<<3)+4611686018427410848)))
+			m.i32_store8(l4+4, m.i32_load8_u(m.i64_load((m.i64_load8_u(p0+23)<<3)+4611686018427411592)))
 			m.i32_store(l4, 977360431)
 			m.i64_store(l2, l3+5)
 		}
@@ -16298,7 +16005,7 @@ func (m *memory) f76(p0 uint64, p1 uint64) {
 			l2 = p1 + 208
 			l3 = m.i64_load(l2)
 			l4 = p1 + l3
-			m.i32_store8(l4+4, m.i32_load8_u(m.i64_load((m.i64_load8_u(p0+25)<<3)+4611686018427410848)))
+			m.i32_store8(l4+4, m.i32_load8_u(m.i64_load((m.i64_load8_u(p0+25)<<3)+4611686018427411592)))
 			m.i32_store(l4, 977490735)
 			m.i64_store(l2, l3+5)
 		}
@@ -16306,7 +16013,7 @@ func (m *memory) f76(p0 uint64, p1 uint64) {
 			l2 = p1 + 208
 			l3 = m.i64_load(l2)
 			l4 = p1 + l3
-			m.i32_store8(l4+4, m.i32_load8_u(m.i64_load((m.i64_load8_u(p0+27)<<3)+4611686018427410848)))
+			m.i32_store8(l4+4, m.i32_load8_u(m.i64_load((m.i64_load8_u(p0+27)<<3)+4611686018427411592)))
 			m.i32_store(l4, 977883951)
 			m.i64_store(l2, l3+5)
 		}
@@ -16314,21 +16021,21 @@ func (m *memory) f76(p0 uint64, p1 uint64) {
 			l2 = p1 + 208
 			l3 = m.i64_load(l2)
 			l4 = p1 + l3
-			m.i32_store8(l4+4, m.i32_load8_u(m.i64_load((m.i64_load8_u(p0+29)<<3)+4611686018427410848)))
+			m.i32_store8(l4+4, m.i32_load8_u(m.i64_load((m.i64_load8_u(p0+29)<<3)+4611686018427411592)))
 			m.i32_store(l4, 977359663)
 			m.i64_store(l2, l3+5)
 		}
 		if m.i32_load8_u(p0+30) == 1 {
 			l2 = p1 + 208
 			l3 = m.i64_load(l2)
-			m.i32_store(p1+l3, (m.i32_load8_u(m.i64_load((m.i64_load8_u(p0+31)<<3)+4611686018427410280))<<24)|3818799)
+			m.i32_store(p1+l3, (m.i32_load8_u(m.i64_load((m.i64_load8_u(p0+31)<<3)+4611686018427411024))<<24)|3818799)
 			m.i64_store(l2, l3+4)
 		}
 		if m.i32_load8_u(p0+32) == 1 {
 			l2 = p1 + 208
 			l3 = m.i64_load(l2)
 			l4 = p1 + l3
-			m.i32_store8(l4+4, m.i32_load8_u(m.i64_load((m.i64_load8_u(p0+33)<<3)+4611686018427410616)))
+			m.i32_store8(l4+4, m.i32_load8_u(m.i64_load((m.i64_load8_u(p0+33)<<3)+4611686018427411360)))
 			m.i32_store(l4, 978469679)
 			m.i64_store(l2, l3+5)
 		}
@@ -16336,7 +16043,7 @@ func (m *memory) f76(p0 uint64, p1 uint64) {
 			l2 = p1 + 208
 			l3 = m.i64_load(l2)
 			l4 = p1 + l3
-			m.i32_store8(l4+4, m.i32_load8_u(m.i64_load((m.i64_load8_u(p0+35)<<3)+4611686018427410616)))
+			m.i32_store8(l4+4, m.i32_load8_u(m.i64_load((m.i64_load8_u(p0+35)<<3)+4611686018427411360)))
 			m.i32_store(l4, 978471215)
 			m.i64_store(l2, l3+5)
 		}
@@ -16344,7 +16051,7 @@ func (m *memory) f76(p0 uint64, p1 uint64) {
 			l2 = p1 + 208
 			l3 = m.i64_load(l2)
 			l4 = p1 + l3
-			m.i32_store8(l4+4, m.i32_load8_u(m.i64_load((m.i64_load8_u(p0+37)<<3)+4611686018427410616)))
+			m.i32_store8(l4+4, m.i32_load8_u(m.i64_load((m.i64_load8_u(p0+37)<<3)+4611686018427411360)))
 			m.i32_store(l4, 978469167)
 			m.i64_store(l2, l3+5)
 		}
@@ -16352,7 +16059,7 @@ func (m *memory) f76(p0 uint64, p1 uint64) {
 			l3 = p1 + 208
 			l4 = m.i64_load(l3)
 			l2 = p1 + l4
-			m.i32_store8(l2+5, m.i32_load8_u(m.i64_load((m.i64_load8_u(p0+39)<<3)+4611686018427410312)))
+			m.i32_store8(l2+5, m.i32_load8_u(m.i64_load((m.i64_load8_u(p0+39)<<3)+4611686018427411056)))
 			m.i32_store8(l2+4, 58)
 			m.i32_store(l2, 1447120175)
 			m.i64_store(l3, l4+6)
@@ -16361,7 +16068,7 @@ func (m *memory) f76(p0 uint64, p1 uint64) {
 			l3 = p1 + 208
 			l4 = m.i64_load(l3)
 			l2 = p1 + l4
-			m.i32_store8(l2+5, m.i32_load8_u(m.i64_load((m.i64_load8_u(p0+41)<<3)+4611686018427410352)))
+			m.i32_store8(l2+5, m.i32_load8_u(m.i64_load((m.i64_load8_u(p0+41)<<3)+4611686018427411096)))
 			m.i32_store8(l2+4, 58)
 			m.i32_store(l2, 1128353071)
 			m.i64_store(l3, l4+6)
@@ -16370,7 +16077,7 @@ func (m *memory) f76(p0 uint64, p1 uint64) {
 			l3 = p1 + 208
 			l4 = m.i64_load(l3)
 			l2 = p1 + l4
-			m.i32_store8(l2+5, m.i32_load8_u(m.i64_load((m.i64_load8_u(p0+43)<<3)+4611686018427410512)))
+			m.i32_store8(l2+5, m.i32_load8_u(m.i64_load((m.i64_load8_u(p0+43)<<3)+4611686018427411256)))
 			m.i32_store8(l2+4, 58)
 			m.i32_store(l2, 1413565743)
 			m.i64_store(l3, l4+6)
@@ -16379,7 +16086,7 @@ func (m *memory) f76(p0 uint64, p1 uint64) {
 			l3 = p1 + 208
 			l4 = m.i64_load(l3)
 			l2 = p1 + l4
-			m.i32_store8(l2+5, m.i32_load8_u(m.i64_load((m.i64_load8_u(p0+45)<<3)+4611686018427410376)))
+			m.i32_store8(l2+5, m.i32_load8_u(m.i64_load((m.i64_load8_u(p0+45)<<3)+4611686018427411120)))
 			m.i32_store8(l2+4, 58)
 			m.i32_store(l2, 1380994351)
 			m.i64_store(l3, l4+6)
@@ -16388,7 +16095,7 @@ func (m *memory) f76(p0 uint64, p1 uint64) {
 			l3 = p1 + 208
 			l4 = m.i64_load(l3)
 			l2 = p1 + l4
-			m.i32_store8(l2+5, m.i32_load8_u(m.i64_load((m.i64_load8_u(p0+47)<<3)+4611686018427410408)))
+			m.i32_store8(l2+5, m.i32_load8_u(m.i64_load((m.i64_load8_u(p0+47)<<3)+4611686018427411152)))
 			m.i32_store8(l2+4, 58)
 			m.i32_store(l2, 1230327087)
 			m.i64_store(l3, l4+6)
@@ -16397,7 +16104,7 @@ func (m *memory) f76(p0 uint64, p1 uint64) {
 			l3 = p1 + 208
 			l4 = m.i64_load(l3)
 			l2 = p1 + l4
-			m.i32_store8(l2+5, m.i32_load8_u(m.i64_load((m.i64_load8_u(p0+49)<<3)+4611686018427410440)))
+			m.i32_store8(l2+5, m.i32_load8_u(m.i64_load((m.i64_load8_u(p0+49)<<3)+4611686018427411184)))
 			m.i32_store8(l2+4, 58)
 			m.i32_store(l2, 1129729327)
 			m.i64_store(l3, l4+6)
@@ -16406,7 +16113,7 @@ func (m *memory) f76(p0 uint64, p1 uint64) {
 			l3 = p1 + 208
 			l4 = m.i64_load(l3)
 			l2 = p1 + l4
-			m.i32_store8(l2+5, m.i32_load8_u(m.i64_load((m.i64_load8_u(p0+51)<<3)+4611686018427410440)))
+			m.i32_store8(l2+5, m.i32_load8_u(m.i64_load((m.i64_load8_u(p0+51)<<3)+4611686018427411184)))
 			m.i32_store8(l2+4, 58)
 			m.i32_store(l2, 1230392623)
 			m.i64_store(l3, l4+6)
@@ -16415,7 +16122,7 @@ func (m *memory) f76(p0 uint64, p1 uint64) {
 			l3 = p1 + 208
 			l4 = m.i64_load(l3)
 			l2 = p1 + l4
-			m.i32_store8(l2+5, m.i32_load8_u(m.i64_load((m.i64_load8_u(p0+53)<<3)+4611686018427410440)))
+			m.i32_store8(l2+5, m.i32_load8_u(m.i64_load((m.i64_load8_u(p0+53)<<3)+4611686018427411184)))
 			m.i32_store8(l2+4, 58)
 			m.i32_store(l2, 1096174895)
 			m.i64_store(l3, l4+6)
@@ -16424,7 +16131,7 @@ func (m *memory) f76(p0 uint64, p1 uint64) {
 			l3 = p1 + 208
 			l4 = m.i64_load(l3)
 			l2 = p1 + l4
-			m.i32_store8(l2+5, m.i32_load8_u(m.i64_load((m.i64_load8_u(p0+55)<<3)+4611686018427410440)))
+			m.i32_store8(l2+5, m.i32_load8_u(m.i64_load((m.i64_load8_u(p0+55)<<3)+4611686018427411184)))
 			m.i32_store8(l2+4, 58)
 			m.i32_store(l2, 1129532719)
 			m.i64_store(l3, l4+6)
@@ -16433,7 +16140,7 @@ func (m *memory) f76(p0 uint64, p1 uint64) {
 			l3 = p1 + 208
 			l4 = m.i64_load(l3)
 			l2 = p1 + l4
-			m.i32_store8(l2+5, m.i32_load8_u(m.i64_load((m.i64_load8_u(p0+57)<<3)+4611686018427410472)))
+			m.i32_store8(l2+5, m.i32_load8_u(m.i64_load((m.i64_load8_u(p0+57)<<3)+4611686018427411216)))
 			m.i32_store8(l2+4, 58)
 			m.i32_store(l2, 1230196015)
 			m.i64_store(l3, l4+6)
@@ -16442,7 +16149,7 @@ func (m *memory) f76(p0 uint64, p1 uint64) {
 			l3 = p1 + 208
 			l4 = m.i64_load(l3)
 			l2 = p1 + l4
-			m.i32_store8(l2+5, m.i32_load8_u(m.i64_load((m.i64_load8_u(p0+59)<<3)+4611686018427410472)))
+			m.i32_store8(l2+5, m.i32_load8_u(m.i64_load((m.i64_load8_u(p0+59)<<3)+4611686018427411216)))
 			m.i32_store8(l2+4, 58)
 			m.i32_store(l2, 1095978287)
 			m.i64_store(l3, l4+6)
@@ -16450,34 +16157,34 @@ func (m *memory) f76(p0 uint64, p1 uint64) {
 		if m.i32_load8_u(p0+60) == 1 {
 			l2 = p1 + 208
 			l3 = m.i64_load(l2)
-			m.i32_store(p1+l3, (m.i32_load8_u(m.i64_load((m.i64_load8_u(p0+61)<<3)+4611686018427410512))<<24)|3822383)
+			m.i32_store(p1+l3, (m.i32_load8_u(m.i64_load((m.i64_load8_u(p0+61)<<3)+4611686018427411256))<<24)|3822383)
 			m.i64_store(l2, l3+4)
 		}
 		if m.i32_load8_u(p0+62) == 1 {
 			l2 = p1 + 208
 			l3 = m.i64_load(l2)
 			l4 = p1 + l3
-			m.i32_store8(l4+4, m.i32_load8_u(m.i64_load((m.i64_load8_u(p0+63)<<3)+4611686018427410536)))
+			m.i32_store8(l4+4, m.i32_load8_u(m.i64_load((m.i64_load8_u(p0+63)<<3)+4611686018427411280)))
 			m.i32_store(l4, 978665775)
 			m.i64_store(l2, l3+5)
 		}
 		if m.i32_load8_u(p0-18446744073709551552) == 1 {
 			l2 = p1 + 208
 			l3 = m.i64_load(l2)
-			m.i32_store(p1+l3, (m.i32_load8_u(m.i64_load((m.i64_load8_u(p0+65)<<3)+4611686018427410560))<<24)|3822127)
+			m.i32_store(p1+l3, (m.i32_load8_u(m.i64_load((m.i64_load8_u(p0+65)<<3)+4611686018427411304))<<24)|3822127)
 			m.i64_store(l2, l3+4)
 		}
 		if m.i32_load8_u(p0+66) == 1 {
 			l2 = p1 + 208
 			l3 = m.i64_load(l2)
-			m.i32_store(p1+l3, (m.i32_load8_u(m.i64_load((m.i64_load8_u(p0+67)<<3)+4611686018427410592))<<24)|3823151)
+			m.i32_store(p1+l3, (m.i32_load8_u(m.i64_load((m.i64_load8_u(p0+67)<<3)+4611686018427411336))<<24)|3823151)
 			m.i64_store(l2, l3+4)
 		}
 		if m.i32_load8_u(p0+68) == 1 {
 			l2 = p1 + 208
 			l3 = m.i64_load(l2)
 			l4 = p1 + l3
-			m.i32_store8(l4+4, m.i32_load8_u(m.i64_load((m.i64_load8_u(p0+69)<<3)+4611686018427410616)))
+			m.i32_store8(l4+4, m.i32_load8_u(m.i64_load((m.i64_load8_u(p0+69)<<3)+4611686018427411360)))
 			m.i32_store(l4, 977621551)
 			m.i64_store(l2, l3+5)
 		}
@@ -16512,7 +16219,7 @@ func (m *memory) f76(p0 uint64, p1 uint64) {
 			l3 = 5
 			l2 = 4611686018427393414
 		B33:
-			m.f78(p1, 4611686018427397742, 1, l2, l3)
+			m.f73(p1, 4611686018427397742, 1, l2, l3)
 		}
 		m.stackPointer = l5
 		goto Bfunc
@@ -16521,7 +16228,7 @@ func (m *memory) f76(p0 uint64, p1 uint64) {
 Bfunc:
 }
 
-func (m *memory) f77(p0 uint64, p1 uint64) {
+func (m *memory) f72(p0 uint64, p1 uint64) {
 	var l6, l7 uint32
 	var l2, l3, l4, l5, j0 uint64
 	_, _, _, _, _, _, _ = l6, l7, l2, l3, l4, l5, j0
@@ -16530,7 +16237,7 @@ func (m *memory) f77(p0 uint64, p1 uint64) {
 			l2 = p1 + 208
 			l3 = m.i64_load(l2)
 			l4 = p1 + l3
-			m.i32_store8(l4+4, m.i32_load8_u(m.i64_load((m.i64_load8_u(p0+9)<<3)+4611686018427410792)))
+			m.i32_store8(l4+4, m.i32_load8_u(m.i64_load((m.i64_load8_u(p0+9)<<3)+4611686018427411536)))
 			m.i32_store(l4, 978731311)
 			m.i64_store(l2, l3+5)
 		}
@@ -16546,7 +16253,7 @@ func (m *memory) f77(p0 uint64, p1 uint64) {
 			l2 = p1 + 208
 			l3 = m.i64_load(l2)
 			l4 = p1 + l3
-			m.i32_store8(l4+4, m.i32_load8_u(m.i64_load((m.i64_load8_u(p0+13)<<3)+4611686018427410824)))
+			m.i32_store8(l4+4, m.i32_load8_u(m.i64_load((m.i64_load8_u(p0+13)<<3)+4611686018427411568)))
 			m.i32_store(l4, 978473007)
 			m.i64_store(l2, l3+5)
 		}
@@ -16567,32 +16274,32 @@ func (m *memory) f77(p0 uint64, p1 uint64) {
 		if m.i32_load8_u(p0+18) == 1 {
 			l2 = p1 + 208
 			l3 = m.i64_load(l2)
-			m.i32_store(p1+l3, (m.i32_load8_u(m.i64_load((m.i64_load8_u(p0+19)<<3)+4611686018427410848))<<24)|3818287)
+			m.i32_store(p1+l3, (m.i32_load8_u(m.i64_load((m.i64_load8_u(p0+19)<<3)+4611686018427411592))<<24)|3818287)
 			m.i64_store(l2, l3+4)
 		}
 		if m.i32_load8_u(p0+20) == 1 {
 			l2 = p1 + 208
 			l3 = m.i64_load(l2)
-			m.i32_store(p1+l3, (m.i32_load8_u(m.i64_load((m.i64_load8_u(p0+21)<<3)+4611686018427410848))<<24)|3819823)
+			m.i32_store(p1+l3, (m.i32_load8_u(m.i64_load((m.i64_load8_u(p0+21)<<3)+4611686018427411592))<<24)|3819823)
 			m.i64_store(l2, l3+4)
 		}
 		if m.i32_load8_u(p0+22) == 1 {
 			l2 = p1 + 208
 			l3 = m.i64_load(l2)
-			m.i32_store(p1+l3, (m.i32_load8_u(m.i64_load((m.i64_load8_u(p0+23)<<3)+4611686018427410848))<<24)|3817775)
+			m.i32_store(p1+l3, (m.i32_load8_u(m.i64_load((m.i64_load8_u(p0+23)<<3)+4611686018427411592))<<24)|3817775)
 			m.i64_store(l2, l3+4)
 		}
 		if m.i32_load8_u(p0+24) == 1 {
 			l2 = p1 + 208
 			l3 = m.i64_load(l2)
-			m.i32_store(p1+l3, (m.i32_load8_u(m.i64_load((m.i64_load8_u(p0+25)<<3)+4611686018427410648))<<24)|3818799)
+			m.i32_store(p1+l3, (m.i32_load8_u(m.i64_load((m.i64_load8_u(p0+25)<<3)+4611686018427411392))<<24)|3818799)
 			m.i64_store(l2, l3+4)
 		}
 		if m.i32_load8_u(p0+26) == 1 {
 			l2 = p1 + 208
 			l3 = m.i64_load(l2)
 			l4 = p1 + l3
-			m.i32_store8(l4+4, m.i32_load8_u(m.i64_load((m.i64_load8_u(p0+27)<<3)+4611686018427410688)))
+			m.i32_store8(l4+4, m.i32_load8_u(m.i64_load((m.i64_load8_u(p0+27)<<3)+4611686018427411432)))
 			m.i32_store(l4, 978080303)
 			m.i64_store(l2, l3+5)
 		}
@@ -16600,7 +16307,7 @@ func (m *memory) f77(p0 uint64, p1 uint64) {
 			l2 = p1 + 208
 			l3 = m.i64_load(l2)
 			l4 = p1 + l3
-			m.i32_store8(l4+4, m.i32_load8_u(m.i64_load((m.i64_load8_u(p0+29)<<3)+4611686018427410728)))
+			m.i32_store8(l4+4, m.i32_load8_u(m.i64_load((m.i64_load8_u(p0+29)<<3)+4611686018427411472)))
 			m.i32_store(l4, 977490479)
 			m.i64_store(l2, l3+5)
 		}
@@ -16608,7 +16315,7 @@ func (m *memory) f77(p0 uint64, p1 uint64) {
 			l2 = p1 + 208
 			l3 = m.i64_load(l2)
 			l4 = p1 + l3
-			m.i32_store8(l4+4, m.i32_load8_u(m.i64_load((m.i64_load8_u(p0+34)<<3)+4611686018427410760)))
+			m.i32_store8(l4+4, m.i32_load8_u(m.i64_load((m.i64_load8_u(p0+34)<<3)+4611686018427411504)))
 			m.i32_store(l4, 978469679)
 			m.i64_store(l2, l3+5)
 		}
@@ -16616,7 +16323,7 @@ func (m *memory) f77(p0 uint64, p1 uint64) {
 			l2 = p1 + 208
 			l3 = m.i64_load(l2)
 			l4 = p1 + l3
-			m.i32_store8(l4+4, m.i32_load8_u(m.i64_load((m.i64_load8_u(p0+36)<<3)+4611686018427410760)))
+			m.i32_store8(l4+4, m.i32_load8_u(m.i64_load((m.i64_load8_u(p0+36)<<3)+4611686018427411504)))
 			m.i32_store(l4, 978471215)
 			m.i64_store(l2, l3+5)
 		}
@@ -16624,13 +16331,13 @@ func (m *memory) f77(p0 uint64, p1 uint64) {
 			l2 = p1 + 208
 			l3 = m.i64_load(l2)
 			l4 = p1 + l3
-			m.i32_store8(l4+4, m.i32_load8_u(m.i64_load((m.i64_load8_u(p0+38)<<3)+4611686018427410760)))
+			m.i32_store8(l4+4, m.i32_load8_u(m.i64_load((m.i64_load8_u(p0+38)<<3)+4611686018427411504)))
 			m.i32_store(l4, 978469167)
 			m.i64_store(l2, l3+5)
 		}
 		if m.i32_load8_u(p0+30) == 1 {
 			if m.i32_load8_u(p0+31) != 0 {
-				j0 = m.i64_load((m.i64_load8_u(p0+32) << 3) + 4611686018427410792)
+				j0 = m.i64_load((m.i64_load8_u(p0+32) << 3) + 4611686018427411536)
 			} else {
 				j0 = 4611686018427397872
 			}
@@ -16656,7 +16363,7 @@ func (m *memory) f77(p0 uint64, p1 uint64) {
 		}
 		if m.i32_load8_u(p0+42) == 1 {
 			if m.i32_load8_u(p0+43) != 0 {
-				j0 = m.i64_load((m.i64_load8_u(p0+44) << 3) + 4611686018427410824)
+				j0 = m.i64_load((m.i64_load8_u(p0+44) << 3) + 4611686018427411568)
 			} else {
 				j0 = 4611686018427397872
 			}
@@ -16692,7 +16399,7 @@ func (m *memory) f77(p0 uint64, p1 uint64) {
 		}
 		if m.i32_load8_u(p0+51) == 1 {
 			if m.i32_load8_u(p0+52) != 0 {
-				j0 = m.i64_load((m.i64_load8_u(p0+53) << 3) + 4611686018427410848)
+				j0 = m.i64_load((m.i64_load8_u(p0+53) << 3) + 4611686018427411592)
 			} else {
 				j0 = 4611686018427397872
 			}
@@ -16706,7 +16413,7 @@ func (m *memory) f77(p0 uint64, p1 uint64) {
 		}
 		if m.i32_load8_u(p0+54) == 1 {
 			if m.i32_load8_u(p0+55) != 0 {
-				j0 = m.i64_load((m.i64_load8_u(p0+56) << 3) + 4611686018427410848)
+				j0 = m.i64_load((m.i64_load8_u(p0+56) << 3) + 4611686018427411592)
 			} else {
 				j0 = 4611686018427397872
 			}
@@ -16720,7 +16427,7 @@ func (m *memory) f77(p0 uint64, p1 uint64) {
 		}
 		if m.i32_load8_u(p0+57) == 1 {
 			if m.i32_load8_u(p0+58) != 0 {
-				j0 = m.i64_load((m.i64_load8_u(p0+59) << 3) + 4611686018427410848)
+				j0 = m.i64_load((m.i64_load8_u(p0+59) << 3) + 4611686018427411592)
 			} else {
 				j0 = 4611686018427397872
 			}
@@ -16738,7 +16445,7 @@ func (m *memory) f77(p0 uint64, p1 uint64) {
 Bfunc:
 }
 
-func (m *memory) f78(p0 uint64, p1 uint64, p2 uint64, p3 uint64, p4 uint64) {
+func (m *memory) f73(p0 uint64, p1 uint64, p2 uint64, p3 uint64, p4 uint64) {
 	var l5, l6 uint32
 	var l7 uint64
 	_, _, _ = l5, l6, l7
@@ -16879,10 +16586,10 @@ func (m *memory) f78(p0 uint64, p1 uint64, p2 uint64, p3 uint64, p4 uint64) {
 Bfunc:
 }
 
-func (m *memory) f79(p0 uint64, p1 uint64) {
+func (m *memory) f74(p0 uint64, p1 uint64) {
 	var l2, l3, l4, l5, l6, l7 uint64
 	_, _, _, _, _, _ = l2, l3, l4, l5, l6, l7
-	l2 = 4611686018427398368
+	l2 = 4611686018427398568
 	l5 = m.stackPointer
 	l4 = 8
 L1:
@@ -16914,7 +16621,7 @@ B0:
 Bfunc:
 }
 
-func (m *memory) f80(p0 uint64, p1 uint64, p2 uint64, p3 uint64, p4 uint64, p5 uint64, p6 uint64) {
+func (m *memory) f75(p0 uint64, p1 uint64, p2 uint64, p3 uint64, p4 uint64, p5 uint64, p6 uint64) {
 	var l8, l9, l10, l11 uint32
 	var l7 uint64
 	_, _, _, _, _ = l8, l9, l10, l11, l7
@@ -16928,29 +16635,29 @@ func (m *memory) f80(p0 uint64, p1 uint64, p2 uint64, p3 uint64, p4 uint64, p5 u
 		m.memory_fill(l7+16, 0, 288)
 		m.i32_store16(l7+136, l11)
 		m.i64_store(l7+128, 3)
-		m.i64_store(l7+120, 4611686018427398633)
+		m.i64_store(l7+120, 4611686018427398796)
 		m.i32_store8(l7+96, 2)
 		m.i64_store(l7+88, 8)
-		m.i64_store(l7+80, 4611686018427398625)
+		m.i64_store(l7+80, 4611686018427398788)
 		m.i32_store8(l7+56, 2)
 		m.i64_store(l7+48, 5)
-		m.i64_store(l7+40, 4611686018427398620)
+		m.i64_store(l7+40, 4611686018427398783)
 		m.i64_store(l7+32, p4)
 		m.i64_store(l7+24, p3)
 		m.i32_store8(l7+16, 3)
 		m.i64_store(l7+8, 5)
-		m.i64_store(l7, 4611686018427398615)
+		m.i64_store(l7, 4611686018427398778)
 		m.i64_store(l7+104, m.i64_load8_u(p5+8))
 		m.i64_store(l7-18446744073709551552, m.i64_load8_u(p5+9))
-		m.i64_store(l7+160, 4611686018427398636)
+		m.i64_store(l7+160, 4611686018427398799)
 		m.i64_store(l7+168, 5)
 		m.i64_store(l7+184, p1)
 		m.i64_store(l7+192, p2)
-		m.i64_store(l7+200, 4611686018427398641)
+		m.i64_store(l7+200, 4611686018427398804)
 		m.i64_store(l7+208, 4)
 		m.i32_store16(l7+216, l10)
 		m.i32_store8(l7+176, 4)
-		m.i64_store(l7+240, 4611686018427398645)
+		m.i64_store(l7+240, 4611686018427398808)
 		m.i64_store(l7+248, 9)
 		m.i32_store16(l7+256, l9)
 		m.i64_store(l7+152, m.i64_load(p6+16))
@@ -16959,12 +16666,12 @@ func (m *memory) f80(p0 uint64, p1 uint64, p2 uint64, p3 uint64, p4 uint64, p5 u
 		m.i64_store(l7+232, m.i64_load(p6+40))
 		m.i32_store16(l7+296, l8)
 		m.i64_store(l7+288, 5)
-		m.i64_store(l7+280, 4611686018427398654)
+		m.i64_store(l7+280, 4611686018427398817)
 		m.i64_store(l7+272, m.i64_load(p6-18446744073709551552))
 		m.i64_store(l7+264, m.i64_load(p6+56))
 		m.i64_store(l7+312, m.i64_load(p6+88))
 		m.i64_store(l7+304, m.i64_load(p6+80))
-		m.f73(p0, l7, 8)
+		m.f68(p0, l7, 8)
 		m.stackPointer = l7 + 320
 		goto Bfunc
 	}
@@ -16972,7 +16679,7 @@ func (m *memory) f80(p0 uint64, p1 uint64, p2 uint64, p3 uint64, p4 uint64, p5 u
 Bfunc:
 }
 
-func (m *memory) f81(p0 uint64) uint32 {
+func (m *memory) f76(p0 uint64) uint32 {
 	var l1, l2, l3, i0 uint32
 	_, _, _, _ = l1, l2, l3, i0
 	if int64(m.stackPointer) >= 16 {
@@ -17032,43 +16739,7 @@ Bfunc:
 	return i0
 }
 
-func (m *memory) f82(p0 uint64, p1 uint64) {
-	var l2 uint64
-	_ = l2
-	l2 = m.stackPointer - 192
-	m.stackPointer = l2
-	if int64(l2) >= 16 {
-		m.memory_fill(l2+16, 0, 176)
-		m.f57(l2+16, p1)
-		m.f18(l2, (((100-m.i64_load(l2-18446744073709551552))*(100-m.i64_load(l2+56)))*(m.i64_load(l2+72)-100))+1000000, 0, 1000000000000000000, 0)
-		m.i64_store(p0+8, m.i64_load(l2+8))
-		m.i64_store(p0, m.i64_load(l2))
-		m.stackPointer = l2 + 192
-		goto Bfunc
-	}
-	panic("cvss: unreachable")
-Bfunc:
-}
-
-func (m *memory) f83(p0 uint64, p1 uint64) {
-	var l2 uint64
-	_ = l2
-	l2 = m.stackPointer - 192
-	m.stackPointer = l2
-	if int64(l2) >= 16 {
-		m.memory_fill(l2+16, 0, 176)
-		m.f57(l2+16, p1)
-		m.f18(l2, (((m.i64_load(l2+16)*m.i64_load(l2+24))*m.i64_load(l2+32))*m.i64_load(l2+40))*822, 0, 100000000000000, 0)
-		m.i64_store(p0+8, m.i64_load(l2+8))
-		m.i64_store(p0, m.i64_load(l2))
-		m.stackPointer = l2 + 192
-		goto Bfunc
-	}
-	panic("cvss: unreachable")
-Bfunc:
-}
-
-func (m *memory) f84(p0 uint64, p1 uint64) {
+func (m *memory) f77(p0 uint64, p1 uint64) {
 	var l2 uint64
 	_ = l2
 	l2 = m.stackPointer - 48
@@ -17077,7 +16748,7 @@ func (m *memory) f84(p0 uint64, p1 uint64) {
 		m.i64_store(l2+40, 0)
 		m.i64_store(l2+32, 0)
 		m.i64_store(l2+24, 0)
-		m.f62(l2+24, p1)
+		m.f61(l2+24, p1)
 		m.f18(l2, m.i64_load(l2+24), 0, 1000000000000000000, 0)
 		m.i64_store(p0+8, m.i64_load(l2+8))
 		m.i64_store(p0, m.i64_load(l2))
@@ -17088,7 +16759,7 @@ func (m *memory) f84(p0 uint64, p1 uint64) {
 Bfunc:
 }
 
-func (m *memory) f85(p0 uint64, p1 uint64, p2 uint64, p3 uint64) uint64 {
+func (m *memory) f78(p0 uint64, p1 uint64, p2 uint64, p3 uint64) uint64 {
 	var j0 uint64
 	_ = j0
 	if int64(m.stackPointer) >= 16 {
@@ -17121,7 +16792,7 @@ Bfunc:
 	return j0
 }
 
-func (m *memory) f86(p0 uint64, p1 uint64, p2 uint64, p3 uint64) uint64 {
+func (m *memory) f79(p0 uint64, p1 uint64, p2 uint64, p3 uint64) uint64 {
 	var l20, l21, l22, l23, l24, l25, l26, l27, l28, l29, l30, l31, l32, l33, l34, l35 uint32
 	var l4, l5, l6, l7, l8, l9, l10, l11, l12, l13, l14, l15, l16, l17, l18, l19, j0 uint64
 	_, _, _, _, _, _, _, _, _, _, _, _, _, _, _, _, _, _, _, _, _, _, _, _, _, _, _, _, _, _, _, _, _ = l20, l21, l22, l23, l24, l25, l26, l27, l28, l29, l30, l31, l32, l33, l34, l35, l4, l5, l6, l7, l8, l9, l10, l11, l12, l13, l14, l15, l16, l17, l18, l19, j0
@@ -17161,19 +16832,19 @@ func (m *memory) f86(p0 uint64, p1 uint64, p2 uint64, p3 uint64) uint64 {
 		m.i32_store8(l4+169, l27)
 		m.i32_store8(l4+168, l25)
 		m.i64_store(l4+160, uint64(l21))
-		m.f87(l4+200, l4+160)
-		j0 = m.f88(4611686018427397840, 0, l4+200, 4611686018427397840, 0, p2, p3)
+		m.f80(l4+200, l4+160)
+		j0 = m.f81(4611686018427397840, 0, l4+200, 4611686018427397840, 0, p2, p3)
 		goto B0
 	B5:
-		j0 = m.f85(4611686018427398752, 24, p2, p3)
+		j0 = m.f78(4611686018427399237, 24, p2, p3)
 		j0 = 24
 		goto B0
 	B4:
 		l17 = uint64(l29) & 255
 		l18 = 1
-		l19 = 4611686018427398823
+		l19 = 4611686018427399308
 		l5 = 38
-		l9 = 4611686018427398785
+		l9 = 4611686018427399270
 		l12 = l8
 		l13 = l7
 		l14 = l6
@@ -17197,17 +16868,17 @@ func (m *memory) f86(p0 uint64, p1 uint64, p2 uint64, p3 uint64) uint64 {
 		}
 	B14:
 		l5 = 29
-		l9 = 4611686018427398824
+		l9 = 4611686018427399309
 		j0 = l9
 		goto B2
 	B13:
 		l5 = 26
-		l9 = 4611686018427398853
+		l9 = 4611686018427399338
 		j0 = l6
 		goto B7
 	B12:
 		l5 = 27
-		l9 = 4611686018427398879
+		l9 = 4611686018427399364
 		j0 = l9
 		goto B2
 	B11:
@@ -17235,9 +16906,9 @@ func (m *memory) f86(p0 uint64, p1 uint64, p2 uint64, p3 uint64) uint64 {
 		l10 = m.i64_load(j0)
 		p0 = m.i64_load(l5)
 		l16 = 3
-		l15 = 4611686018427398914
+		l15 = 4611686018427399399
 		l5 = 8
-		l9 = 4611686018427398906
+		l9 = 4611686018427399391
 		j0 = l9
 		goto B1
 	B10:
@@ -17265,7 +16936,7 @@ func (m *memory) f86(p0 uint64, p1 uint64, p2 uint64, p3 uint64) uint64 {
 		l10 = m.i64_load(j0)
 		p0 = m.i64_load(l5)
 		l5 = 10
-		j0 = 4611686018427398917
+		j0 = 4611686018427399402
 		goto B8
 	B9:
 		p0 = l17 * 56
@@ -17292,7 +16963,7 @@ func (m *memory) f86(p0 uint64, p1 uint64, p2 uint64, p3 uint64) uint64 {
 		l10 = m.i64_load(j0)
 		p0 = m.i64_load(l5)
 		l5 = 18
-		j0 = 4611686018427398927
+		j0 = 4611686018427399412
 	B8:
 		l9 = j0
 		l13 = 0
@@ -17323,7 +16994,7 @@ B1:
 	m.i64_store(l4+56, 0)
 	m.i64_store(l4+48, l5)
 	m.i64_store(l4+40, l9)
-	j0 = m.f88(4611686018427397840, 0, l4+40, 4611686018427397840, 0, p2, p3)
+	j0 = m.f81(4611686018427397840, 0, l4+40, 4611686018427397840, 0, p2, p3)
 B0:
 	p0 = j0
 	l28 = m.i32_load(p1)
@@ -17409,7 +17080,7 @@ B0:
 		m.i32_store8(l4+162, l26)
 		m.i32_store8(l4+161, l27)
 		m.i32_store8(l4+160, l25)
-		m.f89(l4+200, 4294967295, l4+160, p0, l28)
+		m.f82(l4+200, 4294967295, l4+160, p0, l28)
 		goto B28
 	B29:
 		m.i64_store(l4-18446744073709551552, l6)
@@ -17418,7 +17089,7 @@ B0:
 		m.i32_store8(l4+42, l29)
 		m.i32_store8(l4+41, l20)
 		m.i32_store8(l4+40, l21)
-		m.f89(l4+200, l23, l4+40, p0, l28)
+		m.f82(l4+200, l23, l4+40, p0, l28)
 	B28:
 		m.memory_copy(l4, l4+200, 40)
 		m.memory_copy(p1, l4, 40)
@@ -17427,7 +17098,7 @@ B0:
 	return p0
 }
 
-func (m *memory) f87(p0 uint64, p1 uint64) {
+func (m *memory) f80(p0 uint64, p1 uint64) {
 	var l14 uint32
 	var l2, l3, l4, l5, l6, l7, l8, l9, l10, l11, l12, l13, j0 uint64
 	_, _, _, _, _, _, _, _, _, _, _, _, _, _ = l14, l2, l3, l4, l5, l6, l7, l8, l9, l10, l11, l12, l13, j0
@@ -17436,7 +17107,7 @@ func (m *memory) f87(p0 uint64, p1 uint64) {
 		l8 = 4611686018427397840
 		if m.i32_load8_u(p1) == 0 {
 			l3 = 4611686018427397840
-			j0 = 4611686018427398776
+			j0 = 4611686018427399261
 			goto B4
 		}
 		l9 = m.i64_load(p1 + 32)
@@ -17445,9 +17116,9 @@ func (m *memory) f87(p0 uint64, p1 uint64) {
 		l7 = m.i64_load8_u(p1 + 10)
 		l14 = m.i32_load8_u(p1 + 9)
 		l12 = 1
-		l13 = 4611686018427398823
+		l13 = 4611686018427399308
 		l2 = 38
-		l5 = 4611686018427398785
+		l5 = 4611686018427399270
 		l3 = 4611686018427397840
 		switch m.i32_load8_u(p1+8) - 1 {
 		case 0:
@@ -17467,17 +17138,17 @@ func (m *memory) f87(p0 uint64, p1 uint64) {
 		}
 	B11:
 		l2 = 29
-		l5 = 4611686018427398824
+		l5 = 4611686018427399309
 		j0 = l5
 		goto B1
 	B10:
 		l2 = 26
-		l5 = 4611686018427398853
+		l5 = 4611686018427399338
 		j0 = 0
 		goto B3
 	B9:
 		l2 = 27
-		l5 = 4611686018427398879
+		l5 = 4611686018427399364
 		j0 = l5
 		goto B1
 	B8:
@@ -17505,9 +17176,9 @@ func (m *memory) f87(p0 uint64, p1 uint64) {
 		l3 = m.i64_load(j0)
 		l4 = m.i64_load(l2)
 		l6 = 3
-		l8 = 4611686018427398914
+		l8 = 4611686018427399399
 		l2 = 8
-		l5 = 4611686018427398906
+		l5 = 4611686018427399391
 		j0 = l5
 		goto B0
 	B7:
@@ -17535,7 +17206,7 @@ func (m *memory) f87(p0 uint64, p1 uint64) {
 		l3 = m.i64_load(j0)
 		l4 = m.i64_load(l2)
 		l2 = 10
-		j0 = 4611686018427398917
+		j0 = 4611686018427399402
 		goto B4
 	B6:
 		p1 = l7 * 56
@@ -17562,7 +17233,7 @@ func (m *memory) f87(p0 uint64, p1 uint64) {
 		l3 = m.i64_load(j0)
 		l4 = m.i64_load(l2)
 		l2 = 18
-		j0 = 4611686018427398927
+		j0 = 4611686018427399412
 	B4:
 		l5 = j0
 		l11 = 4611686018427397840
@@ -17596,7 +17267,7 @@ B0:
 	m.i64_store(p0, l5)
 }
 
-func (m *memory) f88(p0 uint64, p1 uint64, p2 uint64, p3 uint64, p4 uint64, p5 uint64, p6 uint64) uint64 {
+func (m *memory) f81(p0 uint64, p1 uint64, p2 uint64, p3 uint64, p4 uint64, p5 uint64, p6 uint64) uint64 {
 	var l7, j0 uint64
 	_, _ = l7, j0
 	l7 = m.stackPointer - 176
@@ -17623,7 +17294,7 @@ func (m *memory) f88(p0 uint64, p1 uint64, p2 uint64, p3 uint64, p4 uint64, p5 u
 		m.i64_store(l7+144, m.i64_load(p2+112))
 		m.i64_store(l7+136, m.i64_load(p2+104))
 		m.i64_store(l7+128, m.i64_load(p2+96))
-		j0 = m.f90(l7+8, 7, 0, p5, p6)
+		j0 = m.f83(l7+8, 7, 0, p5, p6)
 		p2 = j0
 		m.stackPointer = l7 + 176
 		j0 = p2
@@ -17634,7 +17305,7 @@ Bfunc:
 	return j0
 }
 
-func (m *memory) f89(p0 uint64, p1 uint32, p2 uint64, p3 uint64, p4 uint32) {
+func (m *memory) f82(p0 uint64, p1 uint32, p2 uint64, p3 uint64, p4 uint32) {
 	var l10, l11 uint32
 	var l5, l6, l7, l8, l9, j0 uint64
 	_, _, _, _, _, _, _, _ = l10, l11, l5, l6, l7, l8, l9, j0
@@ -17671,7 +17342,7 @@ func (m *memory) f89(p0 uint64, p1 uint32, p2 uint64, p3 uint64, p4 uint32) {
 		}
 		p2 = m.i64_load(l9)
 		m.i64_store(l6+8, 0)
-		j0 = m.f85(l5, l8, l6+8, 8)
+		j0 = m.f78(l5, l8, l6+8, 8)
 		l5 = m.i64_load(l6 + 8)
 		l11 = uint32(1) << (l10 & 31)
 		if (l11 & 27) == 0 {
@@ -17699,7 +17370,7 @@ func (m *memory) f89(p0 uint64, p1 uint32, p2 uint64, p3 uint64, p4 uint32) {
 Bfunc:
 }
 
-func (m *memory) f90(p0 uint64, p1 uint64, p2 uint64, p3 uint64, p4 uint64) uint64 {
+func (m *memory) f83(p0 uint64, p1 uint64, p2 uint64, p3 uint64, p4 uint64) uint64 {
 	var l9 uint32
 	var l5, l6, l7, l8, j1 uint64
 	_, _, _, _, _, _ = l9, l5, l6, l7, l8, j1
@@ -17710,7 +17381,7 @@ func (m *memory) f90(p0 uint64, p1 uint64, p2 uint64, p3 uint64, p4 uint64) uint
 		}
 		l7 = p0 + 8
 		l5 = m.i64_load(l7)
-		j1 = m.f90(p0+24, p1-1, l5+p2, p3, p4)
+		j1 = m.f83(p0+24, p1-1, l5+p2, p3, p4)
 		l8 = j1
 		if p4 < l8 {
 			goto B1
@@ -17759,7 +17430,7 @@ B0:
 	return p2
 }
 
-func (m *memory) f91(p0 uint64) {
+func (m *memory) f84(p0 uint64) {
 	var l1, l2, i1, i2, i3, i4 uint32
 	var l3, l4, l5, l6, l7, l8, l9, l10, j0, j1 uint64
 	_, _, _, _, _, _, _, _, _, _, _, _, _, _, _, _ = l1, l2, i1, i2, i3, i4, l3, l4, l5, l6, l7, l8, l9, l10, j0, j1
@@ -17919,7 +17590,7 @@ func (m *memory) f91(p0 uint64) {
 Bfunc:
 }
 
-func (m *memory) f92(p0 uint64, p1 uint64) uint32 {
+func (m *memory) f85(p0 uint64, p1 uint64) uint32 {
 	var l2, l3, l4, l5, l6, i0 uint32
 	var l7 uint64
 	_, _, _, _, _, _, _ = l2, l3, l4, l5, l6, i0, l7
@@ -18644,7 +18315,7 @@ func (m *memory) f92(p0 uint64, p1 uint64) uint32 {
 			goto Bfunc
 		}
 		l2 = m.i32_load8_u(p0 + l7)
-		l4 = m.i32_load8_u(l7 + 4611686018427399201)
+		l4 = m.i32_load8_u(l7 + 4611686018427399686)
 		if l4 == 48 {
 			if ((l2 - 48) & 255) < 10 {
 				goto B19
@@ -18670,7 +18341,7 @@ Bfunc:
 	return i0
 }
 
-func (m *memory) f93(p0 uint64, p1 uint64) uint32 {
+func (m *memory) f86(p0 uint64, p1 uint64) uint32 {
 	var l2, i0 uint32
 	_, _ = l2, i0
 	if int64(m.stackPointer) >= 16 {
@@ -18744,7 +18415,7 @@ Bfunc:
 	return i0
 }
 
-func (m *memory) f94(p0 uint32, p1 uint64, p2 uint64) uint32 {
+func (m *memory) f87(p0 uint32, p1 uint64, p2 uint64) uint32 {
 	var l13, i0 uint32
 	var l3, l4, l5, l6, l7, l8, l9, l10, l11, l12 uint64
 	_, _, _, _, _, _, _, _, _, _, _, _ = l13, i0, l3, l4, l5, l6, l7, l8, l9, l10, l11, l12
@@ -18756,12 +18427,12 @@ func (m *memory) f94(p0 uint32, p1 uint64, p2 uint64) uint32 {
 		case 0:
 			goto B2
 		case 1:
-			goto B3
+			goto B4
 		default:
-			goto B5
+			goto B6
 		}
-	B5:
-	L6:
+	B6:
+	L7:
 		l3 = p1
 		p1 = l3 + 1
 		p0 = m.i32_load8_u(l3)
@@ -18769,465 +18440,453 @@ func (m *memory) f94(p0 uint32, p1 uint64, p2 uint64) uint32 {
 			l13 = 1
 			switch p0 - 37 {
 			case 0:
-				goto B9
+				goto B10
 			case 1:
-				goto B7
+				goto B8
 			case 2:
-				goto B7
+				goto B8
 			case 3:
-				goto B7
+				goto B8
 			case 4:
-				goto B7
+				goto B8
 			case 5:
-				goto B7
+				goto B8
 			case 6:
-				goto B7
+				goto B8
 			case 7:
-				goto B7
+				goto B8
 			case 8:
-				goto B7
+				goto B8
 			case 9:
-				goto B7
+				goto B8
 			case 10:
 				goto B0
 			default:
-				goto B7
+				goto B8
 			}
-		B9:
+		B10:
 			if m.i32_load8_u(p1) != 50 {
-				goto B7
+				goto B8
 			}
 			if ((m.i32_load8_u(l3+2) - 70) & 223) == 0 {
 				goto B0
 			}
-			goto B7
+			goto B8
 		}
-		if p0 != 47 {
-			goto B7
+		if p0 == 47 {
+			goto B3
 		}
-		i0 = 1
-		goto Bfunc
-	B7:
+	B8:
 		p2 = p2 - 1
 		if b32(p2 == 0) == 0 {
-			goto L6
+			goto L7
 		}
 		goto B1
 	}
 	panic("cvss: unreachable")
-B3:
-	l12 = p2 - 1
-	l5 = p2 - 5
-	l10 = p2 - 6
-	l11 = p2 - 7
+B4:
+	l8 = p2 - 1
+	l11 = p2 - 6
+	l12 = p2 - 7
 	l9 = p2 - 2
-	l7 = p2 - 3
+	l5 = p2 - 3
 	l6 = p2 - 4
-L10:
+	l7 = p2 - 5
+L11:
 	l4 = p1 + l3
 	p0 = m.i32_load8_u(l4)
-	p0 = select32(b32(((p0-97)&255) < 26), p0-32, p0)
-	l13 = b32(l3 == l12)
-	if l13 != 0 {
+	switch p0 - 37 {
+	case 0:
+		goto B14
+	case 1:
+		goto B12
+	case 2:
+		goto B12
+	case 3:
+		goto B12
+	case 4:
+		goto B12
+	case 5:
+		goto B12
+	case 6:
+		goto B12
+	case 7:
+		goto B12
+	case 8:
+		goto B12
+	case 9:
+		goto B12
+	case 10:
+		goto B13
+	default:
+		goto B15
+	}
+B15:
+	if p0 != 92 {
 		goto B12
 	}
-	if (p0 & 255) != 47 {
+	if l3 == l8 {
+		goto B1
+	}
+	if l3 == l9 {
 		goto B12
-	}
-	if l3 == l9 {
-		goto B11
-	}
-	p0 = m.i32_load8_u(l4 + 1)
-	if (select32(b32(((p0-97)&255) < 26), p0-32, p0) & 255) != 65 {
-		goto B11
-	}
-	if l3 == l7 {
-		goto B11
-	}
-	p0 = m.i32_load8_u(l4 + 2)
-	if (select32(b32(((p0-97)&255) < 26), p0-32, p0) & 255) != 85 {
-		goto B11
-	}
-	if l3 == l6 {
-		goto B11
-	}
-	p0 = m.i32_load8_u(l4 + 3)
-	if (select32(b32(((p0-97)&255) < 26), p0-32, p0) & 255) != 37 {
-		goto B11
-	}
-	if l3 == l5 {
-		goto B11
-	}
-	p0 = m.i32_load8_u(l4 + 4)
-	if (select32(b32(((p0-97)&255) < 26), p0-32, p0) & 255) != 51 {
-		goto B11
-	}
-	p0 = m.i32_load8_u(l4 + 5)
-	if (select32(b32(((p0-97)&255) < 26), p0-32, p0) & 255) != 65 {
-		goto B11
-	}
-	i0 = 1
-	goto Bfunc
-B12:
-	if l13 != 0 {
-		goto B13
-	}
-	if (p0 & 255) != 37 {
-		goto B13
-	}
-	if l3 == l9 {
-		goto B11
-	}
-	p0 = m.i32_load8_u(l4 + 1)
-	if (select32(b32(((p0-97)&255) < 26), p0-32, p0) & 255) != 50 {
-		goto B11
-	}
-	l8 = l4 + 2
-	l13 = b32(l3 == l7)
-	if l13 != 0 {
-		goto B14
-	}
-	p0 = m.i32_load8_u(l8)
-	if (select32(b32(((p0-97)&255) < 26), p0-32, p0) & 255) != 70 {
-		goto B14
-	}
-	if l3 == l6 {
-		goto B14
-	}
-	p0 = m.i32_load8_u(l4 + 3)
-	if (select32(b32(((p0-97)&255) < 26), p0-32, p0) & 255) != 65 {
-		goto B14
-	}
-	if l3 == l5 {
-		goto B14
-	}
-	p0 = m.i32_load8_u(l4 + 4)
-	if (select32(b32(((p0-97)&255) < 26), p0-32, p0) & 255) != 85 {
-		goto B14
-	}
-	p0 = m.i32_load8_u(l4 + 5)
-	if (select32(b32(((p0-97)&255) < 26), p0-32, p0) & 255) != 58 {
-		goto B14
-	}
-	i0 = 1
-	goto Bfunc
-B14:
-	if l13 != 0 {
-		goto B11
-	}
-	p0 = m.i32_load8_u(l8)
-	if (select32(b32(((p0-97)&255) < 26), p0-32, p0) & 255) != 70 {
-		goto B11
-	}
-	if l3 == l6 {
-		goto B11
-	}
-	p0 = m.i32_load8_u(l4 + 3)
-	if (select32(b32(((p0-97)&255) < 26), p0-32, p0) & 255) != 65 {
-		goto B11
-	}
-	if l3 == l5 {
-		goto B11
-	}
-	p0 = m.i32_load8_u(l4 + 4)
-	if (select32(b32(((p0-97)&255) < 26), p0-32, p0) & 255) != 85 {
-		goto B11
-	}
-	if l3 == l10 {
-		goto B11
-	}
-	p0 = m.i32_load8_u(l4 + 5)
-	if (select32(b32(((p0-97)&255) < 26), p0-32, p0) & 255) != 37 {
-		goto B11
-	}
-	if l3 == l11 {
-		goto B11
-	}
-	p0 = m.i32_load8_u(l4 + 6)
-	if (select32(b32(((p0-97)&255) < 26), p0-32, p0) & 255) != 51 {
-		goto B11
-	}
-	p0 = m.i32_load8_u(l4 + 7)
-	if (select32(b32(((p0-97)&255) < 26), p0-32, p0) & 255) != 65 {
-		goto B11
-	}
-	i0 = 1
-	goto Bfunc
-B13:
-	if l13 != 0 {
-		goto B11
-	}
-	if (p0 & 255) != 92 {
-		goto B11
-	}
-	if l3 == l9 {
-		goto B11
 	}
 	p0 = m.i32_load8_u(l4 + 1)
 	if (select32(b32(((p0-97)&255) < 26), p0-32, p0) & 255) != 47 {
-		goto B11
+		goto B12
 	}
-	if l3 == l7 {
-		goto B11
+	if l3 == l5 {
+		goto B12
 	}
 	p0 = m.i32_load8_u(l4 + 2)
 	if (select32(b32(((p0-97)&255) < 26), p0-32, p0) & 255) != 65 {
-		goto B11
+		goto B12
 	}
 	if l3 == l6 {
-		goto B11
+		goto B12
 	}
 	p0 = m.i32_load8_u(l4 + 3)
 	if (select32(b32(((p0-97)&255) < 26), p0-32, p0) & 255) != 85 {
-		goto B11
+		goto B12
 	}
 	p0 = m.i32_load8_u(l4 + 4)
 	if (select32(b32(((p0-97)&255) < 26), p0-32, p0) & 255) != 58 {
-		goto B11
+		goto B12
 	}
-	i0 = 1
-	goto Bfunc
-B11:
-	l3 = l3 + 1
-	if p2 != l3 {
-		goto L10
-	}
-	goto B1
-B2:
-	l12 = p2 - 1
-	l9 = p2 - 2
-	l7 = p2 - 3
-	l6 = p2 - 4
-	l8 = p2 - 5
-	l10 = p2 - 6
-	l11 = p2 - 7
-L15:
-	l4 = p1 + l3
-	p0 = m.i32_load8_u(l4)
-	p0 = select32(b32(((p0-97)&255) < 26), p0-32, p0)
-	l13 = b32(l3 == l12)
-	if l13 != 0 {
-		goto B17
-	}
-	if (p0 & 255) != 47 {
-		goto B17
-	}
-	p0 = m.i32_load8_u(l4 + 1)
-	p0 = select32(b32(((p0-97)&255) < 26), p0-32, p0)
-	l13 = b32(l3 == l9)
-	if l13 != 0 {
-		goto B18
-	}
-	if (p0 & 255) != 80 {
-		goto B18
-	}
-	if l3 == l7 {
-		goto B16
-	}
-	p0 = m.i32_load8_u(l4 + 2)
-	if (select32(b32(((p0-97)&255) < 26), p0-32, p0) & 255) != 82 {
-		goto B16
-	}
-	l13 = 1
-	p0 = m.i32_load8_u(l4 + 3)
-	p0 = select32(b32(((p0-97)&255) < 26), p0-32, p0)
-	if (p0 & 255) == 58 {
-		goto B0
-	}
-	if l3 == l6 {
-		goto B16
-	}
-	if (p0 & 255) != 37 {
-		goto B16
-	}
+	goto B3
+B14:
 	if l3 == l8 {
-		goto B16
-	}
-	p0 = m.i32_load8_u(l4 + 4)
-	if (select32(b32(((p0-97)&255) < 26), p0-32, p0) & 255) != 51 {
-		goto B16
-	}
-	p0 = m.i32_load8_u(l4 + 5)
-	if (select32(b32(((p0-97)&255) < 26), p0-32, p0) & 255) == 65 {
-		goto B0
-	}
-	goto B16
-B18:
-	if l13 != 0 {
-		goto B16
-	}
-	if (p0 & 255) != 85 {
-		goto B16
-	}
-	if l3 == l7 {
-		goto B16
-	}
-	p0 = m.i32_load8_u(l4 + 2)
-	if (select32(b32(((p0-97)&255) < 26), p0-32, p0) & 255) != 73 {
-		goto B16
-	}
-	l13 = 1
-	p0 = m.i32_load8_u(l4 + 3)
-	p0 = select32(b32(((p0-97)&255) < 26), p0-32, p0)
-	if (p0 & 255) == 58 {
-		goto B0
-	}
-	if l3 == l6 {
-		goto B16
-	}
-	if (p0 & 255) != 37 {
-		goto B16
-	}
-	if l3 == l8 {
-		goto B16
-	}
-	p0 = m.i32_load8_u(l4 + 4)
-	if (select32(b32(((p0-97)&255) < 26), p0-32, p0) & 255) != 51 {
-		goto B16
-	}
-	p0 = m.i32_load8_u(l4 + 5)
-	if (select32(b32(((p0-97)&255) < 26), p0-32, p0) & 255) != 65 {
-		goto B16
-	}
-	goto B0
-B17:
-	if l13 != 0 {
-		goto B16
-	}
-	if (p0 & 255) != 37 {
-		goto B16
+		goto B1
 	}
 	if l3 == l9 {
-		goto B16
+		goto B12
 	}
 	p0 = m.i32_load8_u(l4 + 1)
 	if (select32(b32(((p0-97)&255) < 26), p0-32, p0) & 255) != 50 {
-		goto B16
+		goto B12
 	}
-	if l3 == l7 {
-		goto B16
+	if l3 == l5 {
+		goto B12
 	}
 	p0 = m.i32_load8_u(l4 + 2)
 	if (select32(b32(((p0-97)&255) < 26), p0-32, p0) & 255) != 70 {
-		goto B16
+		goto B12
+	}
+	if l3 == l6 {
+		goto B12
+	}
+	p0 = m.i32_load8_u(l4 + 3)
+	if (select32(b32(((p0-97)&255) < 26), p0-32, p0) & 255) != 65 {
+		goto B12
+	}
+	if l3 == l7 {
+		goto B12
+	}
+	p0 = m.i32_load8_u(l4 + 4)
+	if (select32(b32(((p0-97)&255) < 26), p0-32, p0) & 255) != 85 {
+		goto B12
+	}
+	l13 = 1
+	l10 = l4 + 5
+	p0 = m.i32_load8_u(l10)
+	if (select32(b32(((p0-97)&255) < 26), p0-32, p0) & 255) == 58 {
+		goto B0
+	}
+	if l3 == l11 {
+		goto B12
+	}
+	p0 = m.i32_load8_u(l10)
+	if (select32(b32(((p0-97)&255) < 26), p0-32, p0) & 255) != 37 {
+		goto B12
+	}
+	if l3 == l12 {
+		goto B12
+	}
+	p0 = m.i32_load8_u(l4 + 6)
+	if (select32(b32(((p0-97)&255) < 26), p0-32, p0) & 255) != 51 {
+		goto B12
+	}
+	p0 = m.i32_load8_u(l4 + 7)
+	if (select32(b32(((p0-97)&255) < 26), p0-32, p0) & 255) == 65 {
+		goto B0
+	}
+	goto B12
+B13:
+	if l3 == l8 {
+		goto B1
+	}
+	if l3 == l9 {
+		goto B12
+	}
+	p0 = m.i32_load8_u(l4 + 1)
+	if (select32(b32(((p0-97)&255) < 26), p0-32, p0) & 255) != 65 {
+		goto B12
+	}
+	if l3 == l5 {
+		goto B12
+	}
+	p0 = m.i32_load8_u(l4 + 2)
+	if (select32(b32(((p0-97)&255) < 26), p0-32, p0) & 255) != 85 {
+		goto B12
+	}
+	if l3 == l6 {
+		goto B12
+	}
+	p0 = m.i32_load8_u(l4 + 3)
+	if (select32(b32(((p0-97)&255) < 26), p0-32, p0) & 255) != 37 {
+		goto B12
+	}
+	if l3 == l7 {
+		goto B12
+	}
+	p0 = m.i32_load8_u(l4 + 4)
+	if (select32(b32(((p0-97)&255) < 26), p0-32, p0) & 255) != 51 {
+		goto B12
+	}
+	p0 = m.i32_load8_u(l4 + 5)
+	if (select32(b32(((p0-97)&255) < 26), p0-32, p0) & 255) == 65 {
+		goto B3
+	}
+B12:
+	l3 = l3 + 1
+	if p2 != l3 {
+		goto L11
+	}
+	goto B1
+B3:
+	l13 = 1
+	i0 = l13
+	goto B0
+B2:
+	l8 = p2 - 1
+	l11 = p2 - 6
+	l12 = p2 - 7
+	l9 = p2 - 2
+	l5 = p2 - 3
+	l6 = p2 - 4
+	l7 = p2 - 5
+L16:
+	l4 = p1 + l3
+	switch m.i32_load8_u(l4) - 37 {
+	case 0:
+		goto B19
+	case 1:
+		goto B17
+	case 2:
+		goto B17
+	case 3:
+		goto B17
+	case 4:
+		goto B17
+	case 5:
+		goto B17
+	case 6:
+		goto B17
+	case 7:
+		goto B17
+	case 8:
+		goto B17
+	case 9:
+		goto B17
+	case 10:
+		goto B18
+	default:
+		goto B17
+	}
+B19:
+	if l3 == l8 {
+		goto B1
+	}
+	if l3 == l9 {
+		goto B17
+	}
+	p0 = m.i32_load8_u(l4 + 1)
+	if (select32(b32(((p0-97)&255) < 26), p0-32, p0) & 255) != 50 {
+		goto B17
+	}
+	if l3 == l5 {
+		goto B17
+	}
+	p0 = m.i32_load8_u(l4 + 2)
+	if (select32(b32(((p0-97)&255) < 26), p0-32, p0) & 255) != 70 {
+		goto B17
 	}
 	p0 = m.i32_load8_u(l4 + 3)
 	p0 = select32(b32(((p0-97)&255) < 26), p0-32, p0)
 	l13 = b32(l3 == l6)
 	if l13 != 0 {
+		goto B20
+	}
+	if (p0 & 255) != 80 {
+		goto B20
+	}
+	if l3 == l7 {
+		goto B17
+	}
+	p0 = m.i32_load8_u(l4 + 4)
+	if (select32(b32(((p0-97)&255) < 26), p0-32, p0) & 255) != 82 {
+		goto B17
+	}
+	l13 = 1
+	l10 = l4 + 5
+	p0 = m.i32_load8_u(l10)
+	if (select32(b32(((p0-97)&255) < 26), p0-32, p0) & 255) == 58 {
+		goto B0
+	}
+	if l3 == l11 {
+		goto B17
+	}
+	p0 = m.i32_load8_u(l10)
+	if (select32(b32(((p0-97)&255) < 26), p0-32, p0) & 255) != 37 {
+		goto B17
+	}
+	if l3 == l12 {
+		goto B17
+	}
+	p0 = m.i32_load8_u(l4 + 6)
+	if (select32(b32(((p0-97)&255) < 26), p0-32, p0) & 255) != 51 {
+		goto B17
+	}
+	p0 = m.i32_load8_u(l4 + 7)
+	if (select32(b32(((p0-97)&255) < 26), p0-32, p0) & 255) != 65 {
+		goto B17
+	}
+	goto B0
+B20:
+	if l13 != 0 {
+		goto B17
+	}
+	if (p0 & 255) != 85 {
+		goto B17
+	}
+	if l3 == l7 {
+		goto B17
+	}
+	p0 = m.i32_load8_u(l4 + 4)
+	if (select32(b32(((p0-97)&255) < 26), p0-32, p0) & 255) != 73 {
+		goto B17
+	}
+	l13 = 1
+	l10 = l4 + 5
+	p0 = m.i32_load8_u(l10)
+	if (select32(b32(((p0-97)&255) < 26), p0-32, p0) & 255) == 58 {
+		goto B0
+	}
+	if l3 == l11 {
+		goto B17
+	}
+	p0 = m.i32_load8_u(l10)
+	if (select32(b32(((p0-97)&255) < 26), p0-32, p0) & 255) != 37 {
+		goto B17
+	}
+	if l3 == l12 {
+		goto B17
+	}
+	p0 = m.i32_load8_u(l4 + 6)
+	if (select32(b32(((p0-97)&255) < 26), p0-32, p0) & 255) != 51 {
+		goto B17
+	}
+	p0 = m.i32_load8_u(l4 + 7)
+	if (select32(b32(((p0-97)&255) < 26), p0-32, p0) & 255) != 65 {
+		goto B17
+	}
+	goto B0
+B18:
+	if l3 == l8 {
+		goto B1
+	}
+	p0 = m.i32_load8_u(l4 + 1)
+	p0 = select32(b32(((p0-97)&255) < 26), p0-32, p0)
+	l13 = b32(l3 == l9)
+	if l13 != 0 {
 		goto B21
 	}
 	if (p0 & 255) != 80 {
 		goto B21
 	}
-	l5 = l4 + 4
-	l13 = b32(l3 == l8)
-	if l13 != 0 {
-		goto B20
+	if l3 == l5 {
+		goto B17
 	}
-	p0 = m.i32_load8_u(l5)
+	p0 = m.i32_load8_u(l4 + 2)
 	if (select32(b32(((p0-97)&255) < 26), p0-32, p0) & 255) != 82 {
-		goto B20
+		goto B17
+	}
+	l13 = 1
+	p0 = m.i32_load8_u(l4 + 3)
+	p0 = select32(b32(((p0-97)&255) < 26), p0-32, p0)
+	if (p0 & 255) == 58 {
+		goto B0
+	}
+	if l3 == l6 {
+		goto B17
+	}
+	if (p0 & 255) != 37 {
+		goto B17
+	}
+	if l3 == l7 {
+		goto B17
+	}
+	p0 = m.i32_load8_u(l4 + 4)
+	if (select32(b32(((p0-97)&255) < 26), p0-32, p0) & 255) != 51 {
+		goto B17
 	}
 	p0 = m.i32_load8_u(l4 + 5)
-	if (select32(b32(((p0-97)&255) < 26), p0-32, p0) & 255) != 58 {
-		goto B20
+	if (select32(b32(((p0-97)&255) < 26), p0-32, p0) & 255) != 65 {
+		goto B17
 	}
-	i0 = 1
-	goto Bfunc
+	goto B0
 B21:
 	if l13 != 0 {
-		goto B16
+		goto B17
 	}
 	if (p0 & 255) != 85 {
-		goto B16
+		goto B17
 	}
-	l5 = l4 + 4
-	l13 = b32(l3 == l8)
-	if l13 != 0 {
-		goto B19
+	if l3 == l5 {
+		goto B17
 	}
-	p0 = m.i32_load8_u(l5)
+	p0 = m.i32_load8_u(l4 + 2)
 	if (select32(b32(((p0-97)&255) < 26), p0-32, p0) & 255) != 73 {
-		goto B19
+		goto B17
 	}
-	p0 = m.i32_load8_u(l4 + 5)
-	if (select32(b32(((p0-97)&255) < 26), p0-32, p0) & 255) != 58 {
-		goto B19
+	l13 = 1
+	p0 = m.i32_load8_u(l4 + 3)
+	p0 = select32(b32(((p0-97)&255) < 26), p0-32, p0)
+	if (p0 & 255) == 58 {
+		goto B0
 	}
-	i0 = 1
-	goto Bfunc
-B20:
-	if l13 != 0 {
-		goto B16
+	if l3 == l6 {
+		goto B17
 	}
-	p0 = m.i32_load8_u(l5)
-	if (select32(b32(((p0-97)&255) < 26), p0-32, p0) & 255) != 82 {
-		goto B16
+	if (p0 & 255) != 37 {
+		goto B17
 	}
-	if l3 == l10 {
-		goto B16
+	if l3 == l7 {
+		goto B17
 	}
-	p0 = m.i32_load8_u(l4 + 5)
-	if (select32(b32(((p0-97)&255) < 26), p0-32, p0) & 255) != 37 {
-		goto B16
-	}
-	if l3 == l11 {
-		goto B16
-	}
-	p0 = m.i32_load8_u(l4 + 6)
+	p0 = m.i32_load8_u(l4 + 4)
 	if (select32(b32(((p0-97)&255) < 26), p0-32, p0) & 255) != 51 {
-		goto B16
-	}
-	p0 = m.i32_load8_u(l4 + 7)
-	if (select32(b32(((p0-97)&255) < 26), p0-32, p0) & 255) != 65 {
-		goto B16
-	}
-	i0 = 1
-	goto Bfunc
-B19:
-	if l13 != 0 {
-		goto B16
-	}
-	p0 = m.i32_load8_u(l5)
-	if (select32(b32(((p0-97)&255) < 26), p0-32, p0) & 255) != 73 {
-		goto B16
-	}
-	if l3 == l10 {
-		goto B16
+		goto B17
 	}
 	p0 = m.i32_load8_u(l4 + 5)
-	if (select32(b32(((p0-97)&255) < 26), p0-32, p0) & 255) != 37 {
-		goto B16
+	if (select32(b32(((p0-97)&255) < 26), p0-32, p0) & 255) == 65 {
+		goto B0
 	}
-	if l3 == l11 {
-		goto B16
-	}
-	p0 = m.i32_load8_u(l4 + 6)
-	if (select32(b32(((p0-97)&255) < 26), p0-32, p0) & 255) != 51 {
-		goto B16
-	}
-	p0 = m.i32_load8_u(l4 + 7)
-	if (select32(b32(((p0-97)&255) < 26), p0-32, p0) & 255) != 65 {
-		goto B16
-	}
-	i0 = 1
-	goto Bfunc
-B16:
+B17:
 	l3 = l3 + 1
 	if p2 != l3 {
-		goto L15
+		goto L16
 	}
 B1:
-	l13 = 0
-	i0 = l13
+	i0 = 0
+	goto Bfunc
 B0:
 	i0 = l13
 Bfunc:
 	return i0
 }
 
-func (m *memory) f95(p0 uint64, p1 uint64) uint32 {
+func (m *memory) f88(p0 uint64, p1 uint64) uint32 {
 	var l6, l7, i0 uint32
 	var l2, l3, l4, l5 uint64
 	_, _, _, _, _, _, _ = l6, l7, i0, l2, l3, l4, l5
@@ -19322,7 +18981,7 @@ Bfunc:
 	return i0
 }
 
-func (m *memory) f96(p0 uint64, p1 uint64, p2 uint64) {
+func (m *memory) f89(p0 uint64, p1 uint64, p2 uint64) {
 	var l15, l16, l17, l18, l19 uint32
 	var l3, l4, l5, l6, l7, l8, l9, l10, l11, l12, l13, l14 uint64
 	_, _, _, _, _, _, _, _, _, _, _, _, _, _, _, _, _ = l15, l16, l17, l18, l19, l3, l4, l5, l6, l7, l8, l9, l10, l11, l12, l13, l14
@@ -19341,7 +19000,7 @@ func (m *memory) f96(p0 uint64, p1 uint64, p2 uint64) {
 		m.i64_store(l3+96, m.i64_load(p2+16))
 		m.i64_store(l3+88, m.i64_load(p2+8))
 		m.i64_store(l3+80, m.i64_load(p2))
-		m.f97(l3+8, l3+56)
+		m.f90(l3+8, l3+56)
 		if m.i32_load8_u(l3+8) == 1 {
 			l12 = l3 - 18446744073709551552
 			l10 = l3 + 152
@@ -19402,7 +19061,7 @@ func (m *memory) f96(p0 uint64, p1 uint64, p2 uint64) {
 			l17 = m.i32_load8_u(l3 + 121)
 			goto B7
 		B9:
-			m.f98(l3, l3+80, l16, l6, l7)
+			m.f91(l3, l3+80, l16, l6, l7)
 			if m.i32_load8_u(l3) != 1 {
 				goto B6
 			}
@@ -19465,7 +19124,7 @@ func (m *memory) f96(p0 uint64, p1 uint64, p2 uint64) {
 			m.i64_store(l12, m.i64_load(l13))
 			m.i64_store(l12+8, m.i64_load(l13+8))
 			m.i64_store(l3+56, l14)
-			m.f97(l3+8, l3+56)
+			m.f90(l3+8, l3+56)
 			l19 = l17
 			if m.i32_load8_u(l3+8) == 1 {
 				goto L3
@@ -19488,7 +19147,7 @@ func (m *memory) f96(p0 uint64, p1 uint64, p2 uint64) {
 Bfunc:
 }
 
-func (m *memory) f97(p0 uint64, p1 uint64) {
+func (m *memory) f90(p0 uint64, p1 uint64) {
 	var l6 uint32
 	var l2, l3, l4, l5, j0 uint64
 	_, _, _, _, _, _ = l6, l2, l3, l4, l5, j0
@@ -19557,7 +19216,7 @@ func (m *memory) f97(p0 uint64, p1 uint64) {
 Bfunc:
 }
 
-func (m *memory) f98(p0 uint64, p1 uint64, p2 uint32, p3 uint64, p4 uint64) {
+func (m *memory) f91(p0 uint64, p1 uint64, p2 uint32, p3 uint64, p4 uint64) {
 	var l5, l6, l7, i0 uint32
 	var l8 uint64
 	_, _, _, _, _ = l5, l6, l7, i0, l8
@@ -20257,7 +19916,7 @@ B0:
 	m.stackPointer = l8 + 16
 }
 
-func (m *memory) f99(p0 uint64, p1 uint64, p2 uint64, p3 uint64) {
+func (m *memory) f92(p0 uint64, p1 uint64, p2 uint64, p3 uint64) {
 	var l12, l13, l14, l15 uint32
 	var l4, l5, l6, l7, l8, l9, l10, l11, j0 uint64
 	_, _, _, _, _, _, _, _, _, _, _, _, _ = l12, l13, l14, l15, l4, l5, l6, l7, l8, l9, l10, l11, j0
@@ -20274,7 +19933,7 @@ func (m *memory) f99(p0 uint64, p1 uint64, p2 uint64, p3 uint64) {
 		m.i64_store(l4+88, p2)
 		p3 = 1
 		m.i64_store(l4+80, 1)
-		m.f100(l4+104, l4+80, l4+176)
+		m.f93(l4+104, l4+80, l4+176)
 		l10 = m.i64_load(l4 + 112)
 		l11 = m.i64_load8_u(l4 + 104)
 		if l11 == 0 {
@@ -20360,7 +20019,7 @@ func (m *memory) f99(p0 uint64, p1 uint64, p2 uint64, p3 uint64) {
 Bfunc:
 }
 
-func (m *memory) f100(p0 uint64, p1 uint64, p2 uint64) {
+func (m *memory) f93(p0 uint64, p1 uint64, p2 uint64) {
 	var l17, l18, l19, l20, l21, l22, l23, i0 uint32
 	var l3, l4, l5, l6, l7, l8, l9, l10, l11, l12, l13, l14, l15, l16 uint64
 	_, _, _, _, _, _, _, _, _, _, _, _, _, _, _, _, _, _, _, _, _, _ = l17, l18, l19, l20, l21, l22, l23, i0, l3, l4, l5, l6, l7, l8, l9, l10, l11, l12, l13, l14, l15, l16
@@ -20376,7 +20035,7 @@ func (m *memory) f100(p0 uint64, p1 uint64, p2 uint64) {
 		m.i64_store(l3+72, l7)
 		m.i64_store(l3-18446744073709551552, l9)
 		m.i64_store(l3+56, uint64(l21)&255)
-		m.f97(l3+8, l3+56)
+		m.f90(l3+8, l3+56)
 		if m.i32_load8_u(l3+8) == 1 {
 			l12 = l3 - 18446744073709551552
 			l13 = l3 + 40
@@ -20475,7 +20134,7 @@ func (m *memory) f100(p0 uint64, p1 uint64, p2 uint64) {
 			l8 = l6
 			goto B7
 		B9:
-			m.f101(l3, l3+80, l20, l8, l5)
+			m.f94(l3, l3+80, l20, l8, l5)
 			l18 = m.i32_load8_u(l3)
 			if l18 == 0 {
 				goto B6
@@ -20600,7 +20259,7 @@ func (m *memory) f100(p0 uint64, p1 uint64, p2 uint64) {
 			m.i64_store(l12, m.i64_load(l13))
 			m.i64_store(l12+8, m.i64_load(l13+8))
 			m.i64_store(l3+56, l15)
-			m.f97(l3+8, l3+56)
+			m.f90(l3+8, l3+56)
 			if m.i32_load8_u(l3+8) == 1 {
 				goto L3
 			}
@@ -20623,7 +20282,7 @@ B0:
 	m.stackPointer = l3 + 176
 }
 
-func (m *memory) f101(p0 uint64, p1 uint64, p2 uint32, p3 uint64, p4 uint64) {
+func (m *memory) f94(p0 uint64, p1 uint64, p2 uint32, p3 uint64, p4 uint64) {
 	var l5, l6, l7, i0 uint32
 	_, _, _, _ = l5, l6, l7, i0
 	if int64(m.stackPointer) >= 16 {
@@ -21129,7 +20788,7 @@ func (m *memory) f101(p0 uint64, p1 uint64, p2 uint32, p3 uint64, p4 uint64) {
 			goto B1
 		}
 		m.i32_store8(p4, 1)
-		m.i32_store8(p1+27, m.i32_load8_u((uint64(l7)&255)+4611686018427410872))
+		m.i32_store8(p1+27, m.i32_load8_u((uint64(l7)&255)+4611686018427411616))
 		goto B3
 	B15:
 		l6 = 1
@@ -21583,8 +21242,8 @@ func (m *memory) f101(p0 uint64, p1 uint64, p2 uint32, p3 uint64, p4 uint64) {
 		}
 		m.i32_store8(p4, 1)
 		p4 = uint64(l7) & 255
-		m.i32_store8(p1+44, m.i32_load8_u(p4+4611686018427410882))
-		m.i32_store8(p1+43, m.i32_load8_u(p4+4611686018427410891))
+		m.i32_store8(p1+44, m.i32_load8_u(p4+4611686018427411626))
+		m.i32_store8(p1+43, m.i32_load8_u(p4+4611686018427411635))
 		goto B3
 	B8:
 		p2 = 0
@@ -21740,8 +21399,8 @@ func (m *memory) f101(p0 uint64, p1 uint64, p2 uint32, p3 uint64, p4 uint64) {
 		}
 		m.i32_store8(p4, 1)
 		p4 = uint64(l7) & 255
-		m.i32_store8(p1+53, m.i32_load8_u(p4+4611686018427410900))
-		m.i32_store8(p1+52, m.i32_load8_u(p4+4611686018427410891))
+		m.i32_store8(p1+53, m.i32_load8_u(p4+4611686018427411644))
+		m.i32_store8(p1+52, m.i32_load8_u(p4+4611686018427411635))
 		goto B3
 	B5:
 		p2 = 0
@@ -21767,8 +21426,8 @@ func (m *memory) f101(p0 uint64, p1 uint64, p2 uint32, p3 uint64, p4 uint64) {
 		}
 		m.i32_store8(p4, 1)
 		p4 = uint64(l7) & 255
-		m.i32_store8(p1+56, m.i32_load8_u(p4+4611686018427410900))
-		m.i32_store8(p1+55, m.i32_load8_u(p4+4611686018427410891))
+		m.i32_store8(p1+56, m.i32_load8_u(p4+4611686018427411644))
+		m.i32_store8(p1+55, m.i32_load8_u(p4+4611686018427411635))
 		goto B3
 	B4:
 		p2 = 0
@@ -21794,8 +21453,8 @@ func (m *memory) f101(p0 uint64, p1 uint64, p2 uint32, p3 uint64, p4 uint64) {
 		}
 		m.i32_store8(p4, 1)
 		p4 = uint64(l7) & 255
-		m.i32_store8(p1+59, m.i32_load8_u(p4+4611686018427410900))
-		m.i32_store8(p1+58, m.i32_load8_u(p4+4611686018427410891))
+		m.i32_store8(p1+59, m.i32_load8_u(p4+4611686018427411644))
+		m.i32_store8(p1+58, m.i32_load8_u(p4+4611686018427411635))
 	B3:
 		i0 = 0
 	B2:
@@ -21811,7 +21470,7 @@ func (m *memory) f101(p0 uint64, p1 uint64, p2 uint32, p3 uint64, p4 uint64) {
 Bfunc:
 }
 
-func (m *memory) f102(p0 uint64, p1 uint64, p2 uint64) {
+func (m *memory) f95(p0 uint64, p1 uint64, p2 uint64) {
 	var l17, l18, l19, l20, l21, l22, i0 uint32
 	var l3, l4, l5, l6, l7, l8, l9, l10, l11, l12, l13, l14, l15, l16 uint64
 	_, _, _, _, _, _, _, _, _, _, _, _, _, _, _, _, _, _, _, _, _ = l17, l18, l19, l20, l21, l22, i0, l3, l4, l5, l6, l7, l8, l9, l10, l11, l12, l13, l14, l15, l16
@@ -21827,7 +21486,7 @@ func (m *memory) f102(p0 uint64, p1 uint64, p2 uint64) {
 		m.i64_store(l3+80, l7)
 		m.i64_store(l3+72, l8)
 		m.i64_store(l3-18446744073709551552, uint64(l18)&255)
-		m.f97(l3+16, l3-18446744073709551552)
+		m.f90(l3+16, l3-18446744073709551552)
 		if m.i32_load8_u(l3+16) == 1 {
 			l13 = l3 + 72
 			l14 = l3 + 48
@@ -21918,7 +21577,7 @@ func (m *memory) f102(p0 uint64, p1 uint64, p2 uint64) {
 			i0 = 3
 			goto B7
 		B8:
-			m.f103(l3+8, l3+88, l21, l11, l10)
+			m.f96(l3+8, l3+88, l21, l11, l10)
 			if m.i32_load8_u(l3+8) != 1 {
 				goto B6
 			}
@@ -21981,7 +21640,7 @@ func (m *memory) f102(p0 uint64, p1 uint64, p2 uint64) {
 			m.i64_store(l13, m.i64_load(l14))
 			m.i64_store(l13+8, m.i64_load(l14+8))
 			m.i64_store(l3-18446744073709551552, l16)
-			m.f97(l3+16, l3-18446744073709551552)
+			m.f90(l3+16, l3-18446744073709551552)
 			l22 = l19
 			if m.i32_load8_u(l3+16) == 1 {
 				goto L3
@@ -22003,7 +21662,7 @@ func (m *memory) f102(p0 uint64, p1 uint64, p2 uint64) {
 Bfunc:
 }
 
-func (m *memory) f103(p0 uint64, p1 uint64, p2 uint32, p3 uint64, p4 uint64) {
+func (m *memory) f96(p0 uint64, p1 uint64, p2 uint32, p3 uint64, p4 uint64) {
 	var l6, l7 uint32
 	var l5 uint64
 	_, _, _ = l6, l7, l5
@@ -22699,7 +22358,7 @@ func (m *memory) f103(p0 uint64, p1 uint64, p2 uint32, p3 uint64, p4 uint64) {
 Bfunc:
 }
 
-func (m *memory) f104(p0 uint64, p1 uint64, p2 uint32) {
+func (m *memory) f97(p0 uint64, p1 uint64, p2 uint32) {
 	var l5, l6, l7, l8, l9 uint32
 	var l3, l4 uint64
 	_, _, _, _, _, _, _ = l5, l6, l7, l8, l9, l3, l4
@@ -22771,7 +22430,7 @@ func (m *memory) f104(p0 uint64, p1 uint64, p2 uint32) {
 Bfunc:
 }
 
-func (m *memory) f105(p0 uint64, p1 uint64, p2 uint64, p3 uint64) uint64 {
+func (m *memory) f98(p0 uint64, p1 uint64, p2 uint64, p3 uint64) uint64 {
 	var l6, l7, l8, l9, l10, l11 uint32
 	var l4, l5, j0 uint64
 	_, _, _, _, _, _, _, _, _ = l6, l7, l8, l9, l10, l11, l4, l5, j0
@@ -22809,7 +22468,7 @@ func (m *memory) f105(p0 uint64, p1 uint64, p2 uint64, p3 uint64) uint64 {
 				m.i64_store(p1+28, 0)
 				m.i32_store(p1+36, 0)
 			}
-			j0 = m.f106(l4+48, p2, p3)
+			j0 = m.f99(l4+48, p2, p3)
 			goto B1
 		}
 		m.i32_store8(l4+10, l6)
@@ -22822,7 +22481,7 @@ func (m *memory) f105(p0 uint64, p1 uint64, p2 uint64, p3 uint64) uint64 {
 		m.i64_store(l4+24, m.i64_load(p0+32))
 		m.i64_store(l4+32, m.i64_load(p0+40))
 		m.i64_store(l4+40, m.i64_load(p0+48))
-		j0 = m.f86(l4, p1, p2, p3)
+		j0 = m.f79(l4, p1, p2, p3)
 	B1:
 		p0 = j0
 		m.stackPointer = l4 + 128
@@ -22834,7 +22493,7 @@ Bfunc:
 	return j0
 }
 
-func (m *memory) f106(p0 uint64, p1 uint64, p2 uint64) uint64 {
+func (m *memory) f99(p0 uint64, p1 uint64, p2 uint64) uint64 {
 	var l3, l4, j0 uint64
 	_, _, _ = l3, l4, j0
 	l3 = m.stackPointer - 4368
@@ -22856,7 +22515,7 @@ func (m *memory) f106(p0 uint64, p1 uint64, p2 uint64) uint64 {
 		if m.i64_load(l4) != 0 {
 			goto B4
 		}
-		m.f107(l3+16, 3471768688348321347, l4, l3+48)
+		m.f100(l3+16, 3471768688348321347, l4, l3+48)
 		p0 = m.i64_load(l3 + 24)
 		j0 = m.i64_load(l3 + 16)
 		goto B2
@@ -22865,7 +22524,7 @@ func (m *memory) f106(p0 uint64, p1 uint64, p2 uint64) uint64 {
 		if m.i64_load(l4) != 1 {
 			goto B4
 		}
-		m.f107(l3+32, 3543826282386249283, l4, l3+48)
+		m.f100(l3+32, 3543826282386249283, l4, l3+48)
 		p0 = m.i64_load(l3 + 40)
 		j0 = m.i64_load(l3 + 32)
 		goto B2
@@ -22877,23 +22536,23 @@ func (m *memory) f106(p0 uint64, p1 uint64, p2 uint64) uint64 {
 		p0 = m.i64_load(l3 + 256)
 		m.i64_store(p0+(l3+48), 3471769787859949123)
 		m.i64_store(l3+256, p0+8)
-		m.f76(l4, l3+48)
+		m.f71(l4, l3+48)
 		p0 = m.i64_load(l3 + 256)
 		j0 = l3 + 48
 		goto B2
 	B4:
 		m.memory_fill(l3+264, 0, 4104)
-		m.f72(l3+264, p0)
-		j0 = m.f85(l3+264, m.i64_load(l3+4360), p1, p2)
+		m.f67(l3+264, p0)
+		j0 = m.f78(l3+264, m.i64_load(l3+4360), p1, p2)
 		p0 = j0
 		j0 = p0
 		goto B0
 	B3:
-		m.f75(l3, p0+1, l3+48)
+		m.f70(l3, p0+1, l3+48)
 		p0 = m.i64_load(l3 + 8)
 		j0 = m.i64_load(l3)
 	B2:
-		j0 = m.f85(j0, p0, p1, p2)
+		j0 = m.f78(j0, p0, p1, p2)
 		p0 = j0
 		j0 = p0
 		goto B0
@@ -22904,7 +22563,7 @@ B0:
 	return p0
 }
 
-func (m *memory) f107(p0 uint64, p1 uint64, p2 uint64, p3 uint64) {
+func (m *memory) f100(p0 uint64, p1 uint64, p2 uint64, p3 uint64) {
 	var l4, l5, l6 uint64
 	_, _, _ = l4, l5, l6
 	l5 = m.stackPointer
@@ -22913,7 +22572,7 @@ func (m *memory) f107(p0 uint64, p1 uint64, p2 uint64, p3 uint64) {
 		l6 = m.i64_load(l4)
 		m.i64_store(p3+l6, p1)
 		m.i64_store(l4, l6+8)
-		m.f77(p2, p3)
+		m.f72(p2, p3)
 		m.i64_store(p0+8, m.i64_load(l4))
 		m.i64_store(p0, p3)
 		m.stackPointer = l5
@@ -22923,7 +22582,7 @@ func (m *memory) f107(p0 uint64, p1 uint64, p2 uint64, p3 uint64) {
 Bfunc:
 }
 
-func (m *memory) f108(p0 uint64, p1 uint64, p2 uint64, p3 uint32) {
+func (m *memory) f101(p0 uint64, p1 uint64, p2 uint64, p3 uint32) {
 	var l5, l6, l7 uint32
 	var l4, j0, j1 uint64
 	_, _, _, _, _, _ = l5, l6, l7, l4, j0, j1
@@ -22971,7 +22630,7 @@ func (m *memory) f108(p0 uint64, p1 uint64, p2 uint64, p3 uint32) {
 Bfunc:
 }
 
-func (m *memory) f109(p0 uint64, p1 uint64, p2 uint32) {
+func (m *memory) f102(p0 uint64, p1 uint64, p2 uint32) {
 	var l3 uint64
 	_ = l3
 	l3 = m.stackPointer - 32
@@ -22980,7 +22639,7 @@ func (m *memory) f109(p0 uint64, p1 uint64, p2 uint32) {
 		m.i64_store(l3+24, 0)
 		m.i64_store(l3+16, 0)
 		m.i64_store(l3+8, 0)
-		m.f110(l3+8, p1, p2)
+		m.f103(l3+8, p1, p2)
 		p2 = b32(m.i32_load8_u(l3+8) == 1)
 		m.i64_store(p0+16, select64(p2, m.i64_load(l3+24), 0))
 		m.i64_store(p0+8, select64(p2, m.i64_load(l3+16), 0))
@@ -22992,7 +22651,7 @@ func (m *memory) f109(p0 uint64, p1 uint64, p2 uint32) {
 Bfunc:
 }
 
-func (m *memory) f110(p0 uint64, p1 uint64, p2 uint32) {
+func (m *memory) f103(p0 uint64, p1 uint64, p2 uint32) {
 	var l3, l4, j0, j1 uint64
 	_, _, _, _ = l3, l4, j0, j1
 	j0 = p0
@@ -23032,7 +22691,7 @@ func (m *memory) f110(p0 uint64, p1 uint64, p2 uint32) {
 		if m.i32_load8_u(p1) != 1 {
 			goto B0
 		}
-		l4 = m.i64_load((m.i64_load8_u(p1+1) << 3) + 4611686018427410912)
+		l4 = m.i64_load((m.i64_load8_u(p1+1) << 3) + 4611686018427411656)
 		l3 = 1
 		j1 = 1
 		goto B0
@@ -23041,7 +22700,7 @@ func (m *memory) f110(p0 uint64, p1 uint64, p2 uint32) {
 		if m.i32_load8_u(p1+2) != 1 {
 			goto B0
 		}
-		l4 = m.i64_load((m.i64_load8_u(p1+3) << 3) + 4611686018427410936)
+		l4 = m.i64_load((m.i64_load8_u(p1+3) << 3) + 4611686018427411680)
 		j1 = l4
 		goto B1
 	B15:
@@ -23049,7 +22708,7 @@ func (m *memory) f110(p0 uint64, p1 uint64, p2 uint32) {
 		if m.i32_load8_u(p1+4) != 1 {
 			goto B0
 		}
-		l4 = m.i64_load((m.i64_load8_u(p1+5) << 3) + 4611686018427410960)
+		l4 = m.i64_load((m.i64_load8_u(p1+5) << 3) + 4611686018427411704)
 		j1 = l4
 		goto B1
 	B14:
@@ -23057,7 +22716,7 @@ func (m *memory) f110(p0 uint64, p1 uint64, p2 uint32) {
 		if m.i32_load8_u(p1+6) != 1 {
 			goto B0
 		}
-		l4 = m.i64_load((m.i64_load8_u(p1+7) << 3) + 4611686018427410984)
+		l4 = m.i64_load((m.i64_load8_u(p1+7) << 3) + 4611686018427411728)
 		j1 = l4
 		goto B1
 	B13:
@@ -23065,7 +22724,7 @@ func (m *memory) f110(p0 uint64, p1 uint64, p2 uint32) {
 		if m.i32_load8_u(p1+8) != 1 {
 			goto B0
 		}
-		l4 = m.i64_load((m.i64_load8_u(p1+9) << 3) + 4611686018427410984)
+		l4 = m.i64_load((m.i64_load8_u(p1+9) << 3) + 4611686018427411728)
 		j1 = l4
 		goto B1
 	B12:
@@ -23073,7 +22732,7 @@ func (m *memory) f110(p0 uint64, p1 uint64, p2 uint32) {
 		if m.i32_load8_u(p1+10) != 1 {
 			goto B0
 		}
-		l4 = m.i64_load((m.i64_load8_u(p1+11) << 3) + 4611686018427410984)
+		l4 = m.i64_load((m.i64_load8_u(p1+11) << 3) + 4611686018427411728)
 		j1 = l4
 		goto B1
 	B11:
@@ -23082,8 +22741,8 @@ func (m *memory) f110(p0 uint64, p1 uint64, p2 uint32) {
 			goto B0
 		}
 		p1 = m.i64_load8_u(p1+13) << 3
-		l3 = m.i64_load(p1 + 4611686018427411048)
-		j1 = m.i64_load(p1 + 4611686018427411008)
+		l3 = m.i64_load(p1 + 4611686018427411792)
+		j1 = m.i64_load(p1 + 4611686018427411752)
 		goto B3
 	B10:
 		j1 = 0
@@ -23091,8 +22750,8 @@ func (m *memory) f110(p0 uint64, p1 uint64, p2 uint32) {
 			goto B0
 		}
 		p1 = m.i64_load8_u(p1+15) << 3
-		l3 = m.i64_load(p1 + 4611686018427411128)
-		j1 = m.i64_load(p1 + 4611686018427411088)
+		l3 = m.i64_load(p1 + 4611686018427411872)
+		j1 = m.i64_load(p1 + 4611686018427411832)
 		goto B3
 	B9:
 		j1 = 0
@@ -23100,8 +22759,8 @@ func (m *memory) f110(p0 uint64, p1 uint64, p2 uint32) {
 			goto B0
 		}
 		p1 = m.i64_load8_u(p1+17) << 3
-		l3 = m.i64_load(p1 + 4611686018427411200)
-		j1 = m.i64_load(p1 + 4611686018427411168)
+		l3 = m.i64_load(p1 + 4611686018427411944)
+		j1 = m.i64_load(p1 + 4611686018427411912)
 		goto B3
 	B8:
 		j1 = 0
@@ -23109,8 +22768,8 @@ func (m *memory) f110(p0 uint64, p1 uint64, p2 uint32) {
 			goto B0
 		}
 		p1 = m.i64_load8_u(p1+19) << 3
-		l3 = m.i64_load(p1 + 4611686018427411280)
-		j1 = m.i64_load(p1 + 4611686018427411232)
+		l3 = m.i64_load(p1 + 4611686018427412024)
+		j1 = m.i64_load(p1 + 4611686018427411976)
 		goto B3
 	B7:
 		j1 = 0
@@ -23118,8 +22777,8 @@ func (m *memory) f110(p0 uint64, p1 uint64, p2 uint32) {
 			goto B0
 		}
 		p1 = m.i64_load8_u(p1+21) << 3
-		l3 = m.i64_load(p1 + 4611686018427411368)
-		j1 = m.i64_load(p1 + 4611686018427411328)
+		l3 = m.i64_load(p1 + 4611686018427412112)
+		j1 = m.i64_load(p1 + 4611686018427412072)
 		goto B3
 	B6:
 		j1 = 0
@@ -23127,8 +22786,8 @@ func (m *memory) f110(p0 uint64, p1 uint64, p2 uint32) {
 			goto B0
 		}
 		p1 = m.i64_load8_u(p1+23) << 3
-		l3 = m.i64_load(p1 + 4611686018427411440)
-		j1 = m.i64_load(p1 + 4611686018427411408)
+		l3 = m.i64_load(p1 + 4611686018427412184)
+		j1 = m.i64_load(p1 + 4611686018427412152)
 		goto B3
 	B5:
 		j1 = 0
@@ -23136,8 +22795,8 @@ func (m *memory) f110(p0 uint64, p1 uint64, p2 uint32) {
 			goto B0
 		}
 		p1 = m.i64_load8_u(p1+25) << 3
-		l3 = m.i64_load(p1 + 4611686018427411440)
-		j1 = m.i64_load(p1 + 4611686018427411408)
+		l3 = m.i64_load(p1 + 4611686018427412184)
+		j1 = m.i64_load(p1 + 4611686018427412152)
 		goto B3
 	B4:
 		j1 = 0
@@ -23145,8 +22804,8 @@ func (m *memory) f110(p0 uint64, p1 uint64, p2 uint32) {
 			goto B0
 		}
 		p1 = m.i64_load8_u(p1+27) << 3
-		l3 = m.i64_load(p1 + 4611686018427411440)
-		j1 = m.i64_load(p1 + 4611686018427411408)
+		l3 = m.i64_load(p1 + 4611686018427412184)
+		j1 = m.i64_load(p1 + 4611686018427412152)
 	B3:
 		l4 = j1
 		j1 = 1
@@ -23162,7 +22821,7 @@ B0:
 	m.i64_store(p0+8, l4)
 }
 
-func (m *memory) f111(p0 uint64, p1 uint64, p2 uint64, p3 uint64) uint64 {
+func (m *memory) f104(p0 uint64, p1 uint64, p2 uint64, p3 uint64) uint64 {
 	var l4, j0 uint64
 	_, _ = l4, j0
 	if int64(m.stackPointer) >= 16 {
@@ -23200,7 +22859,7 @@ Bfunc:
 	return j0
 }
 
-func (m *memory) f112(p0 uint64, p1 uint64, p2 uint32) {
+func (m *memory) f105(p0 uint64, p1 uint64, p2 uint32) {
 	var l3 uint64
 	_ = l3
 	l3 = m.stackPointer - 32
@@ -23209,7 +22868,7 @@ func (m *memory) f112(p0 uint64, p1 uint64, p2 uint32) {
 		m.i64_store(l3+24, 0)
 		m.i64_store(l3+16, 0)
 		m.i64_store(l3+8, 0)
-		m.f113(l3+8, p1, p2)
+		m.f106(l3+8, p1, p2)
 		p2 = b32(m.i32_load8_u(l3+8) == 1)
 		m.i64_store(p0+16, select64(p2, m.i64_load(l3+24), 0))
 		m.i64_store(p0+8, select64(p2, m.i64_load(l3+16), 0))
@@ -23221,7 +22880,7 @@ func (m *memory) f112(p0 uint64, p1 uint64, p2 uint32) {
 Bfunc:
 }
 
-func (m *memory) f113(p0 uint64, p1 uint64, p2 uint32) {
+func (m *memory) f106(p0 uint64, p1 uint64, p2 uint32) {
 	var l3, l4 uint64
 	_, _ = l3, l4
 	if int64(m.stackPointer) >= 16 {
@@ -23927,7 +23586,7 @@ func (m *memory) f113(p0 uint64, p1 uint64, p2 uint32) {
 			goto B0
 		}
 	B103:
-		l3 = 4611686018427398351
+		l3 = 4611686018427398554
 		goto B0
 	B102:
 		l3 = 4611686018427387920
@@ -23956,7 +23615,7 @@ func (m *memory) f113(p0 uint64, p1 uint64, p2 uint32) {
 		l3 = 4611686018427389541
 		goto B0
 	B104:
-		l3 = 4611686018427398352
+		l3 = 4611686018427398555
 		goto B0
 	B5:
 		p2 = 1
@@ -23974,7 +23633,7 @@ func (m *memory) f113(p0 uint64, p1 uint64, p2 uint32) {
 			goto B0
 		}
 	B108:
-		l3 = 4611686018427398353
+		l3 = 4611686018427398556
 		goto B0
 	B107:
 		l3 = 4611686018427389540
@@ -24051,7 +23710,7 @@ B0:
 	m.i64_store(p0, uint64(p2))
 }
 
-func (m *memory) f114(p0 uint64, p1 uint64, p2 uint32) {
+func (m *memory) f107(p0 uint64, p1 uint64, p2 uint32) {
 	var l3 uint64
 	_ = l3
 	l3 = m.stackPointer - 32
@@ -24060,7 +23719,7 @@ func (m *memory) f114(p0 uint64, p1 uint64, p2 uint32) {
 		m.i64_store(l3+24, 0)
 		m.i64_store(l3+16, 0)
 		m.i64_store(l3+8, 0)
-		m.f115(l3+8, p1, p2)
+		m.f108(l3+8, p1, p2)
 		p2 = b32(m.i32_load8_u(l3+8) == 1)
 		m.i64_store(p0+16, select64(p2, m.i64_load(l3+24), 0))
 		m.i64_store(p0+8, select64(p2, m.i64_load(l3+16), 0))
@@ -24072,7 +23731,7 @@ func (m *memory) f114(p0 uint64, p1 uint64, p2 uint32) {
 Bfunc:
 }
 
-func (m *memory) f115(p0 uint64, p1 uint64, p2 uint32) {
+func (m *memory) f108(p0 uint64, p1 uint64, p2 uint32) {
 	var l3 uint64
 	_ = l3
 	if int64(m.stackPointer) >= 16 {
@@ -24520,7 +24179,7 @@ B0:
 	m.i64_store(p0, p1)
 }
 
-func (m *memory) f116(p0 uint64, p1 uint64, p2 uint64) {
+func (m *memory) f109(p0 uint64, p1 uint64, p2 uint64) {
 	var l4, l5, i1 uint32
 	var l3, j0 uint64
 	_, _, _, _, _ = l4, l5, i1, l3, j0
@@ -24546,7 +24205,7 @@ func (m *memory) f116(p0 uint64, p1 uint64, p2 uint64) {
 			l5 = b32(p2 != 0)
 			m.i64_store(l3+48, select64(l5, m.i64_load(l3+112), 0))
 			m.i64_store(l3+40, uint64(l5))
-			m.f96(l3-18446744073709551552, l3+40, l3+128)
+			m.f89(l3-18446744073709551552, l3+40, l3+128)
 			j0 = p0
 			if m.i32_load8_u(l3-18446744073709551552) != 0 {
 				i1 = l4
@@ -24576,7 +24235,7 @@ func (m *memory) f116(p0 uint64, p1 uint64, p2 uint64) {
 Bfunc:
 }
 
-func (m *memory) f117(p0 uint64, p1 uint64, p2 uint64, p3 uint64) {
+func (m *memory) f110(p0 uint64, p1 uint64, p2 uint64, p3 uint64) {
 	var l6 uint32
 	var l4, l5, j0, j1 uint64
 	_, _, _, _, _ = l6, l4, l5, j0, j1
@@ -24597,7 +24256,7 @@ func (m *memory) f117(p0 uint64, p1 uint64, p2 uint64, p3 uint64) {
 			l6 = b32(p3 != 0)
 			m.i64_store(l4+80, select64(l6, m.i64_load(l4+176), 0))
 			m.i64_store(l4+72, uint64(l6))
-			m.f100(l4+96, l4+72, l4+192)
+			m.f93(l4+96, l4+72, l4+192)
 			j0 = p0
 			if m.i32_load8_u(l4+96) != 0 {
 				j1 = l5
@@ -24618,196 +24277,105 @@ func (m *memory) f117(p0 uint64, p1 uint64, p2 uint64, p3 uint64) {
 Bfunc:
 }
 
-func (m *memory) f118(p0 uint64, p1 uint64, p2 uint32) {
-	var l21, l22, l23, l24 uint32
-	var l3, l4, l5, l6, l7, l8, l9, l10, l11, l12, l13, l14, l15, l16, l17, l18, l19, l20 uint64
-	_, _, _, _, _, _, _, _, _, _, _, _, _, _, _, _, _, _, _, _, _, _ = l21, l22, l23, l24, l3, l4, l5, l6, l7, l8, l9, l10, l11, l12, l13, l14, l15, l16, l17, l18, l19, l20
-	l3 = m.stackPointer - 384
+func (m *memory) f111(p0 uint64, p1 uint64, p2 uint32) {
+	var l18, l19, l20, l21 uint32
+	var l3, l4, l5, l6, l7, l8, l9, l10, l11, l12, l13, l14, l15, l16, l17 uint64
+	_, _, _, _, _, _, _, _, _, _, _, _, _, _, _, _, _, _, _ = l18, l19, l20, l21, l3, l4, l5, l6, l7, l8, l9, l10, l11, l12, l13, l14, l15, l16, l17
+	l3 = m.stackPointer - 432
 	m.stackPointer = l3
 	if int64(l3) >= 16 {
-		m.i32_store8(l3+382, 0)
-		m.i32_store16(l3+380, 0)
-		m.memory_fill(l3+200, 0, 176)
-		m.f119(l3+380, p1)
-		l22 = m.i32_load8_u(l3 + 382)
-		l23 = m.i32_load8_u(l3 + 381)
-		l24 = m.i32_load8_u(l3 + 380)
-		m.f82(l3+176, p1)
-		l4 = m.i64_load(l3 + 184)
-		l12 = m.i64_load(l3 + 176)
-		l7 = select64(b32(l4 != 0), uint64(bits.LeadingZeros64(l4)), uint64(bits.LeadingZeros64(l12))-18446744073709551552)
-		l5 = 88 - l7
-		l6 = 0 - uint64(b32(l7 > 88))
-		l21 = b32((l4|l12) == 0) | select32(b32(l6 == 0), b32(l5 > 127), b32(l6 != 0))
-		l8 = select64(l21, 0, l4)
-		l18 = select64(l21, 0, l12)
-		if l21 != 0 {
+		m.i32_store8(l3+254, 0)
+		m.i32_store16(l3+252, 0)
+		m.memory_fill(l3+72, 0, 176)
+		m.f112(l3+252, p1)
+		l19 = m.i32_load8_u(l3 + 254)
+		l20 = m.i32_load8_u(l3 + 253)
+		l21 = m.i32_load8_u(l3 + 252)
+		m.memory_fill(l3+256, 0, 176)
+		m.f56(l3+256, p1)
+		l8 = m.i64_load(l3 + 312)
+		l11 = m.i64_load(l3 + 296)
+		l9 = m.i64_load(l3 + 304)
+		m.memory_fill(l3+256, 0, 176)
+		m.f56(l3+256, p1)
+		l12 = m.i64_load(l3 + 280)
+		l13 = m.i64_load(l3 + 272)
+		l14 = m.i64_load(l3 + 264)
+		l15 = m.i64_load(l3 + 256)
+		m.f56(l3+72, p1)
+		m.f77(l3+48, l3+72)
+		l4 = m.i64_load(l3 + 56)
+		l10 = m.i64_load(l3 + 48)
+		p1 = select64(b32(l4 != 0), uint64(bits.LeadingZeros64(l4)), uint64(bits.LeadingZeros64(l10))-18446744073709551552)
+		l5 = 88 - p1
+		l6 = 0 - uint64(b32(p1 > 88))
+		l18 = b32((l4|l10) == 0) | select32(b32(l6 == 0), b32(l5 > 127), b32(l6 != 0))
+		l7 = select64(l18, 0, l4)
+		p1 = select64(l18, 0, l10)
+		l16 = (((l8 - 100) * ((100 - l11) * (100 - l9))) * 1000000) + 1000000000000
+		l17 = (l12 * (l13 * (l14 * l15))) * 82200
+		if l18 != 0 {
 			goto B0
 		}
 		if ((l5 ^ 127) | l6) == 0 {
 			goto B0
 		}
-		m.f19(l3+160, l12, l4, 127-uint32(l5))
-		l8 = m.i64_load(l3 + 168)
-		l7 = m.i64_load(l3 + 160)
+		m.f19(l3+32, l10, l4, 127-uint32(l5))
+		l7 = m.i64_load(l3 + 40)
+		p1 = m.i64_load(l3 + 32)
 		l5 = l5 + 1
 		l11 = l6 + uint64(b32(l5 == 0))
 		if (l5 | l11) == 0 {
 			goto B2
 		}
-		m.f20(l3+144, l12, l4, uint32(l5))
+		m.f20(l3+16, l10, l4, uint32(l5))
 		l14 = 999999999999
-		l6 = m.i64_load(l3 + 152)
-		l4 = m.i64_load(l3 + 144)
+		l15 = 0
+		l6 = m.i64_load(l3 + 24)
+		l4 = m.i64_load(l3 + 16)
+		l8 = 0
 	L4:
-		l10 = l9
-		l16 = (l6 << 1) | (l4 >> 63)
-		l6 = (l4 << 1) | (l8 >> 63)
-		l4 = uint64(int64(((l15 - l16) - uint64(b32(l14 < l6)))) >> 63)
-		l9 = l4 & 1
-		l17 = l4 & 1000000000000
-		l4 = l6 - l17
-		l6 = l16 - uint64(b32(l6 < l17))
-		l8 = (l8 << 1) | (l7 >> 63)
-		l21 = b32(l5 == 0)
-		l7 = l10 | (l7 << 1)
-		l10 = l5 - 1
-		l5 = l10
-		l11 = l11 - uint64(l21)
-		if b32((l10|l11) == 0) == 0 {
+		l9 = l8
+		l12 = (l6 << 1) | (l4 >> 63)
+		l6 = (l4 << 1) | (l7 >> 63)
+		l4 = uint64(int64(((l15 - l12) - uint64(b32(l14 < l6)))) >> 63)
+		l8 = l4 & 1
+		l13 = l4 & 1000000000000
+		l4 = l6 - l13
+		l6 = l12 - uint64(b32(l6 < l13))
+		l7 = (l7 << 1) | (p1 >> 63)
+		l18 = b32(l5 == 0)
+		p1 = l9 | (p1 << 1)
+		l9 = l5 - 1
+		l5 = l9
+		l11 = l11 - uint64(l18)
+		if b32((l9|l11) == 0) == 0 {
 			goto L4
 		}
 		goto B1
 	}
 	panic("cvss: unreachable")
 B2:
+	l8 = 0
 B1:
-	l8 = (l8 << 1) | (l7 >> 63)
-	l18 = l9 | (l7 << 1)
+	l7 = (l7 << 1) | (p1 >> 63)
+	p1 = l8 | (p1 << 1)
 B0:
-	m.f18(l3+112, l18, l8, 1000000000000, 0)
-	m.f83(l3+128, p1)
-	l4 = m.i64_load(l3 + 136)
-	l13 = m.i64_load(l3 + 128)
-	l7 = select64(b32(l4 != 0), uint64(bits.LeadingZeros64(l4)), uint64(bits.LeadingZeros64(l13))-18446744073709551552)
-	l5 = 88 - l7
-	l6 = 0 - uint64(b32(l7 > 88))
-	l21 = b32((l4|l13) == 0) | select32(b32(l6 == 0), b32(l5 > 127), b32(l6 != 0))
-	l8 = select64(l21, 0, l4)
-	l19 = select64(l21, 0, l13)
-	l20 = m.i64_load(l3 + 112)
-	if l21 != 0 {
-		goto B5
-	}
-	if ((l5 ^ 127) | l6) == 0 {
-		goto B5
-	}
-	m.f19(l3+96, l13, l4, 127-uint32(l5))
-	l8 = m.i64_load(l3 + 104)
-	l7 = m.i64_load(l3 + 96)
-	l5 = l5 + 1
-	l11 = l6 + uint64(b32(l5 == 0))
-	if b32((l5|l11) == 0) == 0 {
-		m.f20(l3+80, l13, l4, uint32(l5))
-		l14 = 999999999999
-		l6 = m.i64_load(l3 + 88)
-		l4 = m.i64_load(l3 + 80)
-		l9 = 0
-	L8:
-		l10 = l9
-		l16 = (l6 << 1) | (l4 >> 63)
-		l6 = (l4 << 1) | (l8 >> 63)
-		l4 = uint64(int64(((l15 - l16) - uint64(b32(l14 < l6)))) >> 63)
-		l9 = l4 & 1
-		l17 = l4 & 1000000000000
-		l4 = l6 - l17
-		l6 = l16 - uint64(b32(l6 < l17))
-		l8 = (l8 << 1) | (l7 >> 63)
-		l21 = b32(l5 == 0)
-		l7 = l10 | (l7 << 1)
-		l10 = l5 - 1
-		l5 = l10
-		l11 = l11 - uint64(l21)
-		if b32((l10|l11) == 0) == 0 {
-			goto L8
-		}
-		goto B6
-	}
-	l9 = 0
-B6:
-	l8 = (l8 << 1) | (l7 >> 63)
-	l19 = l9 | (l7 << 1)
-B5:
-	l12 = l12 - l20
-	m.f18(l3+48, l19, l8, 1000000000000, 0)
-	m.f57(l3+200, p1)
-	m.f84(l3-18446744073709551552, l3+200)
-	l4 = m.i64_load(l3 + 72)
-	p1 = m.i64_load(l3 - 18446744073709551552)
-	l7 = select64(b32(l4 != 0), uint64(bits.LeadingZeros64(l4)), uint64(bits.LeadingZeros64(p1))-18446744073709551552)
-	l5 = 88 - l7
-	l6 = 0 - uint64(b32(l7 > 88))
-	l21 = b32((l4|p1) == 0) | select32(b32(l6 == 0), b32(l5 > 127), b32(l6 != 0))
-	l8 = select64(l21, 0, l4)
-	l7 = select64(l21, 0, p1)
-	l13 = l13 - m.i64_load(l3+48)
-	if l21 != 0 {
-		goto B9
-	}
-	if ((l5 ^ 127) | l6) == 0 {
-		goto B9
-	}
-	m.f19(l3+32, p1, l4, 127-uint32(l5))
-	l8 = m.i64_load(l3 + 40)
-	l7 = m.i64_load(l3 + 32)
-	l5 = l5 + 1
-	l11 = l6 + uint64(b32(l5 == 0))
-	if b32((l5|l11) == 0) == 0 {
-		m.f20(l3+16, p1, l4, uint32(l5))
-		l14 = 999999999999
-		l6 = m.i64_load(l3 + 24)
-		l4 = m.i64_load(l3 + 16)
-		l9 = 0
-	L12:
-		l10 = l9
-		l16 = (l6 << 1) | (l4 >> 63)
-		l6 = (l4 << 1) | (l8 >> 63)
-		l4 = uint64(int64(((l15 - l16) - uint64(b32(l14 < l6)))) >> 63)
-		l9 = l4 & 1
-		l17 = l4 & 1000000000000
-		l4 = l6 - l17
-		l6 = l16 - uint64(b32(l6 < l17))
-		l8 = (l8 << 1) | (l7 >> 63)
-		l21 = b32(l5 == 0)
-		l7 = l10 | (l7 << 1)
-		l10 = l5 - 1
-		l5 = l10
-		l11 = l11 - uint64(l21)
-		if b32((l10|l11) == 0) == 0 {
-			goto L12
-		}
-		goto B10
-	}
-	l9 = 0
-B10:
-	l8 = (l8 << 1) | (l7 >> 63)
-	l7 = l9 | (l7 << 1)
-B9:
-	m.f18(l3, l7, l8, 1000000000000, 0)
-	m.i64_store(p0+48, l7)
-	m.i64_store(p0+40, l13)
-	m.i64_store(p0+32, l19)
-	m.i64_store(p0+24, l12)
-	m.i64_store(p0+16, l18)
-	m.i32_store(p0+12, l22)
-	m.i32_store(p0+8, l23)
-	m.i32_store(p0+4, l24)
+	m.f18(l3, p1, l7, 1000000000000, 0)
+	m.i64_store(p0+48, p1)
+	m.i64_store(p0+40, 0)
+	m.i64_store(p0+32, l17)
+	m.i64_store(p0+24, 0)
+	m.i64_store(p0+16, l16)
+	m.i32_store(p0+12, l19)
+	m.i32_store(p0+8, l20)
+	m.i32_store(p0+4, l21)
 	m.i32_store(p0, p2)
-	m.i64_store(p0+56, p1-m.i64_load(l3))
-	m.stackPointer = l3 + 384
+	m.i64_store(p0+56, l10-m.i64_load(l3))
+	m.stackPointer = l3 + 432
 }
 
-func (m *memory) f119(p0 uint64, p1 uint64) {
+func (m *memory) f112(p0 uint64, p1 uint64) {
 	var l5 uint32
 	var l2, l3, l4, j0, j1, j2 uint64
 	_, _, _, _, _, _, _ = l5, l2, l3, l4, j0, j1, j2
@@ -24815,7 +24383,7 @@ func (m *memory) f119(p0 uint64, p1 uint64) {
 	m.stackPointer = l3
 	if int64(l3) >= 16 {
 		m.memory_fill(l3, 0, 176)
-		m.f57(l3, p1)
+		m.f56(l3, p1)
 		p1 = m.i64_load(p1)
 		l5 = b32(p1 == 0)
 		l2 = (((100 - m.i64_load(l3+48)) * (100 - m.i64_load(l3+40))) * (m.i64_load(l3+56) - 100)) + 1000000
@@ -24839,10 +24407,10 @@ func (m *memory) f119(p0 uint64, p1 uint64) {
 		j2 = select64(b32(l2 < 100000000000000), l2, 100000000000000)
 	B1:
 		l2 = (j1 + j2) / 1000000000000
-		j0 = m.f59(j0, l2)
+		j0 = m.f57(j0, l2)
 		l4 = j0
 		j1 = m.f58(l3, p1)
-		j0 = m.f59(l3, j1)
+		j0 = m.f57(l3, j1)
 		p1 = j0
 		m.i64_store8(p0, l2)
 		l2 = select64(l5, 999999999936, 999950000000)
@@ -24855,7 +24423,7 @@ func (m *memory) f119(p0 uint64, p1 uint64) {
 Bfunc:
 }
 
-func (m *memory) f120(p0 uint64, p1 uint64) {
+func (m *memory) f113(p0 uint64, p1 uint64) {
 	var l4, l5, l6, l7, i0, i1 uint32
 	var l2, l3 uint64
 	_, _, _, _, _, _, _, _ = l4, l5, l6, l7, i0, i1, l2, l3
@@ -24910,15 +24478,15 @@ func (m *memory) f120(p0 uint64, p1 uint64) {
 		m.i32_store8(l2+36, l6)
 		m.i32_store8(l2+35, 1)
 		m.i32_store8(l2+34, l4)
-		m.f121(l2+40, p1, l2+34)
+		m.f114(l2+40, p1, l2+34)
 		goto B1
 	B4:
-		m.f122(l2+28, p1+8)
-		m.f121(l2+40, p1, l2+28)
+		m.f115(l2+28, p1+8)
+		m.f114(l2+40, p1, l2+28)
 		goto B1
 	B3:
-		m.f122(l2+20, p1+8)
-		m.f121(l2+40, p1, l2+20)
+		m.f115(l2+20, p1+8)
+		m.f114(l2+40, p1, l2+20)
 		goto B1
 	B2:
 		m.i64_store(l2+63, 0)
@@ -25004,7 +24572,7 @@ func (m *memory) f120(p0 uint64, p1 uint64) {
 		m.i32_store8(l2+19, l4)
 		m.i32_store(l2+15, 0)
 		m.i32_store8(l2+14, l5)
-		m.f121(l2+40, p1, l2+14)
+		m.f114(l2+40, p1, l2+14)
 	B1:
 		m.i64_store(p0+6, m.i64_load(l2+46))
 		m.i64_store(p0, m.i64_load(l2+40))
@@ -25015,7 +24583,7 @@ func (m *memory) f120(p0 uint64, p1 uint64) {
 Bfunc:
 }
 
-func (m *memory) f121(p0 uint64, p1 uint64, p2 uint64) {
+func (m *memory) f114(p0 uint64, p1 uint64, p2 uint64) {
 	var l3, l4, l5, l6, l7, l8, l9, l10, l11, l12, l13, l14, l15, i0 uint32
 	var l16 uint64
 	_, _, _, _, _, _, _, _, _, _, _, _, _, _, _ = l3, l4, l5, l6, l7, l8, l9, l10, l11, l12, l13, l14, l15, i0, l16
@@ -25028,18 +24596,18 @@ func (m *memory) f121(p0 uint64, p1 uint64, p2 uint64) {
 		l11 = m.i32_load8_u(p2 + 1)
 		l12 = m.i32_load8_u(p2)
 		l15 = m.i32_load8_u(p2 + 5)
-		i0 = m.f123(p1, l15)
+		i0 = m.f116(p1, l15)
 		l5 = i0
-		i0 = m.f123(p1, l12)
+		i0 = m.f116(p1, l12)
 		l6 = i0
 		if l11 == 1 {
-			i0 = m.f123(p1, l4)
+			i0 = m.f116(p1, l4)
 			l13 = i0 & 255
 			l8 = l4
 			i0 = l8
 		}
 		if (l10 & 255) == 1 {
-			i0 = m.f123(p1, l3)
+			i0 = m.f116(p1, l3)
 			l14 = i0 & 255
 			l7 = l3
 			i0 = l7
@@ -25110,7 +24678,7 @@ func (m *memory) f121(p0 uint64, p1 uint64, p2 uint64) {
 Bfunc:
 }
 
-func (m *memory) f122(p0 uint64, p1 uint64) {
+func (m *memory) f115(p0 uint64, p1 uint64) {
 	var l3, l4, l5, l6, i0 uint32
 	var l2 uint64
 	_, _, _, _, _, _ = l3, l4, l5, l6, i0, l2
@@ -25119,7 +24687,7 @@ func (m *memory) f122(p0 uint64, p1 uint64) {
 	if int64(l2) >= 16 {
 		m.i32_store8(l2+14, 0)
 		m.i32_store16(l2+12, 0)
-		m.f119(l2+12, p1)
+		m.f112(l2+12, p1)
 		l4 = m.i32_load8_u(l2 + 14)
 		l5 = m.i32_load8_u(l2 + 13)
 		l6 = m.i32_load8_u(l2 + 12)
@@ -25154,7 +24722,7 @@ func (m *memory) f122(p0 uint64, p1 uint64) {
 Bfunc:
 }
 
-func (m *memory) f123(p0 uint64, p1 uint32) uint32 {
+func (m *memory) f116(p0 uint64, p1 uint32) uint32 {
 	var l2, i0 uint32
 	_, _ = l2, i0
 	if int64(m.stackPointer) >= 16 {
@@ -25181,7 +24749,7 @@ Bfunc:
 	return i0
 }
 
-func (m *memory) f124(p0 uint64, p1 uint64, p2 uint64, p3 uint64) {
+func (m *memory) f117(p0 uint64, p1 uint64, p2 uint64, p3 uint64) {
 	var l9, i0 uint32
 	var l4, l5, l6, l7, l8 uint64
 	_, _, _, _, _, _, _ = l9, i0, l4, l5, l6, l7, l8
@@ -25289,7 +24857,7 @@ B0:
 	m.stackPointer = l8
 }
 
-func (m *memory) f125(p0 uint64, p1 uint64, p2 uint32, p3 uint64, p4 uint64, p5 uint64, p6 uint64) uint64 {
+func (m *memory) f118(p0 uint64, p1 uint64, p2 uint32, p3 uint64, p4 uint64, p5 uint64, p6 uint64) uint64 {
 	var l8, i0, i1 uint32
 	var l7, j0 uint64
 	_, _, _, _, _ = l8, i0, i1, l7, j0
@@ -25306,7 +24874,7 @@ func (m *memory) f125(p0 uint64, p1 uint64, p2 uint32, p3 uint64, p4 uint64, p5 
 			m.memory_copy((l7+248)|1, l7+169, 79)
 			i1 = m.f39(l7 + 248)
 			p2 = i1
-			i0 = m.f123(l7+248, p2)
+			i0 = m.f116(l7+248, p2)
 			l8 = i0
 			m.i64_store(l7+440, 0)
 			m.i64_store(l7+432, p4)
@@ -25314,23 +24882,23 @@ func (m *memory) f125(p0 uint64, p1 uint64, p2 uint32, p3 uint64, p4 uint64, p5 
 			m.i64_store(l7+416, 0)
 			m.i64_store(l7+392, 0)
 			m.i64_store(l7+384, 1)
-			m.i64_store(l7+376, 4611686018427407113)
+			m.i64_store(l7+376, 4611686018427407601)
 			m.i64_store(l7+368, 0)
 			m.i64_store(l7+344, 0)
 			m.i64_store(l7+336, 1)
-			m.i64_store(l7+328, 4611686018427407113)
+			m.i64_store(l7+328, 4611686018427407601)
 			p4 = uint64(l8&255) << 3
-			m.i64_store(l7+408, m.i64_load(p4+4611686018427411472))
-			m.i64_store(l7+400, m.i64_load(p4+4611686018427411512))
+			m.i64_store(l7+408, m.i64_load(p4+4611686018427412216))
+			m.i64_store(l7+400, m.i64_load(p4+4611686018427412256))
 			p4 = (uint64(p2) & 255) << 4
-			m.i64_store(l7+360, m.i64_load(p4+4611686018427407128))
-			m.i64_store(l7+352, m.i64_load(p4+4611686018427407120))
-			j0 = m.f90(l7+328, 5, p1, p5, p6)
+			m.i64_store(l7+360, m.i64_load(p4+4611686018427407616))
+			m.i64_store(l7+352, m.i64_load(p4+4611686018427407608))
+			j0 = m.f83(l7+328, 5, p1, p5, p6)
 			p1 = j0
 			if p1 > p6 {
 				goto B1
 			}
-			j0 = m.f106(l7+248, p5, p6)
+			j0 = m.f99(l7+248, p5, p6)
 			goto B1
 		}
 		m.i32_store8(l7+10, m.i32_load8_u(l7+178))
@@ -25339,8 +24907,8 @@ func (m *memory) f125(p0 uint64, p1 uint64, p2 uint32, p3 uint64, p4 uint64, p5 
 		m.i64_store(l7+16, m.i64_load(l7+184))
 		m.i64_store(l7+24, m.i64_load(l7+192))
 		m.i64_store(l7+32, m.i64_load(l7+200))
-		m.f87(l7+40, l7)
-		j0 = m.f88(4611686018427407106, 7, l7+40, p3, p4, p5, p6)
+		m.f80(l7+40, l7)
+		j0 = m.f81(4611686018427407594, 7, l7+40, p3, p4, p5, p6)
 		p1 = j0
 		j0 = p1
 	B1:
@@ -25353,7 +24921,7 @@ Bfunc:
 	return j0
 }
 
-func (m *memory) f126(p0 uint64, p1 uint64, p2 uint32) {
+func (m *memory) f119(p0 uint64, p1 uint64, p2 uint32) {
 	var i1 uint32
 	var l3, l4, j0 uint64
 	_, _, _, _ = i1, l3, l4, j0
@@ -25363,7 +24931,7 @@ func (m *memory) f126(p0 uint64, p1 uint64, p2 uint32) {
 		m.i64_store(l3+16, 0)
 		m.i64_store(l3+8, 0)
 		m.i64_store(l3, 0)
-		m.f109(l3, p1, p2)
+		m.f102(l3, p1, p2)
 		j0 = p0
 		i1 = 0
 		if m.i32_load8_u(l3) != 1 {
@@ -25376,7 +24944,7 @@ func (m *memory) f126(p0 uint64, p1 uint64, p2 uint32) {
 			goto B1
 		}
 		m.i64_store(l3+24, 0)
-		m.f85(p1, select64(b32(p0 < 8), p0, 8), l3+24, 8)
+		m.f78(p1, select64(b32(p0 < 8), p0, 8), l3+24, 8)
 		p1 = m.i64_load(l3 + 24)
 		l4 = p1 & 18446744073709551360
 		i1 = uint32(p1)
@@ -25389,7 +24957,7 @@ func (m *memory) f126(p0 uint64, p1 uint64, p2 uint32) {
 Bfunc:
 }
 
-func (m *memory) f127(p0 uint64, p1 uint64, p2 uint32) {
+func (m *memory) f120(p0 uint64, p1 uint64, p2 uint32) {
 	var i1 uint32
 	var l3, l4, j0 uint64
 	_, _, _, _ = i1, l3, l4, j0
@@ -25399,7 +24967,7 @@ func (m *memory) f127(p0 uint64, p1 uint64, p2 uint32) {
 		m.i64_store(l3+16, 0)
 		m.i64_store(l3+8, 0)
 		m.i64_store(l3, 0)
-		m.f112(l3, p1, p2)
+		m.f105(l3, p1, p2)
 		j0 = p0
 		i1 = 0
 		if m.i32_load8_u(l3) != 1 {
@@ -25412,7 +24980,7 @@ func (m *memory) f127(p0 uint64, p1 uint64, p2 uint32) {
 			goto B1
 		}
 		m.i64_store(l3+24, 0)
-		m.f85(p1, select64(b32(p0 < 8), p0, 8), l3+24, 8)
+		m.f78(p1, select64(b32(p0 < 8), p0, 8), l3+24, 8)
 		p1 = m.i64_load(l3 + 24)
 		l4 = p1 & 18446744073709551360
 		i1 = uint32(p1)
@@ -25425,7 +24993,7 @@ func (m *memory) f127(p0 uint64, p1 uint64, p2 uint32) {
 Bfunc:
 }
 
-func (m *memory) f128(p0 uint64, p1 uint64, p2 uint32) {
+func (m *memory) f121(p0 uint64, p1 uint64, p2 uint32) {
 	var i1 uint32
 	var l3, l4, j0 uint64
 	_, _, _, _ = i1, l3, l4, j0
@@ -25435,7 +25003,7 @@ func (m *memory) f128(p0 uint64, p1 uint64, p2 uint32) {
 		m.i64_store(l3+16, 0)
 		m.i64_store(l3+8, 0)
 		m.i64_store(l3, 0)
-		m.f114(l3, p1, p2)
+		m.f107(l3, p1, p2)
 		j0 = p0
 		i1 = 0
 		if m.i32_load8_u(l3) != 1 {
@@ -25448,7 +25016,7 @@ func (m *memory) f128(p0 uint64, p1 uint64, p2 uint32) {
 			goto B1
 		}
 		m.i64_store(l3+24, 0)
-		m.f85(p1, select64(b32(p0 < 8), p0, 8), l3+24, 8)
+		m.f78(p1, select64(b32(p0 < 8), p0, 8), l3+24, 8)
 		p1 = m.i64_load(l3 + 24)
 		l4 = p1 & 18446744073709551360
 		i1 = uint32(p1)
@@ -25461,7 +25029,7 @@ func (m *memory) f128(p0 uint64, p1 uint64, p2 uint32) {
 Bfunc:
 }
 
-func (m *memory) f129(p0 uint64, p1 uint64, p2 uint64) {
+func (m *memory) f122(p0 uint64, p1 uint64, p2 uint64) {
 	var l3 uint64
 	_ = l3
 	if int64(m.stackPointer) >= 16 {
@@ -25489,7 +25057,7 @@ func (m *memory) f129(p0 uint64, p1 uint64, p2 uint64) {
 Bfunc:
 }
 
-func (m *memory) f130(p0 uint64, p1 uint64, p2 uint64, p3 uint64) {
+func (m *memory) f123(p0 uint64, p1 uint64, p2 uint64, p3 uint64) {
 	var l9, i0 uint32
 	var l4, l5, l6, l7, l8 uint64
 	_, _, _, _, _, _, _ = l9, i0, l4, l5, l6, l7, l8
@@ -25515,7 +25083,7 @@ func (m *memory) f130(p0 uint64, p1 uint64, p2 uint64, p3 uint64) {
 		m.i64_store(l4+56, 0)
 		m.i64_store(l4-18446744073709551552, 0)
 		l9 = m.i32_load8_u(p1 + 4611686018427389575)
-		m.f110(l4+96, p2, l9)
+		m.f103(l4+96, p2, l9)
 		if m.i32_load8_u(l4+96) != 1 {
 			goto B2
 		}
@@ -25524,15 +25092,15 @@ func (m *memory) f130(p0 uint64, p1 uint64, p2 uint64, p3 uint64) {
 		l8 = m.i64_load(l4 + 104)
 		m.i64_store(l4+80, l8)
 		m.i64_store(l4+72, 1)
-		i0 = m.f131(l4+72, l4+120)
+		i0 = m.f124(l4+72, l4+120)
 		if i0 == 0 {
 			goto B2
 		}
-		m.f110(l4+48, l4+16, l9)
+		m.f103(l4+48, l4+16, l9)
 		if m.i32_load8_u(l4+48) == 1 {
 			goto B2
 		}
-		m.f98(l4+8, l4+16, l9, l8, l7)
+		m.f91(l4+8, l4+16, l9, l8, l7)
 	B2:
 		p1 = p1 + 1
 		if p1 != 0 {
@@ -25549,7 +25117,7 @@ func (m *memory) f130(p0 uint64, p1 uint64, p2 uint64, p3 uint64) {
 Bfunc:
 }
 
-func (m *memory) f131(p0 uint64, p1 uint64) uint32 {
+func (m *memory) f124(p0 uint64, p1 uint64) uint32 {
 	var l4, l5, i0 uint32
 	var l2, l3, j0 uint64
 	_, _, _, _, _, _ = l4, l5, i0, l2, l3, j0
@@ -25623,7 +25191,7 @@ Bfunc:
 	return i0
 }
 
-func (m *memory) f132(p0 uint64, p1 uint64, p2 uint64, p3 uint64, p4 uint64, p5 uint64) {
+func (m *memory) f125(p0 uint64, p1 uint64, p2 uint64, p3 uint64, p4 uint64, p5 uint64) {
 	var l12, l13, l14, l15 uint32
 	var l6, l7, l8, l9, l10, l11, j0 uint64
 	_, _, _, _, _, _, _, _, _, _, _ = l12, l13, l14, l15, l6, l7, l8, l9, l10, l11, j0
@@ -25649,11 +25217,11 @@ func (m *memory) f132(p0 uint64, p1 uint64, p2 uint64, p3 uint64, p4 uint64, p5 
 		l12 = b32(p5 != 0)
 		m.i64_store(l6+168, select64(l12, p4, 0))
 		m.i64_store(l6+160, uint64(l12))
-		m.f100(l6+184, l6+160, l6+256)
+		m.f93(l6+184, l6+160, l6+256)
 		l11 = m.i64_load8_u(l6 + 184)
 		if l11 == 0 {
 			m.i64_store(l6+72, 0)
-			m.f133(l6+96, l6+192, p1, l6+72)
+			m.f126(l6+96, l6+192, p1, l6+72)
 			l7 = m.i64_load(l6 + 152)
 			m.i64_store(l6-18446744073709551552, l7)
 			l9 = m.i64_load(l6 + 144)
@@ -25740,7 +25308,7 @@ func (m *memory) f132(p0 uint64, p1 uint64, p2 uint64, p3 uint64, p4 uint64, p5 
 Bfunc:
 }
 
-func (m *memory) f133(p0 uint64, p1 uint64, p2 uint64, p3 uint64) {
+func (m *memory) f126(p0 uint64, p1 uint64, p2 uint64, p3 uint64) {
 	var l9, i0 uint32
 	var l4, l5, l6, l7, l8 uint64
 	_, _, _, _, _, _, _ = l9, i0, l4, l5, l6, l7, l8
@@ -25763,7 +25331,7 @@ func (m *memory) f133(p0 uint64, p1 uint64, p2 uint64, p3 uint64) {
 		m.i64_store(l4+88, 0)
 		m.i64_store(l4+96, 0)
 		l9 = m.i32_load8_u(p3 + 4611686018427392166)
-		m.f115(l4+128, p2, l9)
+		m.f108(l4+128, p2, l9)
 		if m.i32_load8_u(l4+128) != 1 {
 			goto B2
 		}
@@ -25772,15 +25340,15 @@ func (m *memory) f133(p0 uint64, p1 uint64, p2 uint64, p3 uint64) {
 		l8 = m.i64_load(l4 + 136)
 		m.i64_store(l4+112, l8)
 		m.i64_store(l4+104, 1)
-		i0 = m.f131(l4+104, l4+152)
+		i0 = m.f124(l4+104, l4+152)
 		if i0 == 0 {
 			goto B2
 		}
-		m.f115(l4+80, l4+16, l9)
+		m.f108(l4+80, l4+16, l9)
 		if m.i32_load8_u(l4+80) == 1 {
 			goto B2
 		}
-		m.f101(l4+8, l4+16, l9, l8, l7)
+		m.f94(l4+8, l4+16, l9, l8, l7)
 	B2:
 		p3 = p3 + 1
 		if p3 != 0 {
@@ -25794,7 +25362,7 @@ func (m *memory) f133(p0 uint64, p1 uint64, p2 uint64, p3 uint64) {
 Bfunc:
 }
 
-func (m *memory) f134(p0 uint64, p1 uint64, p2 uint64, p3 uint64) {
+func (m *memory) f127(p0 uint64, p1 uint64, p2 uint64, p3 uint64) {
 	var l9, i0 uint32
 	var l4, l5, l6, l7, l8 uint64
 	_, _, _, _, _, _, _ = l9, i0, l4, l5, l6, l7, l8
@@ -25817,7 +25385,7 @@ func (m *memory) f134(p0 uint64, p1 uint64, p2 uint64, p3 uint64) {
 		m.i64_store(l4+88, 0)
 		m.i64_store(l4+96, 0)
 		l9 = m.i32_load8_u(p3 + 4611686018427397872)
-		m.f113(l4+128, p2, l9)
+		m.f106(l4+128, p2, l9)
 		if m.i32_load8_u(l4+128) != 1 {
 			goto B2
 		}
@@ -25826,15 +25394,15 @@ func (m *memory) f134(p0 uint64, p1 uint64, p2 uint64, p3 uint64) {
 		l8 = m.i64_load(l4 + 136)
 		m.i64_store(l4+112, l8)
 		m.i64_store(l4+104, 1)
-		i0 = m.f131(l4+104, l4+152)
+		i0 = m.f124(l4+104, l4+152)
 		if i0 == 0 {
 			goto B2
 		}
-		m.f113(l4+80, l4+8, l9)
+		m.f106(l4+80, l4+8, l9)
 		if m.i32_load8_u(l4+80) == 1 {
 			goto B2
 		}
-		m.f103(l4, l4+8, l9, l8, l7)
+		m.f96(l4, l4+8, l9, l8, l7)
 	B2:
 		p3 = p3 + 1
 		if p3 != 0 {
@@ -25848,7 +25416,7 @@ func (m *memory) f134(p0 uint64, p1 uint64, p2 uint64, p3 uint64) {
 Bfunc:
 }
 
-func (m *memory) f135(p0 uint64, p1 uint64, p2 uint64) {
+func (m *memory) f128(p0 uint64, p1 uint64, p2 uint64) {
 	var l3, l4 uint64
 	_, _ = l3, l4
 	l3 = m.stackPointer - 176
@@ -25860,7 +25428,7 @@ func (m *memory) f135(p0 uint64, p1 uint64, p2 uint64) {
 		m.i64_store(l3+168, 0)
 		m.i64_store(l3+160, 0)
 		m.i64_store(l3+152, 0)
-		m.f115(l3+152, p1, m.i32_load8_u(l4+4611686018427392166))
+		m.f108(l3+152, p1, m.i32_load8_u(l4+4611686018427392166))
 		if m.i32_load8_u(l3+152) == 1 {
 			if m.i64_load(l3+168) != 1 {
 				goto B2
@@ -25881,7 +25449,7 @@ func (m *memory) f135(p0 uint64, p1 uint64, p2 uint64) {
 		m.i64_store(l3+16, 1)
 		m.i64_store(l3+8, 4611686018427397872)
 		m.i64_store(l3, 1)
-		m.f133(l3+88, l3+24, p1, l3)
+		m.f126(l3+88, l3+24, p1, l3)
 		m.memory_copy(p0, l3+88, 64)
 	B1:
 		m.stackPointer = l3 + 176
@@ -25892,33 +25460,33 @@ Bfunc:
 }
 
 func (m *memory) cvss_explain(p0 uint64, p1 uint64, p2 uint32, p3 uint64, p4 uint64, p5 uint64) uint64 {
-	var l22, l23, l24, l25, l26, l27, l28, l29, l30, l31, l32, l33, l34, l35, l36, l37, l38, l39, l40, l41, l42, l43, l44, l45, l46, l47, l48, l49, l50, l51, l52, l53, i0, i3 uint32
-	var l6, l7, l8, l9, l10, l11, l12, l13, l14, l15, l16, l17, l18, l19, l20, l21, j0, j1, j2, j3 uint64
-	_, _, _, _, _, _, _, _, _, _, _, _, _, _, _, _, _, _, _, _, _, _, _, _, _, _, _, _, _, _, _, _, _, _, _, _, _, _, _, _, _, _, _, _, _, _, _, _, _, _, _, _, _, _ = l22, l23, l24, l25, l26, l27, l28, l29, l30, l31, l32, l33, l34, l35, l36, l37, l38, l39, l40, l41, l42, l43, l44, l45, l46, l47, l48, l49, l50, l51, l52, l53, i0, i3, l6, l7, l8, l9, l10, l11, l12, l13, l14, l15, l16, l17, l18, l19, l20, l21, j0, j1, j2, j3
+	var l39, l40, l41, l42, l43, l44, l45, l46, l47, l48, l49, l50, l51, l52, l53, l54, l55, l56, l57, l58, l59, l60, l61, l62, l63, l64, l65, l66, l67, l68, l69, l70, i0, i2, i3 uint32
+	var l6, l7, l8, l9, l10, l11, l12, l13, l14, l15, l16, l17, l18, l19, l20, l21, l22, l23, l24, l25, l26, l27, l28, l29, l30, l31, l32, l33, l34, l35, l36, l37, l38, j0, j1, j2 uint64
+	_, _, _, _, _, _, _, _, _, _, _, _, _, _, _, _, _, _, _, _, _, _, _, _, _, _, _, _, _, _, _, _, _, _, _, _, _, _, _, _, _, _, _, _, _, _, _, _, _, _, _, _, _, _, _, _, _, _, _, _, _, _, _, _, _, _, _, _, _, _, _ = l39, l40, l41, l42, l43, l44, l45, l46, l47, l48, l49, l50, l51, l52, l53, l54, l55, l56, l57, l58, l59, l60, l61, l62, l63, l64, l65, l66, l67, l68, l69, l70, i0, i2, i3, l6, l7, l8, l9, l10, l11, l12, l13, l14, l15, l16, l17, l18, l19, l20, l21, l22, l23, l24, l25, l26, l27, l28, l29, l30, l31, l32, l33, l34, l35, l36, l37, l38, j0, j1, j2
 	i0 = m.f17()
 	if i0 != 0 {
 		panic("cvss: unreachable")
 	}
-	l6 = m.stackPointer - 6576
+	l6 = m.stackPointer - 6928
 	m.stackPointer = l6
 	if int64(l6) < 16 {
 		goto B2
 	}
-	l20 = p4 + select64(b32(p4 == 0), 4096, 0)
-	m.memory_fill(l6+4608, 0, 80)
-	m.memory_fill(l6+504, 0, 4104)
-	m.memory_fill(l6+416, 0, 88)
-	m.memory_fill(l6+368, 0, 48)
-	m.f21(l6+416, p0+select64(b32(p0 == 0), 4096, 0), p1, p2)
-	p2 = m.i32_load8_u(l6 + 424)
-	if m.i32_load8_u(l6+416) == 0 {
-		m.i32_store8(l6+4608, p2)
-		p4 = (l6 + 4608) | 1
-		m.memory_copy(p4, l6+425, 79)
-		m.memory_fill(l6+504, 0, 4104)
-		i0 = m.f39(l6 + 4608)
+	p4 = p4 + select64(b32(p4 == 0), 4096, 0)
+	m.memory_fill(l6+4552, 0, 80)
+	m.memory_fill(l6+448, 0, 4104)
+	m.memory_fill(l6+360, 0, 88)
+	m.memory_fill(l6+312, 0, 48)
+	m.f21(l6+360, p0+select64(b32(p0 == 0), 4096, 0), p1, p2)
+	p2 = m.i32_load8_u(l6 + 368)
+	if m.i32_load8_u(l6+360) == 0 {
+		m.i32_store8(l6+4552, p2)
+		p0 = (l6 + 4552) | 1
+		m.memory_copy(p0, l6+369, 79)
+		m.memory_fill(l6+448, 0, 4104)
+		i0 = m.f39(l6 + 4552)
 		p2 = i0
-		switch uint32(m.i64_load8_u(l6+4608)) - 1 {
+		switch uint32(m.i64_load8_u(l6+4552)) - 1 {
 		case 0:
 			goto B6
 		case 1:
@@ -25929,905 +25497,1042 @@ func (m *memory) cvss_explain(p0 uint64, p1 uint64, p2 uint32, p3 uint64, p4 uin
 			goto B8
 		}
 	B8:
-		m.memory_fill(l6+5112, 0, 720)
-		m.i64_store(l6+6238, 0)
-		m.i64_store(l6+6232, 0)
-		m.i64_store(l6+6224, 0)
-		m.f63(l6+192, p4)
-		j0 = m.f65(m.i64_load(l6+192), m.i64_load(l6+200))
-		l8 = j0
-		m.f64(l6+176, p4)
-		j0 = m.f65(m.i64_load(l6+176), m.i64_load(l6+184))
-		l15 = j0
-		m.memory_fill(l6+6400, 0, 112)
-		m.f47(l6+6400, p4)
-		l23 = b32(((((1000 - m.i64_load(l6+6424)) * (1000 - m.i64_load(l6+6432))) * (m.i64_load(l6+6440) - 1000)) * 1041) == 18446743032709551616)
-		j0 = m.f65(select64(l23, 0, 1618556942374928384), select64(l23, 0, 63751))
-		l9 = j0
-		m.memory_fill(l6+6400, 0, 112)
-		m.f47(l6+6400, p4)
-		p0 = 0
-		p1 = ((((1000 - m.i64_load(l6+6424)) * (1000 - m.i64_load(l6+6432))) * (m.i64_load(l6+6440) - 1000)) * 1041) + 1041000000000
-		if b32(p1 == 0) == 0 {
-			p0 = (((((m.i64_load(l6+6416) * m.i64_load(l6+6408)) * m.i64_load(l6+6400)) * 8000) + (p1 * 6)) * 1176) - 1764000000000000
-			j0 = p0
-		}
-		m.f18(l6+160, p0, uint64(int64(p0)>>63), 1000000000, 0)
-		j0 = m.f65(m.i64_load(l6+160), m.i64_load(l6+168))
-		l18 = j0
-		m.memory_fill(l6+6400, 0, 112)
-		m.f40(l6+6400, p4)
-		p0 = ((((1000 - m.i64_load(l6+6424)) * (1000 - m.i64_load(l6+6432))) * (m.i64_load(l6+6440) - 1000)) * 1041) + 1041000000000
-		if b32(p0 == 0) == 0 {
-			p0 = (((((m.i64_load(l6+6416) * m.i64_load(l6+6408)) * m.i64_load(l6+6400)) * 8000) + (p0 * 6)) * 1176) - 1763999000000000
-			p1 = uint64(int64(p0) >> 63)
-			l22 = select32(b32(int64(p0) < 0), 0, uint32((((p0^p1)-p1)+50000000000000)/100000000000000))
-			i0 = l22
-		}
-		m.f66(l6+144, p4)
-		j0 = m.f65(m.i64_load(l6+144), m.i64_load(l6+152))
-		l10 = j0
-		m.memory_fill(l6+6400, 0, 112)
-		m.f47(l6+6400, p4)
+		m.memory_fill(l6+6728, 0, 112)
+		m.i64_store(l6+5256, 0)
+		m.i64_store(l6+5248, 0)
+		m.i64_store(l6+5240, 0)
+		m.i64_store(l6+5232, 0)
+		m.memory_fill(l6+5592, 0, 504)
+		m.i32_store16(l6+4780, 0)
+		m.i32_store(l6+4776, 0)
+		m.i64_store(l6+4844, 0)
+		m.i32_store(l6+4851, 0)
+		m.f47(l6+6728, p0)
+		l10 = m.i64_load(l6 + 6728)
 		p1 = 0
-		p0 = 0
-		j0 = ((1000000 - (m.i64_load(l6+6496) * m.i64_load(l6+6432))) * (1000000 - (m.i64_load(l6+6488) * m.i64_load(l6+6424)))) * ((m.i64_load(l6+6504) * m.i64_load(l6+6440)) - 1000000)
-		l13 = j0 + 1000000000000000000
-		if b32(l13 == 0) == 0 {
-			m.f18(l6+112, l13, 0, 10410000, 0)
-			p0 = m.i64_load(l6 + 112)
-			j1 = p0
-			i3 = b32(p0 < 1590897978359414784)
-			p0 = m.i64_load(l6 + 120)
-			l23 = select32(b32(p0 == 542101), i3, b32(p0 < 542101))
-			m.f18(l6+96, select64(l23, j1, 1590897978359414784), select64(l23, p0, 542101), 6, 0)
-			m.f18(l6+128, ((m.i64_load(l6+6416)*m.i64_load(l6+6408))*m.i64_load(l6+6400))*20, 0, 4000000000000000, 0)
-			l13 = m.i64_load(l6 + 128)
-			p0 = l13 + m.i64_load(l6+96)
-			l13 = uint64(b32(p0 < l13)) + (m.i64_load(l6+136) + m.i64_load(l6+104))
-			m.f18(l6+80, p0, l13, 1176, 0)
-			l11 = m.i64_load(l6 + 80)
-			l14 = l11 - 574222572732809216
-			l16 = (m.i64_load(l6+88) + uint64(b32(l14 < l11))) - 956265775
-			l23 = b32(int64(l16) < 0)
-			j1 = select64(l23, 0-(l16+uint64(b32(l14 != 0))), l16)
-			l14 = select64(l23, 574222572732809216-l11, l14)
-			l11 = l14 + 5757922623132532736
-			l14 = (((j1 + uint64(b32(l11 < l14))) << 5) | (l11 >> 59)) + 867361728
-			j1 = l14
-			l14 = l14 / 1220703125
-			l11 = (((((j1 - (l14 * 1220703125)) << 32) | ((l11 >> 27) & 4294967295)) / 1220703125) + (l14 << 32)) / 6103515625
-			p0 = select64(select32(b32(l13 == 813151), b32(p0 < 3106317643849680297), b32(l13 < 813151)), 0-l11, l11)
-			j0 = p0
-		}
-		m.f18(l6-18446744073709551552, p0, uint64(int64(p0)>>63), 200376420520689664, 5421)
-		j0 = m.f65(m.i64_load(l6-18446744073709551552), m.i64_load(l6+72))
-		l13 = j0
-		m.memory_fill(l6+6400, 0, 112)
-		m.f47(l6+6400, p4)
-		j1 = m.f48(l6 + 6400)
-		p0 = j1
-		m.f18(l6+48, p0, uint64(int64(p0)>>63), 200376420520689664, 5421)
-		j0 = m.f65(m.i64_load(l6+48), m.i64_load(l6+56))
-		l11 = j0
-		m.memory_fill(l6+6400, 0, 112)
-		m.f47(l6+6400, p4)
-		j1 = m.f48(l6 + 6400)
-		p0 = m.i64_load(l6 + 6472)
-		p0 = ((j1 * (1000 - p0)) + (p0 * 100)) * m.i64_load(l6+6480)
-		m.f18(l6+32, p0, uint64(int64(p0)>>63), 100000000000000000, 0)
-		j0 = m.f65(m.i64_load(l6+32), m.i64_load(l6+40))
-		l14 = j0
-		m.memory_fill(l6+6400, 0, 112)
-		m.f47(l6+6400, p4)
-		j0 = m.f48(l6 + 6400)
-		l16 = j0
-		l19 = m.i64_load(l6 + 6480)
-		p0 = m.i64_load(l6 + 6472)
-		m.memory_fill(l6+6400, 0, 112)
-		m.f47(l6+6400, p4)
-		l7 = m.i64_load(l6 + 6464)
-		l17 = m.i64_load(l6 + 6456)
-		l21 = m.i64_load(l6 + 6448)
-		l12 = ((((1000 - m.i64_load(l6+6424)) * (1000 - m.i64_load(l6+6432))) * (m.i64_load(l6+6440) - 1000)) * 1041) + 1041000000000
-		if b32(l12 == 0) == 0 {
-			p1 = (((((m.i64_load(l6+6416) * m.i64_load(l6+6408)) * m.i64_load(l6+6400)) * 8000) + (l12 * 6)) * 1176) - 1763999000000000
+		l7 = m.i64_load(l6 + 6752)
+		l9 = m.i64_load(l6 + 6760)
+		l14 = m.i64_load(l6 + 6768)
+		l16 = (((1000 - l7) * (1000 - l9)) * (l14 - 1000)) * 1041
+		l8 = l16 + 1041000000000
+		if b32(l8 == 0) == 0 {
+			p1 = (((((m.i64_load(l6+6736) * l10) * m.i64_load(l6+6744)) * 8000) + (l8 * 6)) * 1176) - 1763999000000000
 			l12 = uint64(int64(p1) >> 63)
 			l12 = (((p1 ^ l12) - l12) + 50000000000000) / 100000000000000
 			p1 = select64(b32(int64(p1) < 0), 0-l12, l12)
 			j0 = p1
 		}
-		p0 = (((1000 - p0) * l16) + (p0 * 100)) * l19
-		m.f18(l6+16, p0, uint64(int64(p0)>>63), 3875820019684212736, 54)
-		p0 = ((l17 * l21) * l7) * p1
-		m.f18(l6, p0, uint64(int64(p0)>>63), 100000000000000, 0)
-		j0 = m.f65(m.i64_load(l6), m.i64_load(l6+8))
+		l7 = (((1000000 - (m.i64_load(l6+6824) * l9)) * (1000000 - (m.i64_load(l6+6816) * l7))) * ((m.i64_load(l6+6832) * l14) - 1000000)) + 1000000000000000000
+		if l7 == 0 {
+			l12 = m.i64_load(l6 + 6744)
+			l15 = m.i64_load(l6 + 6736)
+			j0 = 0
+			goto B10
+		}
+		m.f18(l6+160, l7, 0, 10410000, 0)
+		l9 = m.i64_load(l6 + 160)
+		j1 = l9
+		i3 = b32(l9 < 1590897978359414784)
+		l9 = m.i64_load(l6 + 168)
+		l39 = select32(b32(l9 == 542101), i3, b32(l9 < 542101))
+		m.f18(l6+144, select64(l39, j1, 1590897978359414784), select64(l39, l9, 542101), 6, 0)
+		l15 = m.i64_load(l6 + 6736)
+		l12 = m.i64_load(l6 + 6744)
+		m.f18(l6+128, ((l10*l15)*l12)*20, 0, 4000000000000000, 0)
+		l14 = m.i64_load(l6 + 128)
+		l9 = l14 + m.i64_load(l6+144)
+		l14 = uint64(b32(l9 < l14)) + (m.i64_load(l6+136) + m.i64_load(l6+152))
+		m.f18(l6+112, l9, l14, 1176, 0)
+		l13 = m.i64_load(l6 + 112)
+		l11 = l13 - 574222572732809216
+		l18 = (m.i64_load(l6+120) + uint64(b32(l11 < l13))) - 956265775
+		l39 = b32(int64(l18) < 0)
+		j1 = select64(l39, 0-(l18+uint64(b32(l11 != 0))), l18)
+		l11 = select64(l39, 574222572732809216-l13, l11)
+		l13 = l11 + 5757922623132532736
+		l11 = (((j1 + uint64(b32(l13 < l11))) << 5) | (l13 >> 59)) + 867361728
+		j1 = l11
+		l11 = l11 / 1220703125
+		l13 = (((((j1 - (l11 * 1220703125)) << 32) | ((l13 >> 27) & 4294967295)) / 1220703125) + (l11 << 32)) / 6103515625
+		j0 = select64(select32(b32(l14 == 813151), b32(l9 < 3106317643849680297), b32(l14 < 813151)), 0-l13, l13) * 1000000
+	B10:
+		l14 = j0
+		l9 = 0
+		m.f18(l6+96, l8, 0, 10000000000000, 0)
+		l13 = (l10 * l12) * l15
+		m.f18(l6+80, l13*20, 0, 1000000000000000, 0)
+		j0 = m.f48(l6 + 6728)
+		l10 = j0
+		j0 = m.f62(m.i64_load(l6+96), m.i64_load(l6+104))
+		l12 = j0
+		j0 = m.f62(m.i64_load(l6+80), m.i64_load(l6+88))
+		l15 = j0
+		l39 = b32(l16 == 18446743032709551616)
+		j0 = m.f62(select64(l39, 0, 1618556942374928384), select64(l39, 0, 63751))
 		l16 = j0
-		i0 = m.f46(p4)
-		l23 = i0
-		m.i64_store(l6+6238, 0)
-		m.i64_store(l6+6230, 0)
-		m.i32_store(l6+5129, 0)
-		m.i32_store8(l6+5128, 6)
-		m.i64_store(l6+5120, 4)
-		m.i64_store(l6+5112, 4611686018427398219)
-		m.i32_store(l6+5132, 0)
+		if l8 == 0 {
+			j0 = m.f62(0, 0)
+			goto B12
+		}
+		l8 = ((l13 * 8000) + (l8 * 6)) * 1176
+		l9 = l8 - 1764000000000000
+		m.f18(l6-18446744073709551552, l9, uint64(int64(l9)>>63), 1000000000, 0)
+		l8 = l8 - 1763999000000000
+		l9 = uint64(int64(l8) >> 63)
+		l9 = (((l8 ^ l9) - l9) + 50000000000000) / 100000000000000
+		l9 = select64(b32(int64(l8) < 0), 0-l9, l9)
+		j0 = m.f62(m.i64_load(l6-18446744073709551552), m.i64_load(l6+72))
+	B12:
+		l13 = j0
+		l11 = (m.i64_load(l6+6784) * m.i64_load(l6+6776)) * m.i64_load(l6+6792)
+		l8 = l11 * l9
+		m.f18(l6+16, l8, uint64(int64(l8)>>63), 1000000000000000000, 0)
+		l9 = p1 * l11
+		m.f18(l6+48, l9, uint64(int64(l9)>>63), 100000000000000, 0)
+		j0 = m.f62(m.i64_load(l6+48), m.i64_load(l6+56))
+		l9 = j0
+		j1 = m.f48(l6 + 6728)
+		l11 = m.i64_load(l6 + 6800)
+		l18 = 1000 - l11
+		l11 = l11 * 100
+		l21 = m.i64_load(l6 + 6808)
+		l19 = ((j1 * l18) + l11) * l21
+		m.f18(l6+32, l19, uint64(int64(l19)>>63), 3875820019684212736, 54)
+		m.f18(l6, l7, 0, 10410000, 0)
+		l7 = m.i64_load(l6)
+		j0 = l7
+		i2 = b32(l7 < 1590897978359414784)
+		l7 = m.i64_load(l6 + 8)
+		l39 = select32(b32(l7 == 542101), i2, b32(l7 < 542101))
+		j0 = m.f62(select64(l39, j0, 1590897978359414784), select64(l39, l7, 542101))
+		l19 = j0
+		m.i64_store(l6+4977, 0)
+		m.i32_store8(l6+4976, 1)
+		m.i64_store(l6+4984, 0)
+		m.i64_store(l6+5001, 0)
+		m.i32_store8(l6+5000, 2)
+		m.i64_store(l6+4992, l12)
+		m.i64_store(l6+5008, 0)
+		m.i64_store(l6+5025, 0)
+		m.i32_store8(l6+5024, 3)
+		m.i64_store(l6+5016, l15)
+		m.i64_store(l6+5032, 0)
+		m.i64_store(l6+5049, 0)
+		m.i32_store8(l6+5048, 4)
+		m.i64_store(l6+5040, l16)
+		m.i64_store(l6+5056, 0)
+		m.i32_store8(l6+5072, 5)
+		m.i64_store(l6+5064, l13)
+		m.i32_store(l6+5076, 0)
+		m.i32_store(l6+5073, 0)
+		m.i64_store8(l6+5081, select64(b32(int64(p1) > 0), p1, 0))
+		m.i32_store8(l6+5080, 1)
+		m.i64_store(l6+5082, 0)
+		m.i64_store(l6+5088, 0)
+		m.i32_store8(l6+5096, 4)
+		m.i64_store(l6+5097, 0)
+		m.i64_store(l6+5104, 0)
+		m.i64_store(l6+5112, l9)
+		m.i32_store8(l6+5120, 6)
+		m.i32_store(l6+5121, 0)
+		m.i32_store(l6+5124, 0)
+		m.i32_store8(l6+5128, 1)
+		m.i64_store(l6+5130, 0)
+		m.i64_store(l6+5136, 0)
+		m.i32_store8(l6+5144, 12)
+		m.i64_store(l6+5152, 0)
+		m.i64_store(l6+5145, 0)
+		p1 = m.i64_load(l6 + 16)
+		l7 = p1 + 1864712049423024128
+		l9 = (m.i64_load(l6+24) + uint64(b32(l7 < p1))) + 542
+		l39 = b32(int64(l9) < 0)
+		j2 = select64(l39, 0-(l9+uint64(b32(l7 != 0))), l9)
+		l7 = select64(l39, 16582032024286527488-p1, l7)
+		p1 = l7 + 5757922623132532736
+		l7 = (((j2 + uint64(b32(p1 < l7))) << 5) | (p1 >> 59)) + 867361728
+		j2 = l7
+		l7 = l7 / 1220703125
+		m.i32_store8(l6+5129, select32(b32(int64(l8) < -10000), 0, uint32((((((j2-(l7*1220703125))<<32)|((p1>>27)&4294967295))/1220703125)+(l7<<32))/6103515625)))
+		m.i32_store8(l6+5168, 13)
+		m.i64_store(l6+5160, l19)
 		m.i64_store(l6+5169, 0)
-		m.i32_store8(l6+5168, l22)
-		m.i64_store(l6+5160, l18)
-		m.i64_store(l6+5152, l9)
-		m.i64_store(l6+5144, l15)
-		m.i64_store(l6+5136, l8)
-		m.i64_store(l6+5177, 0)
-		m.i64_store(l6+5184, 0)
-		m.i32_store8(l6+5208, 8)
-		m.i64_store(l6+5200, 13)
-		m.i64_store(l6+5192, 4611686018427398223)
-		m.i32_store(l6+5212, 0)
-		m.i32_store(l6+5209, 0)
-		m.i64_store(l6+5216, l10)
-		m.i64_store(l6+5224, l13)
-		m.i64_store(l6+5232, l11)
-		m.i64_store(l6+5240, l14)
-		m.i64_store(l6+5249, 0)
-		m.i64_store(l6+5257, 0)
-		m.i64_store(l6+5264, 0)
-		m.i64_store(l6+5272, 4611686018427398236)
-		m.i64_store(l6+5280, 4)
-		m.i32_store8(l6+5288, 2)
-		p0 = m.i64_load(l6 + 16)
-		p1 = p0 + 1864712049423024128
-		l8 = (m.i64_load(l6+24) + uint64(b32(p1 < p0))) + 542
-		l22 = b32(int64(l8) < 0)
-		j2 = select64(l22, 0-(l8+uint64(b32(p1 != 0))), l8)
-		p1 = select64(l22, 16582032024286527488-p0, p1)
-		p0 = p1 + 5757922623132532736
-		p1 = (((j2 + uint64(b32(p0 < p1))) << 5) | (p0 >> 59)) + 867361728
-		j2 = p1
-		p1 = p1 / 1220703125
-		m.i32_store8(l6+5248, select32(l22, 0, uint32((((((j2-(p1*1220703125))<<32)|((p0>>27)&4294967295))/1220703125)+(p1<<32))/6103515625)))
-		m.memory_fill(l6+5289, 0, 63)
-		m.i32_store8(l6+5377, p2)
-		m.i32_store8(l6+5376, 1)
-		m.i64_store(l6+5368, 0)
-		m.i64_store(l6+5360, 5)
-		m.i64_store(l6+5352, 4611686018427398240)
-		m.i64_store(l6+5400, 0)
-		m.i64_store(l6+5408, 0)
-		m.i64_store(l6+5416, 0)
-		m.i64_store(l6+5424, 0)
-		m.i32_store8(l6+5449, p2)
-		m.i32_store8(l6+5448, 3)
-		m.i64_store(l6+5440, 8)
-		m.i64_store(l6+5432, 4611686018427398245)
-		m.i64_store(l6+5378, m.i64_load(l6+6224))
-		m.i64_store(l6+5386, m.i64_load(l6+6232))
-		m.i64_store(l6+5392, m.i64_load(l6+6238))
-		m.memory_fill(l6+5450, 0, 62)
-		m.i32_store(l6+5529, 0)
-		m.i32_store8(l6+5528, 7)
-		m.i64_store(l6+5520, 8)
-		m.i64_store(l6+5512, 4611686018427398253)
-		m.i32_store(l6+5532, 0)
-		m.i32_store8(l6+5544, l23)
-		m.i64_store(l6+5536, l16)
-		m.memory_fill(l6+5545, 0, 47)
-		m.i32_store8(l6+5608, 4)
-		m.i64_store(l6+5600, 6)
-		m.i64_store(l6+5592, 4611686018427398261)
-		m.memory_fill(l6+5609, 0, 63)
-		m.i32_store8(l6+5688, 5)
-		m.i64_store(l6+5680, 7)
-		m.i64_store(l6+5672, 4611686018427398267)
-		m.memory_fill(l6+5689, 0, 63)
-		m.i32_store(l6+5769, 0)
-		m.i32_store8(l6+5768, 9)
-		m.i64_store(l6+5760, 7)
-		m.i64_store(l6+5752, 4611686018427398274)
-		m.i32_store(l6+5772, 0)
-		m.i64_store(l6+5776, p4)
-		m.memory_fill(l6+5784, 0, 48)
-		m.f67(l6+504, l6+4608, l6+5112, 9)
+		m.i64_store(l6+5176, 0)
+		m.i32_store8(l6+5192, 14)
+		m.i64_store(l6+5184, l14)
+		m.i64_store(l6+5193, 0)
+		m.i64_store(l6+5200, 0)
+		m.i32_store8(l6+5216, 4)
+		m.i64_store(l6+5208, l10*1000000)
+		m.i64_store(l6+5217, 0)
+		m.i64_store(l6+5224, 0)
+		m.i32_store8(l6+5240, 15)
+		m.i64_store(l6+5232, l21*((l10*l18)+l11))
+		m.i32_store(l6+5241, 0)
+		m.i32_store(l6+5244, 0)
+		m.i32_store8(l6+5248, 1)
+		p1 = m.i64_load(l6 + 32)
+		l8 = p1 + 1864712049423024128
+		l10 = (m.i64_load(l6+40) + uint64(b32(l8 < p1))) + 542
+		l39 = b32(int64(l10) < 0)
+		j2 = select64(l39, 0-(l10+uint64(b32(l8 != 0))), l10)
+		l8 = select64(l39, 16582032024286527488-p1, l8)
+		p1 = l8 + 5757922623132532736
+		l8 = (((j2 + uint64(b32(p1 < l8))) << 5) | (p1 >> 59)) + 867361728
+		j2 = l8
+		l8 = l8 / 1220703125
+		m.i32_store8(l6+5249, select32(l39, 0, uint32((((((j2-(l8*1220703125))<<32)|((p1>>27)&4294967295))/1220703125)+(l8<<32))/6103515625)))
+		m.i64_store(l6+5256, 0)
+		m.i64_store(l6+5250, 0)
+		m.i64_store(l6+4790, 0)
+		m.i64_store(l6+4782, 0)
+		m.i32_store(l6+4840, m.i32_load(p0+24))
+		m.i64_store(l6+4832, m.i64_load(p0+16))
+		m.i64_store(l6+4824, m.i64_load(p0+8))
+		m.i64_store(l6+4816, m.i64_load(p0))
+		m.i32_store8(l6+5608, 6)
+		m.i64_store(l6+5600, 4)
+		m.i64_store(l6+5592, 4611686018427398219)
+		m.i32_store(l6+5612, 0)
+		m.i32_store(l6+5609, 0)
+		m.i32_store8(l6+5664, 6)
+		m.i64_store(l6+5656, 13)
+		m.i64_store(l6+5648, 4611686018427398304)
+		m.i64_store(l6+5640, 5)
+		m.i64_store(l6+5632, 4611686018427398224)
+		m.i64_store(l6+5624, 5)
+		m.i64_store(l6+5616, l6+4976)
+		m.i32_store(l6+5668, 0)
+		m.i32_store(l6+5665, 0)
+		m.i32_store8(l6+5720, 2)
+		m.i64_store(l6+5712, 4)
+		m.i64_store(l6+5704, 4611686018427398400)
+		m.i64_store(l6+5696, 5)
+		m.i64_store(l6+5688, 4611686018427398320)
+		m.i64_store(l6+5680, 5)
+		m.i64_store(l6+5672, l6+5144)
+		m.memory_fill(l6+5721, 0, 39)
+		m.i32_store8(l6+5785, p2)
+		m.i32_store8(l6+5784, 1)
+		m.i64_store(l6+5776, 0)
+		m.i64_store(l6+5768, 5)
+		m.i64_store(l6+5760, 4611686018427398404)
+		m.i32_store8(l6+5833, p2)
+		m.i32_store8(l6+5832, 3)
+		m.i64_store(l6+5824, 8)
+		m.i64_store(l6+5816, 4611686018427398409)
+		m.i64_store(l6+5808, 0)
+		m.i64_store(l6+5786, m.i64_load(l6+4776))
+		m.i64_store(l6+5794, m.i64_load(l6+4784))
+		m.i64_store(l6+5800, m.i64_load(l6+4790))
+		m.memory_fill(l6+5834, 0, 38)
+		m.i32_store(l6+5889, 0)
+		m.i32_store8(l6+5888, 6)
+		m.i64_store(l6+5880, 8)
+		m.i64_store(l6+5872, 4611686018427398417)
+		m.i32_store(l6+5892, 0)
+		m.i32_store8(l6+5944, 4)
+		m.i64_store(l6+5936, 6)
+		m.i64_store(l6+5928, 4611686018427398464)
+		m.i64_store(l6+5920, 2)
+		m.i64_store(l6+5912, 4611686018427398432)
+		m.i64_store(l6+5904, 2)
+		m.i64_store(l6+5896, l6+5096)
+		m.memory_fill(l6+5945, 0, 39)
+		m.i32_store8(l6+6000, 5)
+		m.i64_store(l6+5992, 7)
+		m.i64_store(l6+5984, 4611686018427398470)
+		m.memory_fill(l6+6001, 0, 39)
+		m.i32_store8(l6+6056, 8)
+		m.i64_store(l6+6048, 7)
+		m.i64_store(l6+6040, 4611686018427398477)
+		m.memory_copy(l6+6057, l6+4816, 39)
+		m.f63(l6+448, l6+4552, l6+5592, 9)
 		goto B5
 	B7:
-		m.memory_fill(l6+6400, 0, 116)
-		m.memory_fill(l6+5112, 0, 960)
-		m.memory_fill(l6+6224, 0, 63)
-		m.i32_store(l6+6331, 0)
-		m.i32_store(l6+6328, 0)
-		m.memory_fill(l6+5064, 0, 48)
-		m.i32_store(l6+6155, 0)
-		m.i32_store(l6+6152, 0)
-		m.memory_fill(l6+5024, 0, 40)
-		m.memory_fill(l6+6160, 0, 63)
-		m.i32_store(l6+5019, 0)
-		m.i32_store(l6+5016, 0)
-		m.i32_store(l6+5008, 0)
-		m.i32_store16(l6+5012, 0)
-		m.i64_store(l6+6368, 0)
-		m.i64_store(l6+6376, 0)
-		m.i64_store(l6+6384, 0)
-		m.i64_store(l6+6392, 0)
-		m.i32_store(l6+5000, 0)
-		m.i32_store(l6+5003, 0)
-		m.i32_store(l6+4992, 0)
-		m.i32_store16(l6+4996, 0)
-		m.i64_store(l6+6336, 0)
-		m.i64_store(l6+6344, 0)
-		m.i64_store(l6+6352, 0)
-		m.i64_store(l6+6360, 0)
-		m.i32_store(l6+4987, 0)
-		m.i32_store(l6+4984, 0)
-		m.i32_store16(l6+4980, 0)
-		m.i32_store(l6+4976, 0)
+		m.memory_fill(l6+4976, 0, 116)
+		m.memory_fill(l6+5592, 0, 672)
+		m.memory_fill(l6+4816, 0, 39)
+		m.i32_store(l6+4971, 0)
+		m.i32_store(l6+4968, 0)
+		m.i64_store(l6+6904, 0)
+		m.i64_store(l6+6912, 0)
+		m.i64_store(l6+6920, 0)
+		m.i32_store(l6+4960, 0)
+		m.i32_store(l6+4963, 0)
+		m.i64_store(l6+4672, 0)
+		m.i64_store(l6+4680, 0)
+		m.memory_fill(l6+4776, 0, 39)
+		m.i32_store(l6+4931, 0)
+		m.i32_store(l6+4928, 0)
+		m.i32_store(l6+4664, 0)
+		m.i32_store16(l6+4668, 0)
+		m.i32_store(l6+4856, 0)
+		m.i32_store(l6+4859, 0)
+		m.i32_store(l6+4656, 0)
+		m.i32_store16(l6+4660, 0)
+		m.i32_store(l6+4768, 0)
+		m.i32_store(l6+4771, 0)
+		m.i32_store(l6+4648, 0)
+		m.i32_store16(l6+4652, 0)
+		m.i32_store(l6+4640, 0)
+		m.i32_store(l6+4643, 0)
+		m.i64_store(l6+4950, 0)
 		m.i64_store(l6+4944, 0)
-		m.i64_store(l6+4952, 0)
-		m.i64_store(l6+4960, 0)
-		m.i64_store(l6+4968, 0)
-		m.i32_store(l6+4936, 0)
-		m.i32_store(l6+4939, 0)
-		m.i64_store(l6+4912, 0)
-		m.i64_store(l6+4920, 0)
-		m.i64_store(l6+4926, 0)
-		m.i64_store(l6+4880, 0)
-		m.i64_store(l6+4888, 0)
-		m.i64_store(l6+4896, 0)
+		m.i64_store(l6+4936, 0)
+		m.memory_fill(l6+4866, 0, 38)
+		m.i32_store(l6+4635, 0)
+		m.i32_store(l6+4632, 0)
 		m.i64_store(l6+4904, 0)
-		m.memory_fill(l6+4816, 0, 62)
-		m.i32_store(l6+4811, 0)
-		m.i32_store(l6+4808, 0)
-		m.i64_store(l6+4784, 0)
-		m.i64_store(l6+4792, 0)
-		m.i64_store(l6+4798, 0)
-		m.i64_store(l6+4752, 0)
-		m.i64_store(l6+4760, 0)
-		m.i64_store(l6+4768, 0)
-		m.i64_store(l6+4776, 0)
-		m.memory_fill(l6+4688, 0, 63)
-		m.i64_store(l6+6079, 0)
-		m.i64_store(l6+6072, 0)
-		l9 = l6 + 4616
-		m.f41(l6+6072, l9)
-		m.memory_fill(l6+6288, 0, 40)
-		m.f42(l6+6288, l6+6072)
-		m.i64_store(l6+6095, m.i64_load(l6+6079))
-		m.i64_store(l6+6088, m.i64_load(l6+6072))
-		m.i32_store(l6+6103, m.i32_load(l6+6304))
-		m.i32_store16(l6+6107, m.i32_load16_u(l6+6308))
-		l22 = m.i32_load8_u(l6 + 6320)
-		if m.i32_load8_u(l6+6077) != 2 {
-			goto B14
-		}
-		if (m.i32_load8_u(l6+6078) & 255) != 2 {
-			goto B14
-		}
-		if (m.i32_load8_u(l6+6079) & 255) != 2 {
-			goto B14
-		}
-		if (m.i32_load8_u(l6+6080) & 255) != 2 {
-			goto B14
-		}
-		if (m.i32_load8_u(l6+6081) & 255) != 3 {
-			goto B14
-		}
-		if (m.i32_load8_u(l6+6082) & 255) != 3 {
-			goto B14
-		}
-		m.i64_store(l6+6125, m.i64_load(l6+6101))
-		m.i64_store(l6+6120, m.i64_load(l6+6096))
-		m.i64_store(l6+6112, m.i64_load(l6+6088))
-		p1 = 0
-		p4 = 0
-		j0 = 0
-		goto B13
-	B14:
-		i0 = m.f43(l6 + 6288)
-		l23 = i0
-		m.i64_store(l6+6144, 0)
-		m.i64_store(l6+6136, 0)
-		l24 = m.i32_load8_u(l6 + 6304)
-		p0 = uint64(l24) & 255
-		l27 = l24 + 1
-		if (l27 & 255) <= 2 {
-			l18 = ((uint64(l27) & 255) | (m.i64_load32_u(l6+6306) << 16)) | (m.i64_load8_u(l6+6305) << 8)
-			l39 = m.i32_load8_u(m.i64_load(l6+6312) + 4611686018427397963)
-			l26 = 1
-			i0 = l26
-		}
-		l25 = m.i32_load((p0 << 2) + 4611686018427398148)
-		if l25 == 0 {
-			goto B2
-		}
-		l24 = m.i32_load8_u(l6 + 6305)
-		p1 = uint64(l24) & 255
-		l40 = 1
-		l28 = l24 + 1
-		if (l28 & 255) > 1 {
-			l40 = 0
-			i0 = 0
-			goto B16
-		}
-		l13 = ((m.i64_load32_u(l6+6306) << 16) | ((uint64(l28) & 255) << 8)) | p0
-		i0 = m.i32_load8_u(m.i64_load(l6+6312) + 4611686018427397918)
-	B16:
-		l41 = i0
-		l29 = m.i32_load((p1 << 2) + 4611686018427398164)
-		if l29 == 0 {
-			goto B2
-		}
-		l35 = m.i32_load8_u(l6 + 6290)
-		l45 = m.i32_load8_u(l6 + 6289)
-		l46 = m.i32_load8_u(l6 + 6288)
-		l47 = m.i32_load8_u(p0 + 4611686018427398143)
-		l36 = m.i32_load8_u(l6 + 6292)
-		l37 = m.i32_load8_u(l6 + 6291)
-		l38 = m.i32_load8_u(p1 + 4611686018427398160)
-		m.f52(l6+6136, l6+6288)
-		l30 = m.i32_load(l6 + 6148)
-		if l30 == 0 {
-			goto B2
-		}
-		l24 = m.i32_load8_u(l6 + 6307)
-		l8 = uint64(l24) & 255
-		l42 = 1
-		l31 = l24 + 1
-		if (l31 & 255) > 2 {
-			l42 = 0
-			i0 = 0
-			goto B18
-		}
-		l11 = (((((m.i64_load8_u(l6+6309) << 40) | (m.i64_load8_u(l6+6308) << 32)) | ((uint64(l31) & 255) << 24)) | (m.i64_load8_u(l6+6306) << 16)) | (p1 << 8)) | p0
-		i0 = m.i32_load8_u(m.i64_load(l6+6312) + 4611686018427397876)
-	B18:
-		l32 = i0
-		l33 = m.i32_load((l8 << 2) + 4611686018427398204)
-		if l33 == 0 {
-			goto B2
-		}
-		l15 = l6 + 6304
-		p4 = m.i64_load32_u(l6+6137) | ((m.i64_load8_u(l6+6143) << 48) | (m.i64_load16_u(l6+6141) << 32))
-		l48 = m.i32_load8_u(l6 + 6298)
-		l49 = m.i32_load8_u(l6 + 6297)
-		l50 = m.i32_load8_u(l6 + 6296)
-		l34 = m.i32_load8_u(l6 + 6136)
-		l43 = m.i32_load8_u(l6 + 6144)
-		l51 = m.i32_load8_u(l8 + 4611686018427398200)
-		l24 = 1
-		l52 = m.i32_load8_u(l6+6308) + 1
-		if (l52 & 255) <= 2 {
-			l10 = (((((m.i64_load8_u(l6+6309) << 40) | ((uint64(l52) & 255) << 32)) | (l8 << 24)) | (m.i64_load8_u(l6+6306) << 16)) | (p1 << 8)) | p0
-			l53 = 1
-			l44 = m.i32_load8_u(m.i64_load(l6+6312) + 4611686018427397874)
-			i0 = l44
-		}
-		m.i64_store(l6+6112, m.i64_load(l6+6072))
-		m.i64_store(l6+6119, m.i64_load(l6+6079))
-		m.i32_store(l6+6127, m.i32_load(l15))
-		m.i32_store16(l6+6131, m.i32_load16_u(l15+4))
-		l36 = 2 - ((l36 + l37) + l38)
-		l37 = select32(b32((l28&255) < 2), (l29*((l22-l41)&255))*(l36&255), 0)
-		l38 = select32(b32((l34&255) == 1), (l30*l43)*((l22-uint32(p4>>48))&255), 0)
-		l28 = 7 - (((l45 + l46) + l35) + l47)
-		l27 = select32(b32((l27&255) < 3), (l25*((l22-l39)&255))*(l28&255), 0)
-		l35 = (((l49 + l50) + l48) - l51) + 1
-		l31 = select32(b32((l31&255) < 3), (l33*((l22-l32)&255))*(l35&255), 0)
-		l15 = (l10 & 281474976710655) | (uint64(l44) << 48)
-		l8 = (l11 & 281474976710655) | (uint64(l32) << 48)
-		l32 = 840 / l25
-		l29 = 840 / l29
-		l30 = 840 / l30
-		l33 = 840 / l33
-		l25 = (l22 * 50400) - l23
-		p1 = (uint64(l41) << 48) | l13
-		j0 = (uint64(l39) << 48) | l18
-	B13:
-		p0 = j0
-		m.i64_store32(l6+6493, l15)
-		m.i64_store8(l6+6499, l15>>48)
-		m.i64_store16(l6+6497, l15>>32)
-		m.i64_store32(l6+6477, l8)
-		m.i64_store8(l6+6483, l8>>48)
-		m.i64_store16(l6+6481, l8>>32)
-		m.i64_store32(l6+6461, p4)
-		m.i64_store8(l6+6467, p4>>48)
-		m.i64_store16(l6+6465, p4>>32)
-		m.i64_store32(l6+6445, p1)
-		m.i64_store8(l6+6451, p1>>48)
-		m.i64_store16(l6+6449, p1>>32)
-		m.i64_store32(l6+6429, p0)
-		m.i64_store8(l6+6435, p0>>48)
-		m.i64_store16(l6+6433, p0>>32)
-		m.i64_store(l6+6400, m.i64_load(l6+6112))
-		m.i64_store(l6+6408, m.i64_load(l6+6120))
-		m.i64_store(l6+6413, m.i64_load(l6+6125))
-		m.i32_store(l6+6504, 0)
-		m.i32_store16(l6+6502, 0)
-		m.i32_store8(l6+6501, l24)
-		m.i32_store8(l6+6500, 0)
-		m.i32_store8(l6+6492, l53)
-		m.i32_store(l6+6488, l31)
-		m.i32_store16(l6+6486, 0)
-		m.i32_store8(l6+6485, l33)
-		m.i32_store8(l6+6484, l35)
-		m.i32_store8(l6+6476, l42)
-		m.i32_store(l6+6472, l38)
-		m.i32_store16(l6+6470, 0)
-		m.i32_store8(l6+6469, l30)
-		m.i32_store8(l6+6468, l43)
-		m.i32_store8(l6+6460, l34)
-		m.i32_store(l6+6456, l37)
-		m.i32_store16(l6+6454, 0)
-		m.i32_store8(l6+6453, l29)
-		m.i32_store8(l6+6452, l36)
-		m.i32_store8(l6+6444, l40)
-		m.i32_store(l6+6440, l27)
-		m.i32_store16(l6+6438, 0)
-		m.i32_store8(l6+6437, l32)
-		m.i32_store8(l6+6436, l28)
-		m.i32_store8(l6+6428, l26)
-		m.i32_store(l6+6424, l24)
-		m.i32_store16(l6+6422, 0)
-		m.i32_store8(l6+6421, l22)
-		m.i32_store(l6+6512, l25)
-		m.i32_store(l6+6508, l23)
-		i0 = m.f81(l9)
-		l24 = i0
+		m.i64_store(l6+4912, 0)
 		m.i64_store(l6+4918, 0)
-		m.i64_store(l6+4926, 0)
-		m.i64_store(l6+4790, 0)
-		m.i64_store(l6+4798, 0)
-		m.i32_store8(l6+5128, 14)
-		m.i64_store(l6+5120, 9)
-		m.i64_store(l6+5112, 4611686018427398659)
-		m.i64_store(l6+6231, m.i64_load(l6+6119))
-		m.i64_store(l6+6224, m.i64_load(l6+6112))
-		m.i32_store(l6+6160, m.i32_load(l6+6127))
-		m.i32_store16(l6+6164, m.i32_load16_u(l6+6131))
-		m.memory_copy(l6+5129, l6+6224, 63)
-		m.i32_store8(l6+5208, 15)
-		m.i64_store(l6+5200, 6)
-		m.i64_store(l6+5192, 4611686018427398668)
-		m.i32_store(l6+5209, m.i32_load(l6+6328))
-		m.i32_store(l6+5212, m.i32_load(l6+6331))
-		m.i64_store(l6+5216, l6+6400)
-		m.memory_copy(l6+5224, l6+5064, 48)
-		m.i32_store8(l6+5288, 2)
-		m.i64_store(l6+5280, 4)
-		m.i64_store(l6+5272, 4611686018427398236)
-		m.i64_store(l6+5296, 0)
-		m.i64_store(l6+5304, 0)
-		m.i32_store(l6+5289, m.i32_load(l6+6152))
-		m.i32_store(l6+5292, m.i32_load(l6+6155))
-		m.memory_copy(l6+5312, l6+5024, 40)
-		m.i32_store8(l6+5368, 1)
-		m.i64_store(l6+5360, 11)
-		m.i64_store(l6+5352, 4611686018427398674)
-		m.memory_copy(l6+5369, l6+6160, 63)
-		m.i32_store8(l6+5448, 0)
-		m.i64_store(l6+5440, 4)
-		m.i64_store(l6+5432, 4611686018427398685)
-		m.i32_store16(l6+5456, 0)
-		m.i64_store(l6+5472, 0)
-		m.i64_store(l6+5464, ((uint64(l23)*20000000)+504000)/1008000)
-		m.i32_store(l6+5449, m.i32_load(l6+5016))
-		m.i32_store(l6+5452, m.i32_load(l6+5019))
-		m.i32_store(l6+5458, m.i32_load(l6+5008))
-		m.i32_store16(l6+5462, m.i32_load16_u(l6+5012))
-		m.i64_store(l6+5480, m.i64_load(l6+6368))
-		m.i64_store(l6+5488, m.i64_load(l6+6376))
-		m.i64_store(l6+5496, m.i64_load(l6+6384))
-		m.i64_store(l6+5504, m.i64_load(l6+6392))
-		m.i32_store8(l6+5528, 0)
-		m.i64_store(l6+5520, 12)
-		m.i64_store(l6+5512, 4611686018427398689)
-		m.i32_store16(l6+5536, 4)
-		p4 = uint64(l24&255) << 3
-		m.i64_store(l6+5544, m.i64_load(p4+4611686018427411584))
-		m.i64_store(l6+5552, m.i64_load(p4+4611686018427411552))
-		m.i32_store(l6+5529, m.i32_load(l6+5000))
-		m.i32_store(l6+5532, m.i32_load(l6+5003))
-		m.i32_store(l6+5538, m.i32_load(l6+4992))
-		m.i32_store16(l6+5542, m.i32_load16_u(l6+4996))
-		m.i64_store(l6+5560, m.i64_load(l6+6336))
-		m.i64_store(l6+5568, m.i64_load(l6+6344))
-		m.i64_store(l6+5576, m.i64_load(l6+6352))
-		m.i64_store(l6+5584, m.i64_load(l6+6360))
-		m.i32_store8(l6+5608, 0)
-		m.i64_store(l6+5600, 6)
-		m.i64_store(l6+5592, 4611686018427398445)
-		m.i32_store16(l6+5616, 0)
-		m.i64_store(l6+5632, 0)
-		m.i64_store(l6+5624, ((uint64(l25)*20000000)+504000)/1008000)
-		m.i32_store(l6+5609, m.i32_load(l6+4984))
-		m.i32_store(l6+5612, m.i32_load(l6+4987))
-		m.i32_store16(l6+5622, m.i32_load16_u(l6+4980))
-		m.i32_store(l6+5618, m.i32_load(l6+4976))
-		m.i64_store(l6+5640, m.i64_load(l6+4944))
-		m.i64_store(l6+5648, m.i64_load(l6+4952))
-		m.i64_store(l6+5656, m.i64_load(l6+4960))
-		m.i64_store(l6+5664, m.i64_load(l6+4968))
-		m.i32_store8(l6+5688, 0)
-		m.i64_store(l6+5680, 5)
-		m.i64_store(l6+5672, 4611686018427398240)
-		m.i32_store(l6+5692, m.i32_load(l6+4939))
-		m.i32_store(l6+5689, m.i32_load(l6+4936))
-		m.i32_store8(l6+5697, p2)
-		m.i32_store8(l6+5696, 1)
-		m.i64_store(l6+5712, m.i64_load(l6+4926))
-		m.i64_store(l6+5706, m.i64_load(l6+4920))
-		m.i64_store(l6+5698, m.i64_load(l6+4912))
-		m.i64_store(l6+5744, m.i64_load(l6+4904))
-		m.i64_store(l6+5736, m.i64_load(l6+4896))
-		m.i64_store(l6+5728, m.i64_load(l6+4888))
-		m.i64_store(l6+5720, m.i64_load(l6+4880))
-		m.i32_store8(l6+5769, p2)
-		m.i32_store8(l6+5768, 3)
-		m.i64_store(l6+5760, 8)
-		m.i64_store(l6+5752, 4611686018427398245)
-		m.memory_copy(l6+5770, l6+4816, 62)
-		m.i32_store8(l6+5848, 0)
-		m.i64_store(l6+5840, 5)
-		m.i64_store(l6+5832, 4611686018427398701)
-		m.i32_store8(l6+5857, l22)
-		m.i32_store8(l6+5856, 1)
-		m.i32_store(l6+5849, m.i32_load(l6+4808))
-		m.i32_store(l6+5852, m.i32_load(l6+4811))
-		m.i64_store(l6+5858, m.i64_load(l6+4784))
-		m.i64_store(l6+5866, m.i64_load(l6+4792))
-		m.i64_store(l6+5872, m.i64_load(l6+4798))
-		m.i64_store(l6+5880, m.i64_load(l6+4752))
-		m.i64_store(l6+5888, m.i64_load(l6+4760))
-		m.i64_store(l6+5896, m.i64_load(l6+4768))
-		m.i64_store(l6+5904, m.i64_load(l6+4776))
-		m.i32_store8(l6+5928, 4)
-		m.i64_store(l6+5920, 6)
-		m.i64_store(l6+5912, 4611686018427398261)
-		m.memory_copy(l6+5929, l6+4688, 63)
-		m.i32_store8(l6+6008, 5)
-		m.i64_store(l6+6000, 7)
-		m.i64_store(l6+5992, 4611686018427398267)
-		m.memory_fill(l6+6009, 0, 63)
-		m.f67(l6+504, l6+4608, l6+5112, 12)
+		m.i64_store(l6+4695, 0)
+		m.i64_store(l6+4688, 0)
+		l9 = l6 + 4560
+		m.f41(l6+4688, l9)
+		m.memory_fill(l6+6728, 0, 40)
+		m.f42(l6+6728, l6+4688)
+		m.i64_store(l6+4711, m.i64_load(l6+4695))
+		m.i64_store(l6+4704, m.i64_load(l6+4688))
+		m.i32_store(l6+4719, m.i32_load(l6+6744))
+		m.i32_store16(l6+4723, m.i32_load16_u(l6+6748))
+		l39 = m.i32_load8_u(l6 + 6760)
+		if m.i32_load8_u(l6+4693) != 2 {
+			goto B15
+		}
+		if (m.i32_load8_u(l6+4694) & 255) != 2 {
+			goto B15
+		}
+		if (m.i32_load8_u(l6+4695) & 255) != 2 {
+			goto B15
+		}
+		if (m.i32_load8_u(l6+4696) & 255) != 2 {
+			goto B15
+		}
+		if (m.i32_load8_u(l6+4697) & 255) != 3 {
+			goto B15
+		}
+		if (m.i32_load8_u(l6+4698) & 255) != 3 {
+			goto B15
+		}
+		m.i64_store(l6+4741, m.i64_load(l6+4717))
+		m.i64_store(l6+4736, m.i64_load(l6+4712))
+		m.i64_store(l6+4728, m.i64_load(l6+4704))
+		p0 = 0
+		j0 = 0
+		goto B14
+	B15:
+		i0 = m.f43(l6 + 6728)
+		l41 = i0
+		m.i64_store(l6+4760, 0)
+		m.i64_store(l6+4752, 0)
+		l40 = m.i32_load8_u(l6 + 6744)
+		p1 = uint64(l40) & 255
+		l43 = l40 + 1
+		if (l43 & 255) <= 2 {
+			l14 = ((uint64(l43) & 255) | (m.i64_load32_u(l6+6746) << 16)) | (m.i64_load8_u(l6+6745) << 8)
+			l61 = 1
+			l50 = m.i32_load8_u(m.i64_load(l6+6752) + 4611686018427397963)
+			i0 = l50
+		}
+		l42 = m.i32_load((p1 << 2) + 4611686018427398148)
+		if l42 == 0 {
+			goto B2
+		}
+		l40 = m.i32_load8_u(l6 + 6745)
+		l8 = uint64(l40) & 255
+		l55 = 1
+		l44 = l40 + 1
+		if (l44 & 255) > 1 {
+			l55 = 0
+			i0 = 0
+			goto B17
+		}
+		l12 = ((m.i64_load32_u(l6+6746) << 16) | ((uint64(l44) & 255) << 8)) | p1
+		i0 = m.i32_load8_u(m.i64_load(l6+6752) + 4611686018427397918)
+	B17:
+		l56 = i0
+		l45 = m.i32_load((l8 << 2) + 4611686018427398164)
+		if l45 == 0 {
+			goto B2
+		}
+		l51 = m.i32_load8_u(l6 + 6730)
+		l62 = m.i32_load8_u(l6 + 6729)
+		l63 = m.i32_load8_u(l6 + 6728)
+		l64 = m.i32_load8_u(p1 + 4611686018427398143)
+		l52 = m.i32_load8_u(l6 + 6732)
+		l53 = m.i32_load8_u(l6 + 6731)
+		l54 = m.i32_load8_u(l8 + 4611686018427398160)
+		m.f52(l6+4752, l6+6728)
+		l46 = m.i32_load(l6 + 4764)
+		if l46 == 0 {
+			goto B2
+		}
+		l40 = m.i32_load8_u(l6 + 6747)
+		l10 = uint64(l40) & 255
+		l57 = 1
+		l47 = l40 + 1
+		if (l47 & 255) > 2 {
+			l57 = 0
+			i0 = 0
+			goto B19
+		}
+		l15 = (((((m.i64_load8_u(l6+6749) << 40) | (m.i64_load8_u(l6+6748) << 32)) | ((uint64(l47) & 255) << 24)) | (m.i64_load8_u(l6+6746) << 16)) | (l8 << 8)) | p1
+		i0 = m.i32_load8_u(m.i64_load(l6+6752) + 4611686018427397876)
+	B19:
+		l48 = i0
+		l49 = m.i32_load((l10 << 2) + 4611686018427398204)
+		if l49 == 0 {
+			goto B2
+		}
+		l7 = l6 + 6744
+		p0 = m.i64_load32_u(l6+4753) | ((m.i64_load8_u(l6+4759) << 48) | (m.i64_load16_u(l6+4757) << 32))
+		l65 = m.i32_load8_u(l6 + 6738)
+		l66 = m.i32_load8_u(l6 + 6737)
+		l67 = m.i32_load8_u(l6 + 6736)
+		l58 = m.i32_load8_u(l6 + 4752)
+		l59 = m.i32_load8_u(l6 + 4760)
+		l68 = m.i32_load8_u(l10 + 4611686018427398200)
+		l40 = 1
+		l69 = m.i32_load8_u(l6+6748) + 1
+		if (l69 & 255) <= 2 {
+			l16 = (((((m.i64_load8_u(l6+6749) << 40) | ((uint64(l69) & 255) << 32)) | (l10 << 24)) | (m.i64_load8_u(l6+6746) << 16)) | (l8 << 8)) | p1
+			l70 = 1
+			l60 = m.i32_load8_u(m.i64_load(l6+6752) + 4611686018427397874)
+			i0 = l60
+		}
+		m.i64_store(l6+4728, m.i64_load(l6+4688))
+		m.i64_store(l6+4735, m.i64_load(l6+4695))
+		m.i32_store(l6+4743, m.i32_load(l7))
+		m.i32_store16(l6+4747, m.i32_load16_u(l7+4))
+		l52 = 2 - ((l52 + l53) + l54)
+		l53 = select32(b32((l44&255) < 2), (l45*((l39-l56)&255))*(l52&255), 0)
+		l54 = select32(b32((l58&255) == 1), (l46*l59)*((l39-uint32(p0>>48))&255), 0)
+		l44 = 7 - (((l62 + l63) + l51) + l64)
+		l43 = select32(b32((l43&255) < 3), (l42*((l39-l50)&255))*(l44&255), 0)
+		l51 = (((l66 + l67) + l65) - l68) + 1
+		l47 = select32(b32((l47&255) < 3), (l49*((l39-l48)&255))*(l51&255), 0)
+		l7 = (l16 & 281474976710655) | (uint64(l60) << 48)
+		l10 = (l15 & 281474976710655) | (uint64(l48) << 48)
+		l48 = 840 / l42
+		l45 = 840 / l45
+		l46 = 840 / l46
+		l49 = 840 / l49
+		l42 = (l39 * 50400) - l41
+		l8 = (uint64(l56) << 48) | l12
+		j0 = (uint64(l50) << 48) | l14
+	B14:
+		p1 = j0
+		m.i64_store32(l6+5069, l7)
+		m.i64_store8(l6+5075, l7>>48)
+		m.i64_store16(l6+5073, l7>>32)
+		m.i64_store32(l6+5053, l10)
+		m.i64_store8(l6+5059, l10>>48)
+		m.i64_store16(l6+5057, l10>>32)
+		m.i64_store32(l6+5037, p0)
+		m.i64_store8(l6+5043, p0>>48)
+		m.i64_store16(l6+5041, p0>>32)
+		m.i64_store32(l6+5021, l8)
+		m.i64_store8(l6+5027, l8>>48)
+		m.i64_store16(l6+5025, l8>>32)
+		m.i64_store32(l6+5005, p1)
+		m.i64_store8(l6+5011, p1>>48)
+		m.i64_store16(l6+5009, p1>>32)
+		m.i64_store(l6+4976, m.i64_load(l6+4728))
+		m.i64_store(l6+4984, m.i64_load(l6+4736))
+		m.i64_store(l6+4989, m.i64_load(l6+4741))
+		m.i32_store(l6+5080, 0)
+		m.i32_store16(l6+5078, 0)
+		m.i32_store8(l6+5077, l40)
+		m.i32_store8(l6+5076, 0)
+		m.i32_store8(l6+5068, l70)
+		m.i32_store(l6+5064, l47)
+		m.i32_store16(l6+5062, 0)
+		m.i32_store8(l6+5061, l49)
+		m.i32_store8(l6+5060, l51)
+		m.i32_store8(l6+5052, l57)
+		m.i32_store(l6+5048, l54)
+		m.i32_store16(l6+5046, 0)
+		m.i32_store8(l6+5045, l46)
+		m.i32_store8(l6+5044, l59)
+		m.i32_store8(l6+5036, l58)
+		m.i32_store(l6+5032, l53)
+		m.i32_store16(l6+5030, 0)
+		m.i32_store8(l6+5029, l45)
+		m.i32_store8(l6+5028, l52)
+		m.i32_store8(l6+5020, l55)
+		m.i32_store(l6+5016, l43)
+		m.i32_store16(l6+5014, 0)
+		m.i32_store8(l6+5013, l48)
+		m.i32_store8(l6+5012, l44)
+		m.i32_store8(l6+5004, l61)
+		m.i32_store(l6+5000, l40)
+		m.i32_store16(l6+4998, 0)
+		m.i32_store8(l6+4997, l39)
+		m.i32_store(l6+5088, l42)
+		m.i32_store(l6+5084, l41)
+		i0 = m.f76(l9)
+		l40 = i0
+		m.i64_store(l6+4942, 0)
+		m.i64_store(l6+4950, 0)
+		m.i64_store(l6+4910, 0)
+		m.i64_store(l6+4918, 0)
+		m.i32_store8(l6+5608, 9)
+		m.i64_store(l6+5600, 9)
+		m.i64_store(l6+5592, 4611686018427398822)
+		m.i64_store(l6+4823, m.i64_load(l6+4735))
+		m.i64_store(l6+4816, m.i64_load(l6+4728))
+		m.i32_store(l6+4776, m.i32_load(l6+4743))
+		m.i32_store16(l6+4780, m.i32_load16_u(l6+4747))
+		m.memory_copy(l6+5609, l6+4816, 39)
+		m.i32_store8(l6+5664, 10)
+		m.i64_store(l6+5656, 6)
+		m.i64_store(l6+5648, 4611686018427398831)
+		m.i32_store8(l6+5720, 2)
+		m.i64_store(l6+5712, 4)
+		m.i64_store(l6+5704, 4611686018427398400)
+		m.i32_store(l6+5665, m.i32_load(l6+4968))
+		m.i32_store(l6+5668, m.i32_load(l6+4971))
+		m.i64_store(l6+5680, m.i64_load(l6+6904))
+		m.i64_store(l6+5688, m.i64_load(l6+6912))
+		m.i64_store(l6+5696, m.i64_load(l6+6920))
+		m.i32_store(l6+5721, m.i32_load(l6+4960))
+		m.i32_store(l6+5724, m.i32_load(l6+4963))
+		m.i64_store(l6+5672, l6+4976)
+		m.i64_store(l6+5736, 0)
+		m.i64_store(l6+5728, 0)
+		m.i64_store(l6+5760, 4611686018427398837)
+		m.i64_store(l6+5768, 11)
+		m.i32_store8(l6+5776, 1)
+		m.i64_store(l6+5744, m.i64_load(l6+4672))
+		m.i64_store(l6+5752, m.i64_load(l6+4680))
+		m.memory_copy(l6+5777, l6+4776, 39)
+		m.i32_store8(l6+5832, 0)
+		m.i64_store(l6+5824, 4)
+		m.i64_store(l6+5816, 4611686018427398848)
+		m.i32_store16(l6+5840, 0)
+		m.i64_store(l6+5856, 0)
+		m.i64_store(l6+5848, ((uint64(l41)*20000000)+504000)/1008000)
+		m.i64_store(l6+5864, 0)
+		m.i32_store8(l6+5888, 0)
+		m.i64_store(l6+5880, 12)
+		m.i64_store(l6+5872, 4611686018427398852)
+		m.i32_store(l6+5833, m.i32_load(l6+4928))
+		m.i32_store(l6+5836, m.i32_load(l6+4931))
+		m.i32_store(l6+5842, m.i32_load(l6+4664))
+		m.i32_store16(l6+5846, m.i32_load16_u(l6+4668))
+		m.i32_store(l6+5889, m.i32_load(l6+4856))
+		m.i32_store(l6+5892, m.i32_load(l6+4859))
+		m.i32_store16(l6+5896, 4)
+		p0 = uint64(l40&255) << 3
+		m.i64_store(l6+5904, m.i64_load(p0+4611686018427412328))
+		m.i64_store(l6+5912, m.i64_load(p0+4611686018427412296))
+		m.i64_store(l6+5920, 0)
+		m.i64_store(l6+5928, 4611686018427398648)
+		m.i64_store(l6+5936, 6)
+		m.i32_store8(l6+5944, 0)
+		m.i32_store16(l6+5952, 0)
+		m.i32_store(l6+5898, m.i32_load(l6+4656))
+		m.i32_store16(l6+5902, m.i32_load16_u(l6+4660))
+		m.i32_store(l6+5945, m.i32_load(l6+4768))
+		m.i32_store(l6+5948, m.i32_load(l6+4771))
+		m.i32_store(l6+5954, m.i32_load(l6+4648))
+		m.i32_store16(l6+5958, m.i32_load16_u(l6+4652))
+		m.i64_store(l6+5976, 0)
+		m.i64_store(l6+5960, ((uint64(l42)*20000000)+504000)/1008000)
+		m.i64_store(l6+5968, 0)
+		m.i32_store8(l6+6000, 0)
+		m.i64_store(l6+5992, 5)
+		m.i64_store(l6+5984, 4611686018427398404)
+		m.i32_store8(l6+6009, p2)
+		m.i32_store8(l6+6008, 1)
+		m.i32_store(l6+6001, m.i32_load(l6+4640))
+		m.i32_store(l6+6004, m.i32_load(l6+4643))
+		m.i64_store(l6+6010, m.i64_load(l6+4936))
+		m.i64_store(l6+6018, m.i64_load(l6+4944))
+		m.i64_store(l6+6024, m.i64_load(l6+4950))
+		m.i32_store8(l6+6057, p2)
+		m.i32_store8(l6+6056, 3)
+		m.i64_store(l6+6048, 8)
+		m.i64_store(l6+6040, 4611686018427398409)
+		m.i64_store(l6+6032, 0)
+		m.memory_copy(l6+6058, l6+4866, 38)
+		m.i32_store8(l6+6112, 0)
+		m.i64_store(l6+6104, 5)
+		m.i64_store(l6+6096, 4611686018427398864)
+		m.i32_store8(l6+6121, l39)
+		m.i32_store8(l6+6120, 1)
+		m.i32_store8(l6+6168, 4)
+		m.i64_store(l6+6160, 6)
+		m.i64_store(l6+6152, 4611686018427398464)
+		m.i64_store(l6+6144, 0)
+		m.i32_store(l6+6113, m.i32_load(l6+4632))
+		m.i32_store(l6+6116, m.i32_load(l6+4635))
+		m.i64_store(l6+6122, m.i64_load(l6+4904))
+		m.i64_store(l6+6130, m.i64_load(l6+4912))
+		m.i64_store(l6+6136, m.i64_load(l6+4918))
+		m.memory_fill(l6+6169, 0, 39)
+		m.i32_store8(l6+6224, 5)
+		m.i64_store(l6+6216, 7)
+		m.i64_store(l6+6208, 4611686018427398470)
+		m.memory_fill(l6+6225, 0, 39)
+		m.f63(l6+448, l6+4552, l6+5592, 12)
 		goto B5
 	B6:
-		m.i32_store(l6+4915, 0)
-		m.i32_store(l6+4912, 0)
-		m.memory_fill(l6+5112, 0, 880)
-		m.i64_store(l6+4760, 0)
-		m.i64_store(l6+4752, 0)
-		m.i32_store(l6+4784, 0)
-		m.i32_store(l6+4787, 0)
-		m.i32_store(l6+6112, 0)
-		m.i32_store(l6+6115, 0)
-		m.memory_fill(l6+5064, 0, 40)
-		m.i32_store(l6+6091, 0)
-		m.i32_store(l6+6088, 0)
-		m.i32_store(l6+5016, 0)
-		m.i32_store16(l6+5020, 0)
-		m.i64_store(l6+5024, 0)
-		m.i64_store(l6+5032, 0)
-		m.i64_store(l6+5040, 0)
-		m.i64_store(l6+5048, 0)
-		m.i32_store(l6+6136, 0)
-		m.i32_store(l6+6139, 0)
-		m.i32_store(l6+5000, 0)
-		m.i32_store16(l6+5004, 0)
-		m.i64_store(l6+6368, 0)
-		m.i64_store(l6+6376, 0)
-		m.i64_store(l6+6384, 0)
-		m.i64_store(l6+6392, 0)
-		m.i32_store(l6+6075, 0)
-		m.i32_store(l6+6072, 0)
-		m.i64_store(l6+4894, 0)
-		m.i64_store(l6+4888, 0)
-		m.i64_store(l6+4880, 0)
-		m.i64_store(l6+6336, 0)
-		m.i64_store(l6+6344, 0)
-		m.i64_store(l6+6352, 0)
-		m.i64_store(l6+6360, 0)
-		m.memory_fill(l6+4688, 0, 62)
-		m.i32_store(l6+6331, 0)
-		m.i32_store(l6+6328, 0)
-		m.memory_fill(l6+6288, 0, 40)
-		m.memory_fill(l6+6224, 0, 63)
-		m.memory_fill(l6+6160, 0, 63)
-		m.i32_store(l6+6155, 0)
-		m.i32_store(l6+6152, 0)
-		m.memory_fill(l6+4816, 0, 48)
-		p4 = l6 + 4616
-		m.f82(l6+352, p4)
-		j0 = m.f65(m.i64_load(l6+352), m.i64_load(l6+360))
-		p1 = j0
-		m.memory_fill(l6+6400, 0, 176)
-		m.f57(l6+6400, p4)
-		l22 = m.i32_load8_u(l6 + 6432)
-		p0 = (((100 - m.i64_load(l6+6448)) * (100 - m.i64_load(l6+6440))) * (m.i64_load(l6+6456) - 100)) + 1000000
-		j0 = l6 + 320
-		j1 = select64(l22&1, 18446744051901551616, 0)
-		if p0 == 0 {
-			goto B21
+		m.memory_fill(l6+6728, 0, 176)
+		m.memory_fill(l6+5592, 0, 1136)
+		m.memory_fill(l6+4976, 0, 616)
+		m.i32_store(l6+4755, 0)
+		m.i32_store(l6+4752, 0)
+		m.i32_store(l6+4672, 0)
+		m.i32_store(l6+4675, 0)
+		m.i32_store(l6+4688, 0)
+		m.i32_store(l6+4691, 0)
+		m.i64_store(l6+4728, 0)
+		m.i64_store(l6+4736, 0)
+		m.i32_store(l6+4968, 0)
+		m.i32_store(l6+4971, 0)
+		m.i32_store(l6+4640, 0)
+		m.i32_store16(l6+4644, 0)
+		m.i32_store(l6+4960, 0)
+		m.i32_store(l6+4963, 0)
+		m.i32_store16(l6+4636, 0)
+		m.i32_store(l6+4632, 0)
+		m.i64_store(l6+4950, 0)
+		m.i64_store(l6+4944, 0)
+		m.i64_store(l6+4936, 0)
+		m.i32_store(l6+4931, 0)
+		m.i32_store(l6+4928, 0)
+		m.i64_store(l6+4904, 0)
+		m.i64_store(l6+4912, 0)
+		m.i64_store(l6+4918, 0)
+		m.memory_fill(l6+4866, 0, 38)
+		m.i32_store(l6+4859, 0)
+		m.i32_store(l6+4856, 0)
+		m.memory_fill(l6+4816, 0, 39)
+		m.memory_fill(l6+4776, 0, 39)
+		m.i32_store(l6+4771, 0)
+		m.i32_store(l6+4768, 0)
+		m.i64_store(l6+4704, 0)
+		m.i64_store(l6+4712, 0)
+		m.f56(l6+6728, l6+4560)
+		l39 = m.i32_load8_u(l6 + 6760)
+		l41 = m.i32_load8_u(l6 + 6872)
+		p0 = l6 + 6728
+		p1 = m.i64_load(l6 + 4560)
+		l7 = p1
+		if int64(m.stackPointer) >= 16 {
+			j0 = select64(b32(l7 == 0), 999999999999, 999950000000)
+			l7 = (((100 - m.i64_load(p0+48)) * (100 - m.i64_load(p0+40))) * (m.i64_load(p0+56) - 100)) + 1000000
+			j1 = 0
+			if l7 == 0 {
+				goto B24
+			}
+			l8 = (((m.i64_load(p0) * m.i64_load(p0+8)) * m.i64_load(p0+16)) * m.i64_load(p0+24)) * 822
+			if m.i32_load8_u(p0+32) == 1 {
+				p0 = (l7 * 1000) - 20000000
+				p0 = (((p0 * p0) / 1000000000) * p0) / 1000000000
+				j1 = (l7 * 752000) + (l8 * 10)
+				l7 = (p0 * p0) / 1000000000
+				p0 = ((j1 + (((((l7 * l7) / 1000000000) * p0) / 1000000000) * 18446744073709551291)) * 108) - 2355264000000
+				j1 = select64(b32(p0 < 100000000000000), p0, 100000000000000)
+				goto B24
+			}
+			p0 = ((l8 * 10) + (l7 * 642000)) * 100
+			j1 = select64(b32(p0 < 100000000000000), p0, 100000000000000)
+		B24:
+			j0 = (j0 + j1) / 1000000000000
+			goto B22
 		}
-		if l22&1 != 0 {
+		panic("cvss: unreachable")
+	B22:
+		l8 = j0
+		j0 = m.f58(l6+6728, p1)
+		l10 = j0
+		l9 = m.i64_load(l6 + 6776)
+		l14 = m.i64_load(l6 + 6768)
+		l16 = m.i64_load(l6 + 6784)
+		p0 = (((100 - l9) * (100 - l14)) * (l16 - 100)) + 1000000
+		m.f18(l6+288, p0, 0, 1000000000000000000, 0)
+		j0 = m.f62(m.i64_load(l6+288), m.i64_load(l6+296))
+		l12 = j0
+		j0 = l6 + 272
+		j1 = select64(l39&1, 18446744051901551616, 0)
+		if p0 == 0 {
+			goto B26
+		}
+		if l39&1 != 0 {
+			l7 = (p0 * 1000) - 20000000
+			l7 = (((l7 * l7) / 1000000000) * l7) / 1000000000
+			l15 = (l7 * l7) / 1000000000
+			j1 = ((p0 * 752000) + (((((l15 * l15) / 1000000000) * l7) / 1000000000) * 18446744073709551291)) - 21808000000
+			goto B26
+		}
+		j1 = p0 * 642000
+	B26:
+		l7 = j1
+		m.f18(j0, l7, uint64(int64(l7)>>63), 10000000000000, 0)
+		j0 = m.f62(m.i64_load(l6+272), m.i64_load(l6+280))
+		l15 = j0
+		l13 = m.i64_load(l6 + 6728)
+		l11 = m.i64_load(l6 + 6736)
+		l18 = m.i64_load(l6 + 6744)
+		l21 = m.i64_load(l6 + 6752)
+		l20 = (((l13 * l11) * l18) * l21) * 822
+		m.f18(l6+256, l20, 0, 100000000000000, 0)
+		j0 = m.f62(m.i64_load(l6+256), m.i64_load(l6+264))
+		l19 = j0
+		j0 = l6 + 224
+		j1 = 0
+		if p0 == 0 {
+			goto B28
+		}
+		if l39&1 != 0 {
 			j1 = p0 * 752000
 			p0 = (p0 * 1000) - 20000000
 			p0 = (((p0 * p0) / 1000000000) * p0) / 1000000000
-			l8 = (p0 * p0) / 1000000000
-			j1 = (j1 + (((((l8 * l8) / 1000000000) * p0) / 1000000000) * 18446744073709551291)) - 21808000000
-			goto B21
-		}
-		j1 = p0 * 642000
-	B21:
-		p0 = j1
-		m.f18(j0, p0, uint64(int64(p0)>>63), 10000000000000, 0)
-		j0 = m.f65(m.i64_load(l6+320), m.i64_load(l6+328))
-		l8 = j0
-		m.f83(l6+336, p4)
-		j0 = m.f65(m.i64_load(l6+336), m.i64_load(l6+344))
-		l15 = j0
-		m.memory_fill(l6+6400, 0, 176)
-		m.f57(l6+6400, p4)
-		l9 = (((100 - m.i64_load(l6+6448)) * (100 - m.i64_load(l6+6440))) * (m.i64_load(l6+6456) - 100)) + 1000000
-		j0 = l6 + 288
-		j1 = 0
-		if l9 == 0 {
-			goto B23
-		}
-		p0 = (((m.i64_load(l6+6400) * m.i64_load(l6+6408)) * m.i64_load(l6+6416)) * m.i64_load(l6+6424)) * 822
-		if m.i32_load8_u(l6+6432)&1 != 0 {
-			j1 = (p0 * 10) + (l9 * 752000)
-			p0 = (l9 * 1000) - 20000000
-			p0 = (((p0 * p0) / 1000000000) * p0) / 1000000000
-			l9 = (p0 * p0) / 1000000000
-			p0 = ((j1 + (((((l9 * l9) / 1000000000) * p0) / 1000000000) * 18446744073709551291)) * 108) - 2355264000000
+			l7 = (p0 * p0) / 1000000000
+			p0 = (((j1 + (((((l7 * l7) / 1000000000) * p0) / 1000000000) * 18446744073709551291)) + (l20 * 10)) * 108) - 2355264000000
 			j1 = select64(b32(p0 < 100000000000000), p0, 100000000000000)
-			goto B23
+			goto B28
 		}
-		p0 = ((l9 * 642000) + (p0 * 10)) * 100
+		p0 = ((l20 * 10) + (p0 * 642000)) * 100
 		j1 = select64(b32(p0 < 100000000000000), p0, 100000000000000)
-	B23:
+	B28:
 		m.f18(j0, j1, 0, 100000000000, 0)
-		p0 = m.i64_load(l6 + 296)
-		l9 = m.i64_load(l6 + 288)
-		i0 = m.f44(p4)
-		l22 = i0
-		j0 = m.f65(l9, p0)
-		l9 = j0
-		m.memory_fill(l6+6400, 0, 176)
-		m.f57(l6+6400, p4)
-		m.f84(l6+304, l6+6400)
-		j0 = m.f65(m.i64_load(l6+304), m.i64_load(l6+312))
-		l18 = j0
-		m.i64_store(l6+4944, 0)
-		m.i64_store(l6+4952, 0)
-		m.i64_store(l6+4960, 0)
-		m.memory_fill(l6+6400, 0, 176)
-		l10 = m.i64_load(l6 + 4616)
-		m.f57(l6+6400, p4)
-		l22 = l22 & 255
-		m.f62(l6+4944, l6+6400)
-		l23 = m.i32_load8_u(l6 + 4960)
-		p0 = m.i64_load(l6 + 4944)
-		j0 = l6 + 272
-		j1 = select64(l23&1, 18446744051901551616, 0)
+		j0 = m.f62(m.i64_load(l6+224), m.i64_load(l6+232))
+		l7 = j0
+		j0 = m.f57(l6+6728, l8)
+		l20 = j0
+		j0 = m.f57(l6+6728, l8)
+		l22 = j0
+		m.f77(l6+240, l6+6728)
+		j0 = m.f62(m.i64_load(l6+240), m.i64_load(l6+248))
+		l23 = j0
+		m.i64_store(l6+6920, 0)
+		m.i64_store(l6+6912, 0)
+		m.i64_store(l6+6904, 0)
+		m.f61(l6+6904, l6+6728)
+		l40 = m.i32_load8_u(l6 + 6920)
+		p0 = m.i64_load(l6 + 6904)
+		j0 = l6 + 208
+		j1 = select64(l40&1, 18446744051901551616, 0)
 		if p0 == 0 {
-			goto B25
+			goto B30
 		}
-		if l23&1 != 0 {
-			if l10 == 0 {
+		if l40&1 != 0 {
+			if p1 == 0 {
 				j1 = p0 * 752000
 				p0 = (p0 * 1000) - 20000000
 				p0 = (((p0 * p0) / 1000000000) * p0) / 1000000000
-				l10 = (p0 * p0) / 1000000000
-				j1 = (j1 + (((((l10 * l10) / 1000000000) * p0) / 1000000000) * 18446744073709551291)) - 21808000000
-				goto B25
+				l17 = (p0 * p0) / 1000000000
+				j1 = (j1 + (((((l17 * l17) / 1000000000) * p0) / 1000000000) * 18446744073709551291)) - 21808000000
+				goto B30
 			}
 			j1 = p0 * 752000
 			p0 = ((p0 * 9731) / 10) - 20000000
-			l10 = (((p0 * p0) / 1000000000) * p0) / 1000000000
-			l10 = (l10 * l10) / 1000000000
-			j1 = (j1 + (((((l10 * l10) / 1000000000) * p0) / 1000000000) * 18446744073709551291)) - 21808000000
-			goto B25
+			l17 = (((p0 * p0) / 1000000000) * p0) / 1000000000
+			l17 = (l17 * l17) / 1000000000
+			j1 = (j1 + (((((l17 * l17) / 1000000000) * p0) / 1000000000) * 18446744073709551291)) - 21808000000
+			goto B30
 		}
 		j1 = p0 * 642000
-	B25:
+	B30:
 		p0 = j1
 		m.f18(j0, p0, uint64(int64(p0)>>63), 10000000000000, 0)
-		j0 = m.f65(m.i64_load(l6+272), m.i64_load(l6+280))
+		j0 = m.f62(m.i64_load(l6+208), m.i64_load(l6+216))
 		p0 = j0
-		m.i64_store(l6+4944, 0)
-		m.i64_store(l6+4952, 0)
-		m.i64_store(l6+4960, 0)
-		m.memory_fill(l6+6400, 0, 176)
-		m.f57(l6+6400, p4)
-		m.f62(l6+4944, l6+6400)
-		m.f18(l6+256, m.i64_load(l6+4952), 0, 100000000000000, 0)
-		j0 = m.f65(m.i64_load(l6+256), m.i64_load(l6+264))
-		l10 = j0
-		m.memory_fill(l6+6400, 0, 176)
-		m.f57(l6+6400, p4)
-		j1 = m.f61(l6+6400, m.i64_load(l6+4616))
-		m.f18(l6+240, j1, 0, 100000000000, 0)
-		m.memory_fill(l6+6400, 0, 176)
-		m.f57(l6+6400, p4)
-		j0 = m.f58(l6+6400, m.i64_load(l6+4616))
-		l13 = j0
-		j0 = m.f65(m.i64_load(l6+240), m.i64_load(l6+248))
-		l11 = j0
-		m.memory_fill(l6+6400, 0, 176)
-		m.f57(l6+6400, p4)
-		j2 = m.f58(l6+6400, m.i64_load(l6+4616))
-		j1 = m.f59(l6+6400, j2)
-		m.f18(l6+224, j1, 0, 100000000000000000, 0)
-		m.memory_fill(l6+6400, 0, 176)
-		m.f57(l6+6400, p4)
-		l14 = m.i64_load(l6 + 4616)
-		j1 = m.f58(l6+6400, l14)
-		j0 = m.f59(l6+6400, j1)
-		l16 = j0
-		j0 = m.f65(m.i64_load(l6+224), m.i64_load(l6+232))
-		l19 = j0
-		m.memory_fill(l6+6400, 0, 176)
-		m.f57(l6+6400, p4)
-		l7 = l6 + 6400
-		l12 = m.i64_load(l6 + 4616)
-		j0 = l6 + 208
-		j1 = l6 + 6400
-		if int64(m.stackPointer) >= 16 {
-			j2 = select64(b32(l12 == 0), 999999999999, 999950000000)
-			l12 = (((100 - m.i64_load(l7+48)) * (100 - m.i64_load(l7+40))) * (m.i64_load(l7+56) - 100)) + 1000000
-			j3 = 0
-			if l12 == 0 {
-				goto B30
-			}
-			l17 = (((m.i64_load(l7) * m.i64_load(l7+8)) * m.i64_load(l7+16)) * m.i64_load(l7+24)) * 822
-			if m.i32_load8_u(l7+32) == 1 {
-				l7 = (l12 * 1000) - 20000000
-				l7 = (((l7 * l7) / 1000000000) * l7) / 1000000000
-				j3 = (l12 * 752000) + (l17 * 10)
-				l12 = (l7 * l7) / 1000000000
-				l7 = ((j3 + (((((l12 * l12) / 1000000000) * l7) / 1000000000) * 18446744073709551291)) * 108) - 2355264000000
-				j3 = select64(b32(l7 < 100000000000000), l7, 100000000000000)
-				goto B30
-			}
-			l7 = ((l17 * 10) + (l12 * 642000)) * 100
-			j3 = select64(b32(l7 < 100000000000000), l7, 100000000000000)
-		B30:
-			j2 = (j2 + j3) / 1000000000000
-			goto B28
-		}
-		panic("cvss: unreachable")
-	B28:
-		j1 = m.f59(j1, j2)
-		m.f18(j0, j1, 0, 100000000000000000, 0)
-		l7 = m.i64_load(l6 + 216)
-		l17 = m.i64_load(l6 + 208)
-		i0 = m.f56(p4)
-		l23 = i0
-		j0 = m.f65(l17, l7)
-		l7 = j0
-		m.i64_store(l6+4886, 0)
-		m.i64_store(l6+4894, 0)
-		m.i32_store(l6+5129, 0)
-		m.i32_store8(l6+5128, 10)
-		m.i64_store(l6+5120, 4)
-		m.i64_store(l6+5112, 4611686018427398219)
-		m.i32_store(l6+5132, 0)
-		m.i32_store8(l6+5168, l22)
-		m.i64_store(l6+5160, l9)
-		m.i64_store(l6+5152, l15)
-		m.i64_store(l6+5144, l8)
-		m.i64_store(l6+5136, p1)
-		m.i32_store(l6+5172, 0)
-		m.i32_store(l6+5169, 0)
-		l24 = m.i32_load8_u(l6 + 4632)
-		l25 = m.i32_load8_u(l6 + 4666)
-		l22 = m.i32_load8_u(l6 + 4633)
-		l26 = m.i32_load8_u(l6 + 4665)
-		l34 = m.i32_load8_u(l6 + 4664)
-		m.i32_store8(l6+5208, 12)
-		m.i64_store(l6+5200, 13)
-		m.i64_store(l6+5192, 4611686018427398223)
-		m.i64_store(l6+5240, l11)
-		m.i64_store(l6+5232, l10)
-		m.i64_store(l6+5224, p0)
-		m.i64_store(l6+5216, l18)
-		m.i64_store8(l6+5248, l13)
-		m.i32_store(l6+5252, 0)
-		m.i32_store(l6+5249, 0)
-		m.i64_store(l6+5184, m.i64_load(l6+4760))
-		m.i64_store(l6+5176, m.i64_load(l6+4752))
-		m.i32_store(l6+5212, m.i32_load(l6+4787))
-		m.i32_store(l6+5209, m.i32_load(l6+4784))
-		m.i64_store8(l6+5264, ((l16*1000000)+select64(b32(l14 == 0), 999999999936, 999950000000))/1000000000000)
-		m.i64_store(l6+5256, l19)
-		m.i32_store(l6+5265, 0)
-		m.i32_store(l6+5268, 0)
-		m.i64_store(l6+5272, 4611686018427398236)
-		m.i64_store(l6+5280, 4)
-		m.i32_store8(l6+5288, 2)
-		m.i64_store(l6+5296, 0)
+		m.i64_store(l6+6920, 0)
+		m.i64_store(l6+6912, 0)
+		m.i64_store(l6+6904, 0)
+		m.f61(l6+6904, l6+6728)
+		m.f18(l6+192, m.i64_load(l6+6912), 0, 100000000000000, 0)
+		j0 = m.f62(m.i64_load(l6+192), m.i64_load(l6+200))
+		l17 = j0
+		j1 = m.f60(l6+6728, p1)
+		m.f18(l6+176, j1, 0, 100000000000, 0)
+		j0 = m.f62(m.i64_load(l6+176), m.i64_load(l6+184))
+		l24 = j0
+		j0 = m.f57(l6+6728, l10)
+		l25 = j0
+		j0 = m.f57(l6+6728, l10)
+		l26 = j0
+		m.i64_store(l6+5592, 0)
+		m.i64_store(l6+5600, 0)
+		m.i64_store(l6+5617, 0)
+		m.i32_store8(l6+5616, 1)
+		m.i64_store(l6+5608, l12)
+		m.i64_store(l6+5624, 0)
+		l12 = m.i64_load(l6 + 6832)
+		l27 = m.i64_load(l6 + 6816)
+		l28 = m.i64_load(l6 + 6792)
+		l29 = m.i64_load(l6 + 6824)
+		l30 = m.i64_load(l6 + 6896)
+		l31 = m.i64_load(l6 + 6848)
+		l32 = m.i64_load(l6 + 6840)
+		l33 = m.i64_load(l6 + 6880)
+		l34 = m.i64_load(l6 + 6888)
+		l35 = m.i64_load(l6 + 6856)
+		l36 = m.i64_load(l6 + 6864)
+		l37 = m.i64_load(l6 + 6808)
+		l38 = m.i64_load(l6 + 6800)
+		m.i32_store8(l6+5640, 2)
+		m.i64_store(l6+5632, l15)
+		m.i64_store(l6+5641, 0)
+		m.i64_store(l6+5648, 0)
+		m.i64_store(l6+5656, l19)
+		m.i32_store8(l6+5664, 4)
+		m.i64_store(l6+5665, 0)
+		m.i64_store(l6+5672, 0)
+		m.i64_store(l6+5680, l7)
+		m.i32_store8(l6+5688, 5)
+		m.i32_store(l6+5689, 0)
+		m.i32_store(l6+5692, 0)
+		m.i64_store8(l6+5697, l8)
+		m.i32_store8(l6+5696, 2)
+		m.i64_store(l6+5698, 0)
+		m.i64_store(l6+5704, 0)
+		m.i32_store8(l6+5712, 4)
+		m.i64_store(l6+5720, 0)
+		m.i64_store(l6+5713, 0)
+		m.i32_store8(l6+5736, 6)
+		m.i64_store(l6+5728, l20)
+		m.i32_store(l6+5737, 0)
+		m.i32_store(l6+5740, 0)
+		m.i32_store8(l6+5744, 2)
+		p1 = select64(b32(p1 == 0), 999999999936, 999950000000)
+		m.i64_store8(l6+5745, (p1+(l22*1000000))/1000000000000)
+		m.i64_store(l6+5746, 0)
+		m.i64_store(l6+5752, 0)
+		m.i64_store(l6+5761, 0)
+		m.i32_store8(l6+5760, 7)
+		m.i64_store(l6+5768, 0)
+		m.i32_store8(l6+5784, 8)
+		m.i64_store(l6+5776, l23)
+		m.i64_store(l6+5785, 0)
+		m.i64_store(l6+5792, 0)
+		m.i32_store8(l6+5808, 9)
+		m.i64_store(l6+5800, p0)
+		m.i64_store(l6+5809, 0)
+		m.i64_store(l6+5816, 0)
+		m.i32_store8(l6+5832, 10)
+		m.i64_store(l6+5824, l17)
+		m.i64_store(l6+5840, 0)
+		m.i64_store(l6+5833, 0)
+		m.i32_store8(l6+5856, 11)
+		m.i64_store(l6+5848, l24)
+		m.i32_store(l6+5860, 0)
+		m.i32_store(l6+5857, 0)
+		m.i64_store8(l6+5865, l10)
+		m.i32_store8(l6+5864, 1)
+		m.i64_store(l6+5872, 0)
+		m.i64_store(l6+5866, 0)
+		m.i32_store8(l6+5880, 4)
+		m.i64_store(l6+5888, 0)
+		m.i64_store(l6+5881, 0)
+		m.i32_store8(l6+5904, 15)
+		m.i64_store(l6+5896, l25)
+		m.i32_store(l6+5908, 0)
+		m.i32_store(l6+5905, 0)
+		m.i64_store8(l6+5913, ((l26*1000000)+p1)/1000000000000)
+		m.i32_store8(l6+5912, 2)
+		m.i64_store(l6+5920, 0)
+		m.i64_store(l6+5914, 0)
+		m.i64_store(l6+6720, 0)
+		m.i64_store(l6+6712, l21*100000)
+		m.i64_store(l6+6704, 0)
+		m.i64_store(l6+6696, 2)
+		m.i64_store(l6+6688, 4611686018427399235)
+		m.i64_store(l6+6680, 0)
+		m.i64_store(l6+6672, l38*100000)
+		m.i64_store(l6+6664, 0)
+		m.i64_store(l6+6656, 2)
+		m.i64_store(l6+6648, 4611686018427399233)
+		m.i64_store(l6+6640, 0)
+		m.i64_store(l6+6632, l37*100000)
+		m.i64_store(l6+6624, 0)
+		m.i64_store(l6+6616, 2)
+		m.i64_store(l6+6608, 4611686018427399231)
+		m.i64_store(l6+6600, 0)
+		m.i64_store(l6+6592, l18*100000)
+		m.i64_store(l6+6584, 0)
+		m.i64_store(l6+6576, 2)
+		m.i64_store(l6+6568, 4611686018427399229)
+		m.i64_store(l6+6560, 0)
+		m.i64_store(l6+6552, l36*100000)
+		m.i64_store(l6+6544, 0)
+		m.i64_store(l6+6536, 3)
+		m.i64_store(l6+6528, 4611686018427399226)
+		m.i64_store(l6+6520, 0)
+		m.i64_store(l6+6512, l35*100000)
+		m.i64_store(l6+6504, 0)
+		m.i64_store(l6+6496, 3)
+		m.i64_store(l6+6488, 4611686018427399223)
+		m.i64_store(l6+6480, 0)
+		m.i64_store(l6+6472, l34*100000)
+		m.i64_store(l6+6464, 0)
+		m.i64_store(l6+6456, 2)
+		m.i64_store(l6+6448, 4611686018427399221)
+		m.i64_store(l6+6440, 0)
+		m.i64_store(l6+6432, l33*100000)
+		m.i64_store(l6+6424, 0)
+		m.i64_store(l6+6416, 2)
+		m.i64_store(l6+6408, 4611686018427399219)
+		m.i64_store(l6+6400, 0)
+		m.i64_store(l6+6392, l32*100000)
+		m.i64_store(l6+6384, 0)
+		m.i64_store(l6+6376, 3)
+		m.i64_store(l6+6368, 4611686018427399216)
+		m.i64_store(l6+6360, 0)
+		m.i64_store(l6+6352, l31*100000)
+		m.i64_store(l6+6344, 0)
+		m.i64_store(l6+6336, 3)
+		m.i64_store(l6+6328, 4611686018427399213)
+		m.i64_store(l6+6320, 0)
+		m.i64_store(l6+6312, l30*100000)
+		m.i64_store(l6+6304, 0)
+		m.i64_store(l6+6296, 2)
+		m.i64_store(l6+6288, 4611686018427399211)
+		m.i64_store(l6+6280, 0)
+		m.i64_store(l6+6272, l29*100000)
+		m.i64_store(l6+6264, 0)
+		m.i64_store(l6+6256, 2)
+		m.i64_store(l6+6248, 4611686018427399209)
+		m.i64_store(l6+6240, 0)
+		m.i64_store(l6+6232, l9*100000)
+		m.i64_store(l6+6224, 0)
+		m.i64_store(l6+6216, 1)
+		m.i64_store(l6+6208, 4611686018427398555)
+		m.i64_store(l6+6200, 0)
+		m.i64_store(l6+6192, l28*100000)
+		m.i64_store(l6+6184, 0)
+		m.i64_store(l6+6176, 1)
+		m.i64_store(l6+6168, 4611686018427399208)
+		m.i64_store(l6+6160, 0)
+		m.i64_store(l6+6152, l27*100000)
+		m.i64_store(l6+6144, 0)
+		m.i64_store(l6+6136, 2)
+		m.i64_store(l6+6128, 4611686018427399206)
+		m.i64_store(l6+6120, 0)
+		m.i64_store(l6+6112, l14*100000)
+		m.i64_store(l6+6104, 0)
+		m.i64_store(l6+6096, 1)
+		m.i64_store(l6+6080, 0)
+		m.i64_store(l6+6072, l13*100000)
+		m.i64_store(l6+6064, 0)
+		m.i64_store(l6+6056, 2)
+		m.i64_store(l6+6048, 4611686018427399204)
+		m.i64_store(l6+6040, 0)
+		m.i64_store(l6+6032, l12*100000)
+		m.i64_store(l6+6024, 0)
+		m.i64_store(l6+6016, 2)
+		m.i64_store(l6+6008, 4611686018427399202)
+		m.i64_store(l6+6000, 0)
+		m.i64_store(l6+5992, l11*100000)
+		m.i64_store(l6+5984, 0)
+		m.i64_store(l6+5976, 2)
+		m.i64_store(l6+5968, 4611686018427399200)
+		m.i64_store(l6+5960, 0)
+		m.i64_store(l6+5952, l16*100000)
+		m.i64_store(l6+5944, 0)
+		m.i64_store(l6+5936, 1)
+		m.i64_store(l6+5928, 4611686018427387919)
+		m.i64_store(l6+6088, 4611686018427389540)
+		m.i64_store(l6+4976, 4611686018427398219)
+		m.i64_store(l6+4984, 4)
+		m.i32_store8(l6+4992, 6)
+		m.i64_store(l6+5008, 5)
+		m.i64_store(l6+5016, 4611686018427398904)
+		m.i64_store(l6+5024, 6)
+		m.i64_store(l6+5032, 4611686018427398304)
+		m.i64_store(l6+5040, 13)
+		m.i32_store8(l6+5048, 6)
+		m.i64_store(l6+4918, m.i64_load(l6+4950))
+		m.i64_store(l6+4910, m.i64_load(l6+4942))
+		m.i32_store(l6+4993, m.i32_load(l6+4752))
+		m.i32_store(l6+4996, m.i32_load(l6+4755))
+		m.i64_store(l6+5000, l6+5592)
+		m.i32_store8(l6+5104, 2)
+		m.i64_store(l6+5096, 4)
+		m.i64_store(l6+5088, 4611686018427398400)
+		m.i64_store(l6+5080, 8)
+		m.i64_store(l6+5072, 4611686018427399000)
+		m.i64_store(l6+5064, 7)
+		m.i64_store(l6+5056, l6+5760)
+		m.i64_store(l6+5120, 0)
+		m.i64_store(l6+5112, 0)
+		m.i32_store(l6+5052, m.i32_load(l6+4675))
+		m.i32_store(l6+5049, m.i32_load(l6+4672))
+		m.i32_store(l6+5105, m.i32_load(l6+4688))
+		m.i32_store(l6+5108, m.i32_load(l6+4691))
+		m.i64_store(l6+5136, m.i64_load(l6+4736))
+		m.i64_store(l6+5128, m.i64_load(l6+4728))
+		m.i32_store8(l6+5160, 0)
+		m.i64_store(l6+5152, 13)
+		m.i64_store(l6+5144, 4611686018427399128)
+		m.i32_store(l6+5164, m.i32_load(l6+4971))
+		m.i32_store(l6+5161, m.i32_load(l6+4968))
+		m.i32_store16(l6+5168, 4)
+		m.i32_store16(l6+5174, m.i32_load16_u(l6+4644))
+		m.i32_store(l6+5170, m.i32_load(l6+4640))
+		m.i32_store8(l6+5216, 0)
+		m.i64_store(l6+5208, 5)
+		m.i64_store(l6+5200, 4611686018427399141)
+		m.i64_store(l6+5192, 0)
+		m.i64_store(l6+5184, 1)
+		m.i64_store(l6+5176, select64(l41&1, 4611686018427389540, 4611686018427389541))
+		m.i32_store(l6+5220, m.i32_load(l6+4963))
+		m.i32_store(l6+5217, m.i32_load(l6+4960))
+		m.i32_store16(l6+5224, 4)
+		m.i32_store16(l6+5230, m.i32_load16_u(l6+4636))
+		m.i32_store(l6+5226, m.i32_load(l6+4632))
+		m.i32_store8(l6+5272, 0)
+		m.i64_store(l6+5264, 5)
+		m.i64_store(l6+5256, 4611686018427398404)
+		m.i64_store(l6+5248, 0)
+		m.i64_store(l6+5240, 1)
+		m.i64_store(l6+5232, select64(l39&1, 4611686018427389540, 4611686018427389541))
+		m.i32_store(l6+5276, m.i32_load(l6+4931))
+		m.i32_store(l6+5273, m.i32_load(l6+4928))
+		m.i32_store8(l6+5281, p2)
+		m.i32_store8(l6+5280, 1)
+		m.i64_store(l6+5296, m.i64_load(l6+4918))
+		m.i64_store(l6+5290, m.i64_load(l6+4912))
+		m.i64_store(l6+5282, m.i64_load(l6+4904))
+		m.i32_store8(l6+5329, p2)
+		m.i32_store8(l6+5328, 3)
+		m.i64_store(l6+5320, 8)
+		m.i64_store(l6+5312, 4611686018427398409)
 		m.i64_store(l6+5304, 0)
-		m.i32_store(l6+5289, m.i32_load(l6+6112))
-		m.i32_store(l6+5292, m.i32_load(l6+6115))
-		m.memory_copy(l6+5312, l6+5064, 40)
-		m.i32_store8(l6+5368, 0)
-		m.i64_store(l6+5360, 13)
-		m.i64_store(l6+5352, 4611686018427398734)
-		m.i32_store16(l6+5376, 4)
-		m.i64_store(l6+5392, 1)
-		m.i32_store(l6+5369, m.i32_load(l6+6088))
-		m.i32_store(l6+5372, m.i32_load(l6+6091))
-		m.i32_store(l6+5378, m.i32_load(l6+5016))
-		m.i32_store16(l6+5382, m.i32_load16_u(l6+5020))
-		m.i64_store(l6+5400, m.i64_load(l6+5024))
-		m.i64_store(l6+5408, m.i64_load(l6+5032))
-		m.i64_store(l6+5416, m.i64_load(l6+5040))
-		m.i64_store(l6+5424, m.i64_load(l6+5048))
-		l26 = b32(l34 == 1) & b32((l26&255) == 1)
-		p0 = select64(b32((select32(l26, l25, l22)&255) == 1), 4611686018427389540, 4611686018427389541)
-		l24 = b32((l24 & 255) == 1)
-		m.i64_store(l6+5384, select64(l26, p0, select64(l24, p0, 4611686018427389541)))
-		m.i32_store8(l6+5448, 0)
-		m.i64_store(l6+5440, 5)
-		m.i64_store(l6+5432, 4611686018427398747)
-		m.i32_store16(l6+5456, 4)
-		m.i64_store(l6+5472, 1)
-		m.i64_store(l6+5464, select64(l24, select64(b32((l22&255) == 1), 4611686018427389540, 4611686018427389541), 4611686018427389541))
-		m.i32_store(l6+5452, m.i32_load(l6+6139))
-		m.i32_store(l6+5449, m.i32_load(l6+6136))
-		m.i32_store16(l6+5462, m.i32_load16_u(l6+5004))
-		m.i32_store(l6+5458, m.i32_load(l6+5000))
-		m.i64_store(l6+5504, m.i64_load(l6+6392))
-		m.i64_store(l6+5496, m.i64_load(l6+6384))
-		m.i64_store(l6+5488, m.i64_load(l6+6376))
-		m.i64_store(l6+5480, m.i64_load(l6+6368))
-		m.i32_store8(l6+5528, 0)
-		m.i64_store(l6+5520, 5)
-		m.i64_store(l6+5512, 4611686018427398240)
-		m.i32_store8(l6+5537, p2)
-		m.i32_store8(l6+5536, 1)
-		m.i32_store(l6+5529, m.i32_load(l6+6072))
-		m.i32_store(l6+5532, m.i32_load(l6+6075))
-		m.i64_store(l6+5538, m.i64_load(l6+4880))
-		m.i64_store(l6+5546, m.i64_load(l6+4888))
-		m.i64_store(l6+5552, m.i64_load(l6+4894))
-		m.i64_store(l6+5560, m.i64_load(l6+6336))
-		m.i64_store(l6+5568, m.i64_load(l6+6344))
-		m.i64_store(l6+5576, m.i64_load(l6+6352))
-		m.i64_store(l6+5584, m.i64_load(l6+6360))
-		m.i32_store8(l6+5609, p2)
-		m.i32_store8(l6+5608, 3)
-		m.i64_store(l6+5600, 8)
-		m.i64_store(l6+5592, 4611686018427398245)
-		m.memory_copy(l6+5610, l6+4688, 62)
-		m.i32_store8(l6+5688, 11)
-		m.i64_store(l6+5680, 8)
-		m.i64_store(l6+5672, 4611686018427398253)
-		m.i32_store8(l6+5704, l23)
-		m.i64_store(l6+5696, l7)
-		m.i32_store(l6+5689, m.i32_load(l6+6328))
-		m.i32_store(l6+5692, m.i32_load(l6+6331))
-		m.i32_store(l6+5705, m.i32_load(l6+4912))
-		m.i32_store(l6+5708, m.i32_load(l6+4915))
-		m.memory_copy(l6+5712, l6+6288, 40)
-		m.i32_store8(l6+5768, 4)
-		m.i64_store(l6+5760, 6)
-		m.i64_store(l6+5752, 4611686018427398261)
-		m.memory_copy(l6+5769, l6+6224, 63)
-		m.i32_store8(l6+5848, 5)
-		m.i64_store(l6+5840, 7)
-		m.i64_store(l6+5832, 4611686018427398267)
-		m.memory_copy(l6+5849, l6+6160, 63)
-		m.i32_store8(l6+5928, 13)
-		m.i64_store(l6+5920, 7)
-		m.i64_store(l6+5912, 4611686018427398274)
-		m.i64_store(l6+5936, p4)
-		m.i32_store(l6+5929, m.i32_load(l6+6152))
-		m.i32_store(l6+5932, m.i32_load(l6+6155))
-		m.memory_copy(l6+5944, l6+4816, 48)
-		m.f67(l6+504, l6+4608, l6+5112, 11)
+		m.memory_copy(l6+5330, l6+4866, 38)
+		m.i32_store8(l6+5384, 6)
+		m.i64_store(l6+5376, 8)
+		m.i64_store(l6+5368, 4611686018427398417)
+		m.i32_store8(l6+5440, 4)
+		m.i64_store(l6+5432, 6)
+		m.i64_store(l6+5424, 4611686018427398464)
+		m.i64_store(l6+5416, 3)
+		m.i64_store(l6+5408, 4611686018427399152)
+		m.i64_store(l6+5400, 2)
+		m.i64_store(l6+5392, l6+5712)
+		m.i32_store(l6+5385, m.i32_load(l6+4856))
+		m.i32_store(l6+5388, m.i32_load(l6+4859))
+		m.memory_copy(l6+5441, l6+4816, 39)
+		m.i32_store8(l6+5496, 5)
+		m.i64_store(l6+5488, 7)
+		m.i64_store(l6+5480, 4611686018427398470)
+		m.memory_copy(l6+5497, l6+4776, 39)
+		m.i32_store8(l6+5552, 7)
+		m.i64_store(l6+5544, 7)
+		m.i64_store(l6+5536, 4611686018427398477)
+		m.i64_store(l6+5568, 20)
+		m.i64_store(l6+5560, l6+5928)
+		m.i32_store(l6+5553, m.i32_load(l6+4768))
+		m.i32_store(l6+5556, m.i32_load(l6+4771))
+		m.i64_store(l6+5576, m.i64_load(l6+4704))
+		m.i64_store(l6+5584, m.i64_load(l6+4712))
+		m.f63(l6+448, l6+4552, l6+4976, 11)
 	B5:
-		p4 = m.i64_load(l6 + 4600)
+		p0 = m.i64_load(l6 + 4544)
 		if m.i32_load(p3) >= 40 {
 			m.i64_store(p3+12, 0)
 			m.i64_store(p3+4, 18446744069414584320)
@@ -26835,20 +26540,20 @@ func (m *memory) cvss_explain(p0 uint64, p1 uint64, p2 uint32, p3 uint64, p4 uin
 			m.i64_store(p3+28, 0)
 			m.i32_store(p3+36, 0)
 		}
-		j0 = m.f85(l6+504, p4, l20, p5)
+		j0 = m.f78(l6+448, p0, p4, p5)
 		goto B3
 	}
-	m.i32_store8(l6+386, m.i32_load8_u(l6+434))
-	m.i32_store16(l6+384, m.i32_load16_u(l6+432))
-	m.i64_store(l6+376, uint64(p2)&255)
-	m.i32_store8(l6+368, 0)
-	m.i64_store(l6+392, m.i64_load(l6+440))
-	m.i64_store(l6+400, m.i64_load(l6+448))
-	m.i64_store(l6+408, m.i64_load(l6+456))
-	j0 = m.f86(l6+368, p3, l20, p5)
+	m.i32_store8(l6+330, m.i32_load8_u(l6+378))
+	m.i32_store16(l6+328, m.i32_load16_u(l6+376))
+	m.i64_store(l6+320, uint64(p2)&255)
+	m.i32_store8(l6+312, 0)
+	m.i64_store(l6+336, m.i64_load(l6+384))
+	m.i64_store(l6+344, m.i64_load(l6+392))
+	m.i64_store(l6+352, m.i64_load(l6+400))
+	j0 = m.f79(l6+312, p3, p4, p5)
 B3:
 	p4 = j0
-	m.stackPointer = l6 + 6576
+	m.stackPointer = l6 + 6928
 	j0 = p4
 	goto B1
 B2:
@@ -26879,7 +26584,7 @@ func (m *memory) cvss_find(p0 uint64, p1 uint64, p2 uint64) uint32 {
 		m.i64_store(l13+24, m.i64_load(l17+8))
 		m.i64_store(l13+16, p1)
 		m.i64_store(l13+8, p0+select64(b32(p0 == 0), 4096, 0))
-		m.f91(l13 + 8)
+		m.f84(l13 + 8)
 		l18 = m.i64_load(l13 + 16)
 		l11 = m.i64_load(l13 + 24)
 		if l18 <= l11 {
@@ -26944,7 +26649,7 @@ func (m *memory) cvss_find(p0 uint64, p1 uint64, p2 uint64) uint32 {
 		p1 = p2 + l10
 		l9 = p1 + 1
 		l3 = m.i32_load8_u(l9)
-		if m.i32_load8_u(uint64(l3)+4611686018427398945) == 0 {
+		if m.i32_load8_u(uint64(l3)+4611686018427399430) == 0 {
 			goto B16
 		}
 		l4 = b32(p2 == l15)
@@ -26977,7 +26682,7 @@ func (m *memory) cvss_find(p0 uint64, p1 uint64, p2 uint64) uint32 {
 			goto B14
 		}
 	B21:
-		i1 = m.f92(l9, p0)
+		i1 = m.f85(l9, p0)
 		if i1 == 0 {
 			goto B16
 		}
@@ -27108,7 +26813,7 @@ func (m *memory) cvss_find(p0 uint64, p1 uint64, p2 uint64) uint32 {
 		j1 = p0 + l12
 	B6:
 		p2 = j1
-		i0 = m.f25(j0, p2, 4611686018427399219)
+		i0 = m.f25(j0, p2, 4611686018427399704)
 		if i0 != 0 {
 			goto B5
 		}
@@ -27131,9 +26836,9 @@ func (m *memory) cvss_find(p0 uint64, p1 uint64, p2 uint64) uint32 {
 			goto B29
 		}
 	B30:
-		i0 = m.f92(l14, p1)
+		i0 = m.f85(l14, p1)
 		if i0 == 0 {
-			i0 = m.f93(l14, p1)
+			i0 = m.f86(l14, p1)
 			if i0 == 0 {
 				goto B26
 			}
@@ -27313,7 +27018,7 @@ func (m *memory) cvss_find(p0 uint64, p1 uint64, p2 uint64) uint32 {
 			goto L49
 		}
 	B47:
-		i0 = m.f95(l14, p0)
+		i0 = m.f88(l14, p0)
 		if i0 == 0 {
 			if p0 < 5 {
 				goto B55
@@ -27335,7 +27040,7 @@ func (m *memory) cvss_find(p0 uint64, p1 uint64, p2 uint64) uint32 {
 			}
 		B55:
 			p1 = 0
-			i0 = m.f92(l14, p0)
+			i0 = m.f85(l14, p0)
 			l3 = i0
 			if p0 < 2 {
 				goto B53
@@ -27381,26 +27086,26 @@ func (m *memory) cvss_find(p0 uint64, p1 uint64, p2 uint64) uint32 {
 		B53:
 			p2 = p1 + l14
 			p0 = p0 - p1
-			i0 = m.f95(p2, p0)
+			i0 = m.f88(p2, p0)
 			if i0 != 0 {
 				goto B58
 			}
-			i0 = m.f92(p2, p0)
+			i0 = m.f85(p2, p0)
 			if i0 != 0 {
 				goto B58
 			}
-			i0 = m.f93(p2, p0)
+			i0 = m.f86(p2, p0)
 			if i0 != 0 {
-				i0 = m.f94(1, p2, p0)
+				i0 = m.f87(1, p2, p0)
 				if i0 != 0 {
 					goto B58
 				}
 			}
-			i0 = m.f93(p2, p0)
+			i0 = m.f86(p2, p0)
 			if i0 == 0 {
 				goto B51
 			}
-			i0 = m.f94(2, p2, p0)
+			i0 = m.f87(2, p2, p0)
 			if i0 == 0 {
 				goto B51
 			}
@@ -27445,7 +27150,7 @@ func (m *memory) cvss_find(p0 uint64, p1 uint64, p2 uint64) uint32 {
 			goto B60
 		}
 	B62:
-		m.f91(l13 + 8)
+		m.f84(l13 + 8)
 		l11 = m.i64_load(l13 + 24)
 		l18 = m.i64_load(l13 + 16)
 		l19 = m.i64_load(l13 + 8)
@@ -27554,7 +27259,7 @@ func (m *memory) cvss_from_metrics(p0 uint32, p1 uint64, p2 uint64, p3 uint32, p
 		m.i64_store(l7+488, p2)
 		l10 = 1
 		m.i64_store(l7+480, 1)
-		m.f96(l7+504, l7+480, l7+448)
+		m.f89(l7+504, l7+480, l7+448)
 		if m.i32_load8_u(l7+504) == 0 {
 			p0 = m.i32_load(l7 + 505)
 			i0 = 2
@@ -27633,10 +27338,10 @@ func (m *memory) cvss_from_metrics(p0 uint32, p1 uint64, p2 uint64, p3 uint32, p
 		j0 = 1
 		goto B4
 	B18:
-		m.f99(l7+360, 0, p2, p1)
+		m.f92(l7+360, 0, p2, p1)
 		goto B2
 	B17:
-		m.f99(l7+360, 1, p2, p1)
+		m.f92(l7+360, 1, p2, p1)
 		goto B2
 	B16:
 		m.i64_store(l7+472, 0)
@@ -27649,7 +27354,7 @@ func (m *memory) cvss_from_metrics(p0 uint32, p1 uint64, p2 uint64, p3 uint32, p
 		m.i64_store(l7+488, p2)
 		l10 = 1
 		m.i64_store(l7+480, 1)
-		m.f102(l7+504, l7+480, l7+584)
+		m.f95(l7+504, l7+480, l7+584)
 		p1 = m.i64_load(l7 + 512)
 		if m.i32_load8_u(l7+504) == 0 {
 			l8 = m.i64_load(l7 + 520)
@@ -27860,7 +27565,7 @@ B2:
 		m.i64_store(l7+336, m.i64_load(l7+512))
 		m.i64_store(l7+344, m.i64_load(l7+520))
 		m.i64_store(l7+352, m.i64_load(l7+528))
-		m.f104(l7+136, l7+280, l15)
+		m.f97(l7+136, l7+280, l15)
 		p3 = m.i32_load8_u(l7 + 154)
 		l14 = m.i32_load8_u(l7 + 153)
 		l13 = m.i32_load8_u(l7 + 152)
@@ -27923,7 +27628,7 @@ B29:
 	m.i64_store(l7+80, m.i64_load(l7+208))
 	m.i64_store(l7+88, m.i64_load(l7+216))
 B1:
-	j0 = m.f105(l7+8, p4, p5+select64(b32(p5 == 0), 4096, 0), p6)
+	j0 = m.f98(l7+8, p4, p5+select64(b32(p5 == 0), 4096, 0), p6)
 	p5 = j0
 	m.stackPointer = l7 + 656
 	p6 = p5
@@ -27943,7 +27648,7 @@ func (m *memory) cvss_metrics(p0 uint64, p1 uint64, p2 uint32, p3 uint64, p4 uin
 	m.stackPointer = l5
 	if int64(l5) >= 16 {
 		m.memory_fill(l5+8, 0, 88)
-		m.f108(l5+8, p0+select64(b32(p0 == 0), 4096, 0), p1, p2)
+		m.f101(l5+8, p0+select64(b32(p0 == 0), 4096, 0), p1, p2)
 		j0 = 0
 		if m.i32_load8_u(l5+8) != 1 {
 			goto B3
@@ -27972,7 +27677,7 @@ func (m *memory) cvss_metrics(p0 uint64, p1 uint64, p2 uint32, p3 uint64, p4 uin
 		j0 = p0
 	L7:
 		p2 = m.i32_load8_u(p0 + 4611686018427389575)
-		m.f109(l5+176, p1, p2)
+		m.f102(l5+176, p1, p2)
 		if m.i32_load8_u(l5+176) == 1 {
 			l8 = m.i64_load(l5 + 184)
 			p3 = m.i64_load(l5 + 192)
@@ -27980,10 +27685,10 @@ func (m *memory) cvss_metrics(p0 uint64, p1 uint64, p2 uint32, p3 uint64, p4 uin
 			l7 = (uint64(p2) & 255) * 56
 			j0 = m.i64_load(l7 + 4611686018427387928)
 			l7 = m.i64_load(l7 + 4611686018427387936)
-			j0 = m.f85(j0, select64(b32(l7 < 8), l7, 8), l5+712, 8)
+			j0 = m.f78(j0, select64(b32(l7 < 8), l7, 8), l5+712, 8)
 			l7 = m.i64_load(l5 + 712)
 			m.i64_store(l5+712, 0)
-			j0 = m.f85(l8, select64(b32(p3 < 8), p3, 8), l5+712, 8)
+			j0 = m.f78(l8, select64(b32(p3 < 8), p3, 8), l5+712, 8)
 			p3 = (l5 + 200) + (l6 << 4)
 			m.i64_store(p3, l7)
 			m.i64_store(p3+8, m.i64_load(l5+712))
@@ -27994,7 +27699,7 @@ func (m *memory) cvss_metrics(p0 uint64, p1 uint64, p2 uint32, p3 uint64, p4 uin
 		if p0 != 0 {
 			goto L7
 		}
-		j0 = m.f111(l5+200, l6, l9, p4)
+		j0 = m.f104(l5+200, l6, l9, p4)
 		goto B3
 	B5:
 		m.i64_store(l5+192, 0)
@@ -28006,7 +27711,7 @@ func (m *memory) cvss_metrics(p0 uint64, p1 uint64, p2 uint32, p3 uint64, p4 uin
 		j0 = p0
 	L9:
 		p2 = m.i32_load8_u(p0 + 4611686018427397872)
-		m.f112(l5+176, p1, p2)
+		m.f105(l5+176, p1, p2)
 		if m.i32_load8_u(l5+176) == 1 {
 			l8 = m.i64_load(l5 + 184)
 			p3 = m.i64_load(l5 + 192)
@@ -28014,10 +27719,10 @@ func (m *memory) cvss_metrics(p0 uint64, p1 uint64, p2 uint32, p3 uint64, p4 uin
 			l7 = (uint64(p2) & 255) * 56
 			j0 = m.i64_load(l7 + 4611686018427393424)
 			l7 = m.i64_load(l7 + 4611686018427393432)
-			j0 = m.f85(j0, select64(b32(l7 < 8), l7, 8), l5+712, 8)
+			j0 = m.f78(j0, select64(b32(l7 < 8), l7, 8), l5+712, 8)
 			l7 = m.i64_load(l5 + 712)
 			m.i64_store(l5+712, 0)
-			j0 = m.f85(l8, select64(b32(p3 < 8), p3, 8), l5+712, 8)
+			j0 = m.f78(l8, select64(b32(p3 < 8), p3, 8), l5+712, 8)
 			p3 = (l5 + 200) + (l6 << 4)
 			m.i64_store(p3, l7)
 			m.i64_store(p3+8, m.i64_load(l5+712))
@@ -28028,7 +27733,7 @@ func (m *memory) cvss_metrics(p0 uint64, p1 uint64, p2 uint32, p3 uint64, p4 uin
 		if p0 != 0 {
 			goto L9
 		}
-		j0 = m.f111(l5+200, l6, l9, p4)
+		j0 = m.f104(l5+200, l6, l9, p4)
 		goto B3
 	B4:
 		m.i64_store(l5+192, 0)
@@ -28040,7 +27745,7 @@ func (m *memory) cvss_metrics(p0 uint64, p1 uint64, p2 uint32, p3 uint64, p4 uin
 		j0 = p0
 	L11:
 		p2 = m.i32_load8_u(p0 + 4611686018427392166)
-		m.f114(l5+176, p1, p2)
+		m.f107(l5+176, p1, p2)
 		if m.i32_load8_u(l5+176) == 1 {
 			l8 = m.i64_load(l5 + 184)
 			p3 = m.i64_load(l5 + 192)
@@ -28048,10 +27753,10 @@ func (m *memory) cvss_metrics(p0 uint64, p1 uint64, p2 uint32, p3 uint64, p4 uin
 			l7 = (uint64(p2) & 255) * 56
 			j0 = m.i64_load(l7 + 4611686018427389576)
 			l7 = m.i64_load(l7 + 4611686018427389584)
-			j0 = m.f85(j0, select64(b32(l7 < 8), l7, 8), l5+712, 8)
+			j0 = m.f78(j0, select64(b32(l7 < 8), l7, 8), l5+712, 8)
 			l7 = m.i64_load(l5 + 712)
 			m.i64_store(l5+712, 0)
-			j0 = m.f85(l8, select64(b32(p3 < 8), p3, 8), l5+712, 8)
+			j0 = m.f78(l8, select64(b32(p3 < 8), p3, 8), l5+712, 8)
 			p3 = (l5 + 200) + (l6 << 4)
 			m.i64_store(p3, l7)
 			m.i64_store(p3+8, m.i64_load(l5+712))
@@ -28062,7 +27767,7 @@ func (m *memory) cvss_metrics(p0 uint64, p1 uint64, p2 uint32, p3 uint64, p4 uin
 		if p0 != 0 {
 			goto L11
 		}
-		j0 = m.f111(l5+200, l6, l9, p4)
+		j0 = m.f104(l5+200, l6, l9, p4)
 	B3:
 		l6 = j0
 		m.stackPointer = l5 + 720
@@ -28077,275 +27782,190 @@ B1:
 }
 
 func (m *memory) cvss_numbers(p0 uint32, p1 uint64, p2 uint64, p3 uint64) uint32 {
-	var l20, l21, l22, l23, i0 uint32
-	var l4, l5, l6, l7, l8, l9, l10, l11, l12, l13, l14, l15, l16, l17, l18, l19 uint64
-	_, _, _, _, _, _, _, _, _, _, _, _, _, _, _, _, _, _, _, _, _ = l20, l21, l22, l23, i0, l4, l5, l6, l7, l8, l9, l10, l11, l12, l13, l14, l15, l16, l17, l18, l19
+	var l17, l18, l19, l20, i0 uint32
+	var l4, l5, l6, l7, l8, l9, l10, l11, l12, l13, l14, l15, l16, j1 uint64
+	_, _, _, _, _, _, _, _, _, _, _, _, _, _, _, _, _, _, _ = l17, l18, l19, l20, i0, l4, l5, l6, l7, l8, l9, l10, l11, l12, l13, l14, l15, l16, j1
 	i0 = m.f17()
 	if i0 != 0 {
 		panic("cvss: unreachable")
 	}
-	l7 = p1
-	l6 = p2
-	p1 = 0
-	l4 = m.stackPointer - 624
+	l4 = m.stackPointer - 608
 	m.stackPointer = l4
 	if int64(l4) >= 16 {
-		l21 = m.i32_load(p3)
+		l18 = m.i32_load(p3)
 		i0 = 0
-		if l21 < 64 {
+		if l18 < 64 {
 			goto B1
 		}
-		l7 = l7 + select64(b32(l7 == 0), 4096, 0)
-		m.i64_store(l4+592, 0)
-		m.i64_store(l4+600, 0)
-		m.i64_store(l4+608, 0)
-		m.i64_store(l4+613, 0)
-		m.memory_fill(l4+528, 0, 64)
-		m.memory_fill(l4+456, 0, 72)
-		m.memory_fill(l4+328, 0, 64)
-		m.memory_fill(l4+256, 0, 72)
+		p1 = p1 + select64(b32(p1 == 0), 4096, 0)
+		m.i64_store(l4+464, 0)
+		m.i64_store(l4+472, 0)
+		m.i64_store(l4+480, 0)
+		m.i64_store(l4+485, 0)
+		m.memory_fill(l4+400, 0, 64)
+		m.memory_fill(l4+328, 0, 72)
+		m.memory_fill(l4+200, 0, 64)
+		m.memory_fill(l4+128, 0, 72)
 		switch p0 - 30 {
 		case 0:
-			goto B8
-		case 1:
-			goto B7
-		default:
 			goto B9
+		case 1:
+			goto B8
+		default:
+			goto B10
 		}
-	B9:
+	B10:
 		if p0 != 20 {
-			goto B5
+			goto B6
 		}
-		m.f116(l4+592, l7, l6)
-		if m.i32_load8_u(l4+592) != 1 {
-			goto B5
+		m.f109(l4+464, p1, p2)
+		if m.i32_load8_u(l4+464) != 1 {
+			goto B6
 		}
-		l10 = (l4 + 592) | 1
-		i0 = m.f51(l10)
+		p1 = (l4 + 464) | 1
+		i0 = m.f51(p1)
 		p0 = i0
-		i0 = m.f46(l10)
-		l22 = i0
-		i0 = m.f50(l10)
-		l23 = i0
-		m.f63(l4+176, l10)
-		l5 = m.i64_load(l4 + 184)
-		l12 = m.i64_load(l4 + 176)
-		l7 = select64(b32(l5 != 0), uint64(bits.LeadingZeros64(l5)), uint64(bits.LeadingZeros64(l12))-18446744073709551552)
-		l6 = 88 - l7
-		l8 = 0 - uint64(b32(l7 > 88))
-		l20 = b32((l5|l12) == 0) | select32(b32(l8 == 0), b32(l6 > 127), b32(l8 != 0))
-		l9 = select64(l20, 0, l5)
-		l13 = select64(l20, 0, l12)
-		if l20 != 0 {
+		i0 = m.f46(p1)
+		l19 = i0
+		i0 = m.f50(p1)
+		l20 = i0
+		m.memory_fill(l4+496, 0, 112)
+		m.f47(l4+496, p1)
+		l7 = m.i64_load(l4 + 536)
+		l8 = m.i64_load(l4 + 520)
+		l9 = m.i64_load(l4 + 528)
+		m.memory_fill(l4+496, 0, 112)
+		m.f47(l4+496, p1)
+		l13 = m.i64_load(l4 + 512)
+		l14 = m.i64_load(l4 + 504)
+		l15 = m.i64_load(l4 + 496)
+		m.memory_fill(l4+496, 0, 112)
+		m.f47(l4+496, p1)
+		j1 = ((1000000 - (m.i64_load(l4+592) * m.i64_load(l4+528))) * (1000000 - (m.i64_load(l4+584) * m.i64_load(l4+520)))) * ((m.i64_load(l4+600) * m.i64_load(l4+536)) - 1000000)
+		m.f18(l4+48, j1+1000000000000000000, 0, 10410000, 0)
+		p1 = m.i64_load(l4 + 56)
+		p2 = m.i64_load(l4 + 48)
+		l17 = select32(b32(p1 == 542101), b32(p2 < 1590897978359414784), b32(p1 < 542101))
+		l5 = select64(l17, p1, 542101)
+		l10 = select64(l17, p2, 1590897978359414784)
+		p1 = select64(b32(l5 != 0), uint64(bits.LeadingZeros64(l5)), uint64(bits.LeadingZeros64(l10))-18446744073709551552)
+		p2 = 88 - p1
+		l6 = 0 - uint64(b32(p1 > 88))
+		l17 = b32((l5|l10) == 0) | select32(b32(l6 == 0), b32(p2 > 127), b32(l6 != 0))
+		l11 = select64(l17, 0, l5)
+		p1 = select64(l17, 0, l10)
+		l16 = ((l7 - 1000) * ((1000 - l8) * (1000 - l9))) * 10410
+		l15 = l13 * (l14 * l15)
+		if l17 != 0 {
 			goto B3
 		}
-		if ((l6 ^ 127) | l8) == 0 {
+		if ((p2 ^ 127) | l6) == 0 {
 			goto B3
 		}
-		m.f19(l4+160, l12, l5, 127-uint32(l6))
-		l9 = m.i64_load(l4 + 168)
-		l7 = m.i64_load(l4 + 160)
-		l6 = l6 + 1
-		l11 = l8 + uint64(b32(l6 == 0))
-		if (l6 | l11) == 0 {
-			goto B4
+		m.f19(l4+32, l10, l5, 127-uint32(p2))
+		l7 = m.i64_load(l4 + 40)
+		p1 = m.i64_load(l4 + 32)
+		p2 = p2 + 1
+		l11 = l6 + uint64(b32(p2 == 0))
+		if (p2 | l11) == 0 {
+			goto B5
 		}
-		m.f20(l4+144, l12, l5, uint32(l6))
-		l8 = m.i64_load(l4 + 152)
-		l5 = m.i64_load(l4 + 144)
-	L10:
-		p2 = p1
-		l14 = (l8 << 1) | (l5 >> 63)
-		l8 = (l5 << 1) | (l9 >> 63)
-		l5 = uint64(int64(((0 - l14) - uint64(b32(l8 > 999999999999)))) >> 63)
-		p1 = l5 & 1
-		l15 = l5 & 1000000000000
-		l5 = l8 - l15
-		l8 = l14 - uint64(b32(l8 < l15))
-		l9 = (l9 << 1) | (l7 >> 63)
-		l20 = b32(l6 == 0)
-		l7 = p2 | (l7 << 1)
-		p2 = l6 - 1
-		l6 = p2
-		l11 = l11 - uint64(l20)
-		if b32((p2|l11) == 0) == 0 {
-			goto L10
+		m.f20(l4+16, l10, l5, uint32(p2))
+		l6 = m.i64_load(l4 + 24)
+		l5 = m.i64_load(l4 + 16)
+		l8 = 0
+	L11:
+		l9 = l8
+		l13 = (l6 << 1) | (l5 >> 63)
+		l6 = (l5 << 1) | (l7 >> 63)
+		l5 = uint64(int64(((0 - l13) - uint64(b32(l6 > 999999999999)))) >> 63)
+		l8 = l5 & 1
+		l14 = l5 & 1000000000000
+		l5 = l6 - l14
+		l6 = l13 - uint64(b32(l6 < l14))
+		l7 = (l7 << 1) | (p1 >> 63)
+		l17 = b32(p2 == 0)
+		p1 = l9 | (p1 << 1)
+		l9 = p2 - 1
+		p2 = l9
+		l11 = l11 - uint64(l17)
+		if b32((l9|l11) == 0) == 0 {
+			goto L11
 		}
 		goto B4
-	B8:
-		m.f117(l4+456, 0, l7, l6)
-		if m.i32_load8_u(l4+456) != 1 {
-			goto B5
+	B9:
+		m.f110(l4+328, 0, p1, p2)
+		if m.i32_load8_u(l4+328) != 1 {
+			goto B6
 		}
-		m.memory_copy(l4+392, l4+464, 64)
-		m.f118(l4+528, l4+392, l21)
-		l5 = m.i64_load(l4 + 584)
-		l7 = m.i64_load(l4 + 576)
-		l9 = m.i64_load(l4 + 568)
-		l16 = m.i64_load(l4 + 560)
-		l6 = m.i64_load(l4 + 552)
-		l13 = m.i64_load(l4 + 544)
-		l22 = m.i32_load(l4 + 540)
-		p0 = m.i32_load(l4 + 536)
-		l20 = m.i32_load(l4 + 532)
-		l21 = m.i32_load(l4 + 528)
-		i0 = l21
+		m.memory_copy(l4+264, l4+336, 64)
+		m.f111(l4+400, l4+264, l18)
+		l5 = m.i64_load(l4 + 456)
+		p1 = m.i64_load(l4 + 448)
+		l6 = m.i64_load(l4 + 440)
+		l7 = m.i64_load(l4 + 432)
+		l12 = m.i64_load(l4 + 424)
+		p2 = m.i64_load(l4 + 416)
+		l19 = m.i32_load(l4 + 412)
+		p0 = m.i32_load(l4 + 408)
+		l17 = m.i32_load(l4 + 404)
+		l18 = m.i32_load(l4 + 400)
+		i0 = l18
 		goto B2
-	B7:
-		m.f117(l4+256, 1, l7, l6)
-		if m.i32_load8_u(l4+256) != 1 {
-			goto B5
+	B8:
+		m.f110(l4+128, 1, p1, p2)
+		if m.i32_load8_u(l4+128) != 1 {
+			goto B6
 		}
-		m.memory_copy(l4+192, l4+264, 64)
-		m.f118(l4+328, l4+192, l21)
-		l5 = m.i64_load(l4 + 384)
-		l7 = m.i64_load(l4 + 376)
-		l9 = m.i64_load(l4 + 368)
-		l16 = m.i64_load(l4 + 360)
-		l6 = m.i64_load(l4 + 352)
-		l13 = m.i64_load(l4 + 344)
-		l22 = m.i32_load(l4 + 340)
-		p0 = m.i32_load(l4 + 336)
-		l20 = m.i32_load(l4 + 332)
-		l21 = m.i32_load(l4 + 328)
-		i0 = l21
+		m.memory_copy(l4-18446744073709551552, l4+136, 64)
+		m.f111(l4+200, l4-18446744073709551552, l18)
+		l5 = m.i64_load(l4 + 256)
+		p1 = m.i64_load(l4 + 248)
+		l6 = m.i64_load(l4 + 240)
+		l7 = m.i64_load(l4 + 232)
+		l12 = m.i64_load(l4 + 224)
+		p2 = m.i64_load(l4 + 216)
+		l19 = m.i32_load(l4 + 212)
+		p0 = m.i32_load(l4 + 208)
+		l17 = m.i32_load(l4 + 204)
+		l18 = m.i32_load(l4 + 200)
+		i0 = l18
 		goto B2
 	}
 	panic("cvss: unreachable")
-B5:
+B6:
 	i0 = 0
 	goto B1
+B5:
+	l8 = 0
 B4:
-	l9 = (l9 << 1) | (l7 >> 63)
-	l13 = p1 | (l7 << 1)
+	l11 = (l7 << 1) | (p1 >> 63)
+	p1 = l8 | (p1 << 1)
 B3:
-	m.f18(l4+112, l13, l9, 1000000000000, 0)
-	m.f64(l4+128, l10)
-	l5 = m.i64_load(l4 + 136)
-	l17 = m.i64_load(l4 + 128)
-	l7 = select64(b32(l5 != 0), uint64(bits.LeadingZeros64(l5)), uint64(bits.LeadingZeros64(l17))-18446744073709551552)
-	l6 = 88 - l7
-	l8 = 0 - uint64(b32(l7 > 88))
-	l20 = b32((l5|l17) == 0) | select32(b32(l8 == 0), b32(l6 > 127), b32(l8 != 0))
-	l9 = select64(l20, 0, l5)
-	l16 = select64(l20, 0, l17)
-	l18 = m.i64_load(l4 + 112)
-	if l20 != 0 {
-		goto B11
-	}
-	if ((l6 ^ 127) | l8) == 0 {
-		goto B11
-	}
-	m.f19(l4+96, l17, l5, 127-uint32(l6))
-	l9 = m.i64_load(l4 + 104)
-	l7 = m.i64_load(l4 + 96)
-	l6 = l6 + 1
-	l11 = l8 + uint64(b32(l6 == 0))
-	if b32((l6|l11) == 0) == 0 {
-		m.f20(l4+80, l17, l5, uint32(l6))
-		l8 = m.i64_load(l4 + 88)
-		l5 = m.i64_load(l4 + 80)
-		p1 = 0
-	L14:
-		p2 = p1
-		l14 = (l8 << 1) | (l5 >> 63)
-		l8 = (l5 << 1) | (l9 >> 63)
-		l5 = uint64(int64(((0 - l14) - uint64(b32(l8 > 999999999999)))) >> 63)
-		p1 = l5 & 1
-		l15 = l5 & 1000000000000
-		l5 = l8 - l15
-		l8 = l14 - uint64(b32(l8 < l15))
-		l9 = (l9 << 1) | (l7 >> 63)
-		l20 = b32(l6 == 0)
-		l7 = p2 | (l7 << 1)
-		p2 = l6 - 1
-		l6 = p2
-		l11 = l11 - uint64(l20)
-		if b32((p2|l11) == 0) == 0 {
-			goto L14
-		}
-		goto B12
-	}
-	p1 = 0
-B12:
-	l9 = (l9 << 1) | (l7 >> 63)
-	l16 = p1 | (l7 << 1)
-B11:
-	m.f18(l4+48, l16, l9, 1000000000000, 0)
-	m.f66(l4-18446744073709551552, l10)
-	l5 = m.i64_load(l4 + 72)
-	l10 = m.i64_load(l4 - 18446744073709551552)
-	l7 = select64(b32(l5 != 0), uint64(bits.LeadingZeros64(l5)), uint64(bits.LeadingZeros64(l10))-18446744073709551552)
-	l6 = 88 - l7
-	l8 = 0 - uint64(b32(l7 > 88))
-	l20 = b32((l5|l10) == 0) | select32(b32(l8 == 0), b32(l6 > 127), b32(l8 != 0))
-	l11 = select64(l20, 0, l5)
-	l7 = select64(l20, 0, l10)
-	l19 = m.i64_load(l4 + 48)
-	if l20 != 0 {
-		goto B15
-	}
-	if ((l6 ^ 127) | l8) == 0 {
-		goto B15
-	}
-	m.f19(l4+32, l10, l5, 127-uint32(l6))
-	l9 = m.i64_load(l4 + 40)
-	l7 = m.i64_load(l4 + 32)
-	l6 = l6 + 1
-	l11 = l8 + uint64(b32(l6 == 0))
-	if b32((l6|l11) == 0) == 0 {
-		m.f20(l4+16, l10, l5, uint32(l6))
-		l8 = m.i64_load(l4 + 24)
-		l5 = m.i64_load(l4 + 16)
-		p1 = 0
-	L18:
-		p2 = p1
-		l14 = (l8 << 1) | (l5 >> 63)
-		l8 = (l5 << 1) | (l9 >> 63)
-		l5 = uint64(int64(((0 - l14) - uint64(b32(l8 > 999999999999)))) >> 63)
-		p1 = l5 & 1
-		l15 = l5 & 1000000000000
-		l5 = l8 - l15
-		l8 = l14 - uint64(b32(l8 < l15))
-		l9 = (l9 << 1) | (l7 >> 63)
-		l20 = b32(l6 == 0)
-		l7 = p2 | (l7 << 1)
-		p2 = l6 - 1
-		l6 = p2
-		l11 = l11 - uint64(l20)
-		if b32((p2|l11) == 0) == 0 {
-			goto L18
-		}
-		goto B16
-	}
-	p1 = 0
-B16:
-	l11 = (l9 << 1) | (l7 >> 63)
-	l7 = p1 | (l7 << 1)
-B15:
-	l20 = p0 & 255
-	p0 = l22 & 255
-	l22 = l23 & 255
-	l6 = l12 - l18
-	l9 = l17 - l19
-	m.f18(l4, l7, l11, 1000000000000, 0)
+	p2 = l16 + 10410000000000
+	l17 = p0 & 255
+	p0 = l19 & 255
+	l19 = l20 & 255
+	l7 = l15 * 20000
+	m.f18(l4, p1, l11, 1000000000000, 0)
 	l5 = l10 - m.i64_load(l4)
+	l6 = 0
 B2:
 	m.i64_store(p3+56, l5)
-	m.i64_store(p3+48, l7)
-	m.i64_store(p3+40, l9)
-	m.i64_store(p3+32, l16)
-	m.i64_store(p3+24, l6)
-	m.i64_store(p3+16, l13)
-	m.i32_store(p3+12, l22)
+	m.i64_store(p3+48, p1)
+	m.i64_store(p3+40, l6)
+	m.i64_store(p3+32, l7)
+	m.i64_store(p3+24, l12)
+	m.i64_store(p3+16, p2)
+	m.i32_store(p3+12, l19)
 	m.i32_store(p3+8, p0)
-	m.i32_store(p3+4, l20)
-	m.i32_store(p3, l21)
+	m.i32_store(p3+4, l17)
+	m.i32_store(p3, l18)
 	i0 = 1
 B1:
-	l20 = i0
-	m.stackPointer = l4 + 624
-	p0 = l20
+	l17 = i0
+	m.stackPointer = l4 + 608
+	p0 = l17
 	m.isInCall = 0
 	return p0
 }
@@ -28379,7 +27999,7 @@ func (m *memory) cvss_parse(p0 uint64, p1 uint64, p2 uint32, p3 uint64, p4 uint6
 		}
 		m.i64_store(l7+230, 0)
 		m.i64_store(l7+224, 0)
-		m.f120(l7+224, l7+144)
+		m.f113(l7+224, l7+144)
 		l12 = 20
 		l14 = m.i32_load8_u(l7 + 227)
 		p2 = m.i32_load8_u(l7 + 225)
@@ -28514,7 +28134,7 @@ B4:
 	m.i64_store(l7+32, m.i64_load(l7+80))
 	m.i64_store(l7+40, m.i64_load(l7+88))
 	m.i64_store(l7+48, m.i64_load(l7+96))
-	j0 = m.f86(l7+8, p4, p5, p6)
+	j0 = m.f79(l7+8, p4, p5, p6)
 	goto B1
 B3:
 	m.i32_store(p3+56, l16)
@@ -28542,7 +28162,7 @@ B2:
 		m.i64_store(p4+28, 0)
 		m.i32_store(p4+36, 0)
 	}
-	j0 = m.f106(l7+144, p5, p6)
+	j0 = m.f99(l7+144, p5, p6)
 B1:
 	p3 = j0
 	m.stackPointer = l7 + 240
@@ -28581,15 +28201,15 @@ func (m *memory) cvss_record(p0 uint64, p1 uint64, p2 uint32, p3 uint64, p4 uint
 		m.memory_fill(l6+144, 0, 4096)
 		m.i64_store(l6+4494, 0)
 		m.i64_store(l6+4488, 0)
-		m.f120(l6+4488, l6+4248)
+		m.f113(l6+4488, l6+4248)
 		p2 = m.i32_load8_u(l6 + 4248)
 		if p2 == 3 {
-			l12 = 4611686018427399258
+			l12 = 4611686018427399743
 			l13 = 36
 			i0 = m.i32_load8_u(l6 + 4489)
 			goto B5
 		}
-		l12 = select64(p2, 4611686018427399330, 4611686018427399220)
+		l12 = select64(p2, 4611686018427399815, 4611686018427399705)
 		l13 = select64(p2, 30, 19)
 		l19 = b32(m.i32_load8_u(l6+4496) == 1)
 		l15 = select32(l19, m.i32_load8_u(l6+4497), 0)
@@ -28618,10 +28238,10 @@ func (m *memory) cvss_record(p0 uint64, p1 uint64, p2 uint32, p3 uint64, p4 uint
 			}
 			m.i32_store8((l6+144)+p4, 34)
 			m.i64_store(l6+4240, p4+1)
-			m.f68(l6+144, 4611686018427399390, 12)
+			m.f64(l6+144, 4611686018427399875, 12)
 			l7 = m.i64_load(l6 + 4240)
 			p4 = l7 + (l6 + 144)
-			if (p4 - 4611686018427398281) <= 1 {
+			if (p4 - 4611686018427398484) <= 1 {
 				m.i32_store16(p4, 14882)
 				goto B12
 			}
@@ -28629,7 +28249,7 @@ func (m *memory) cvss_record(p0 uint64, p1 uint64, p2 uint32, p3 uint64, p4 uint
 		B12:
 			m.i32_store8(p4+2, 34)
 			m.i64_store(l6+4240, l7+3)
-			m.f72(l6+144, l6+4248)
+			m.f67(l6+144, l6+4248)
 			p4 = m.i64_load(l6 + 4240)
 			m.i32_store8(p4+(l6+144), 34)
 			m.i64_store(l6+4240, p4+1)
@@ -28691,7 +28311,7 @@ func (m *memory) cvss_record(p0 uint64, p1 uint64, p2 uint32, p3 uint64, p4 uint
 			m.i64_store(l6+4488, 0)
 			p2 = m.i32_load8_u(p4 + 4611686018427392166)
 			if m.i32_load8_u(((uint64(p2)&255)*56)+4611686018427389608) == 3 {
-				m.f115(l6+4488, p1, p2)
+				m.f108(l6+4488, p1, p2)
 				if m.i32_load8_u(l6+4488) == 1 {
 					goto B14
 				}
@@ -28710,7 +28330,7 @@ func (m *memory) cvss_record(p0 uint64, p1 uint64, p2 uint32, p3 uint64, p4 uint
 		m.i64_store(l6+4488, 0)
 		p2 = m.i32_load8_u(p4 + 4611686018427392166)
 		if m.i32_load8_u(((uint64(p2)&255)*56)+4611686018427389608) == 1 {
-			m.f115(l6+4488, p1, p2)
+			m.f108(l6+4488, p1, p2)
 			if m.i32_load8_u(l6+4488) == 1 {
 				goto B14
 			}
@@ -28750,15 +28370,15 @@ func (m *memory) cvss_record(p0 uint64, p1 uint64, p2 uint32, p3 uint64, p4 uint
 		}
 	B35:
 		p4 = p4 << 3
-		l10 = m.i64_load(p4 + 4611686018427411728)
-		l9 = m.i64_load(p4 + 4611686018427411616)
+		l10 = m.i64_load(p4 + 4611686018427412472)
+		l9 = m.i64_load(p4 + 4611686018427412360)
 		p4 = 0
 		l8 = 0
 		if m.i32_load8_u(l6+4248) == 0 {
 			m.i64_store(l6+4504, 0)
 			m.i64_store(l6+4496, 0)
 			m.i64_store(l6+4488, 0)
-			m.f110(l6+4488, l14, l15)
+			m.f103(l6+4488, l14, l15)
 			p2 = b32(m.i32_load8_u(l6+4488) == 1)
 			l8 = select64(p2, m.i64_load(l6+4504), 0)
 			l7 = select64(p2, m.i64_load(l6+4496), 0)
@@ -28768,7 +28388,7 @@ func (m *memory) cvss_record(p0 uint64, p1 uint64, p2 uint32, p3 uint64, p4 uint
 		m.i64_store(l6+4456, l8)
 		m.i64_store(l6+4448, l7)
 		m.i64_store(l6+4440, p4)
-		m.f124(l6+4464, l10, l9, l6+4440)
+		m.f117(l6+4464, l10, l9, l6+4440)
 		l10 = m.i64_load(l6 + 4480)
 		l9 = m.i64_load(l6 + 4472)
 		l21 = m.i32_load8_u(l6 + 4465)
@@ -28776,8 +28396,8 @@ func (m *memory) cvss_record(p0 uint64, p1 uint64, p2 uint32, p3 uint64, p4 uint
 		goto B32
 	B34:
 		p4 = p4 << 3
-		l8 = m.i64_load(p4 + 4611686018427412016)
-		l10 = m.i64_load(p4 + 4611686018427411840)
+		l8 = m.i64_load(p4 + 4611686018427412760)
+		l10 = m.i64_load(p4 + 4611686018427412584)
 		p4 = 0
 		p2 = 0
 		switch uint32(m.i64_load8_u(l6+4248)) - 1 {
@@ -28792,7 +28412,7 @@ func (m *memory) cvss_record(p0 uint64, p1 uint64, p2 uint32, p3 uint64, p4 uint
 		m.i64_store(l6+4504, 0)
 		m.i64_store(l6+4496, 0)
 		m.i64_store(l6+4488, 0)
-		m.f115(l6+4488, p1, l15)
+		m.f108(l6+4488, p1, l15)
 		p2 = b32(m.i32_load8_u(l6+4488) == 1)
 		l7 = select64(p2, m.i64_load(l6+4504), 0)
 		p4 = select64(p2, m.i64_load(l6+4496), 0)
@@ -28802,7 +28422,7 @@ func (m *memory) cvss_record(p0 uint64, p1 uint64, p2 uint32, p3 uint64, p4 uint
 		m.i64_store(l6+4504, 0)
 		m.i64_store(l6+4496, 0)
 		m.i64_store(l6+4488, 0)
-		m.f115(l6+4488, p1, l15)
+		m.f108(l6+4488, p1, l15)
 		p2 = b32(m.i32_load8_u(l6+4488) == 1)
 		l7 = select64(p2, m.i64_load(l6+4504), 0)
 		p4 = select64(p2, m.i64_load(l6+4496), 0)
@@ -28811,7 +28431,7 @@ func (m *memory) cvss_record(p0 uint64, p1 uint64, p2 uint32, p3 uint64, p4 uint
 		m.i64_store(l6+4408, l7)
 		m.i64_store(l6+4400, p4)
 		m.i64_store(l6+4392, uint64(p2))
-		m.f124(l6+4416, l8, l10, l6+4392)
+		m.f117(l6+4416, l8, l10, l6+4392)
 		l10 = m.i64_load(l6 + 4432)
 		l9 = m.i64_load(l6 + 4424)
 		l21 = m.i32_load8_u(l6 + 4417)
@@ -28819,15 +28439,15 @@ func (m *memory) cvss_record(p0 uint64, p1 uint64, p2 uint32, p3 uint64, p4 uint
 		goto B32
 	B33:
 		p4 = p4 << 3
-		l10 = m.i64_load(p4 + 4611686018427412448)
-		l9 = m.i64_load(p4 + 4611686018427412192)
+		l10 = m.i64_load(p4 + 4611686018427413192)
+		l9 = m.i64_load(p4 + 4611686018427412936)
 		p4 = 0
 		l8 = 0
 		if m.i32_load8_u(l6+4248) == 3 {
 			m.i64_store(l6+4504, 0)
 			m.i64_store(l6+4496, 0)
 			m.i64_store(l6+4488, 0)
-			m.f113(l6+4488, p1, l15)
+			m.f106(l6+4488, p1, l15)
 			p2 = b32(m.i32_load8_u(l6+4488) == 1)
 			l8 = select64(p2, m.i64_load(l6+4504), 0)
 			l7 = uint64(p2)
@@ -28837,7 +28457,7 @@ func (m *memory) cvss_record(p0 uint64, p1 uint64, p2 uint32, p3 uint64, p4 uint
 		m.i64_store(l6+4360, l8)
 		m.i64_store(l6+4352, p4)
 		m.i64_store(l6+4344, l7)
-		m.f124(l6+4368, l10, l9, l6+4344)
+		m.f117(l6+4368, l10, l9, l6+4344)
 		l10 = m.i64_load(l6 + 4384)
 		l9 = m.i64_load(l6 + 4376)
 		l21 = m.i32_load8_u(l6 + 4369)
@@ -28868,7 +28488,7 @@ func (m *memory) cvss_record(p0 uint64, p1 uint64, p2 uint32, p3 uint64, p4 uint
 	B43:
 		l16 = m.i32_load8_u(l6 + 4336)
 		l8 = 9
-		l7 = 4611686018427407017
+		l7 = 4611686018427407505
 		j0 = l7
 		goto B24
 	B42:
@@ -28881,7 +28501,7 @@ func (m *memory) cvss_record(p0 uint64, p1 uint64, p2 uint32, p3 uint64, p4 uint
 		}
 		p2 = b32(l15 == 2)
 		l8 = select64(p2, 18, 13)
-		l7 = select64(p2, 4611686018427407039, 4611686018427407026)
+		l7 = select64(p2, 4611686018427407527, 4611686018427407514)
 		l16 = m.i32_load8_u(p4)
 		i0 = l16
 		goto B24
@@ -28918,7 +28538,7 @@ func (m *memory) cvss_record(p0 uint64, p1 uint64, p2 uint32, p3 uint64, p4 uint
 		}
 		l16 = p2 & 255
 		if l16 == 0 {
-			l9 = 4611686018427406992
+			l9 = 4611686018427407480
 			j0 = 4
 			goto B27
 		}
@@ -28926,7 +28546,7 @@ func (m *memory) cvss_record(p0 uint64, p1 uint64, p2 uint32, p3 uint64, p4 uint
 			goto B48
 		}
 	B49:
-		l9 = 4611686018427406996
+		l9 = 4611686018427407484
 		j0 = 3
 		goto B27
 	B48:
@@ -28937,15 +28557,15 @@ func (m *memory) cvss_record(p0 uint64, p1 uint64, p2 uint32, p3 uint64, p4 uint
 		i0 = select32(b32(p2 < 90), 3, 4)
 	B47:
 		p4 = (uint64(i0-2) & 255) << 3
-		l9 = m.i64_load(p4 + 4611686018427412728)
-		j0 = m.i64_load(p4 + 4611686018427412704)
+		l9 = m.i64_load(p4 + 4611686018427413472)
+		j0 = m.i64_load(p4 + 4611686018427413448)
 		goto B27
 	B29:
-		l9 = m.i64_load((m.i64_load8_u(l6+4248) << 3) + 4611686018427412752)
+		l9 = m.i64_load((m.i64_load8_u(l6+4248) << 3) + 4611686018427413496)
 		j0 = 3
 		goto B27
 	B28:
-		l9 = 4611686018427406999
+		l9 = 4611686018427407487
 		j0 = 6
 	B27:
 		l10 = j0
@@ -28961,7 +28581,7 @@ func (m *memory) cvss_record(p0 uint64, p1 uint64, p2 uint32, p3 uint64, p4 uint
 		i0 = l16
 	B25:
 		l8 = 7
-		l7 = 4611686018427398267
+		l7 = 4611686018427398470
 		switch l17 - 1 {
 		case 0:
 			goto B96
@@ -28980,7 +28600,7 @@ func (m *memory) cvss_record(p0 uint64, p1 uint64, p2 uint32, p3 uint64, p4 uint
 		}
 	B97:
 		l8 = 12
-		l7 = 4611686018427399402
+		l7 = 4611686018427399887
 		switch l15 - 1 {
 		case 0:
 			goto B52
@@ -29013,27 +28633,27 @@ func (m *memory) cvss_record(p0 uint64, p1 uint64, p2 uint32, p3 uint64, p4 uint
 		}
 	B101:
 		l8 = 14
-		l7 = 4611686018427399672
+		l7 = 4611686018427400160
 		j0 = l7
 		goto B23
 	B100:
 		l8 = 14
-		l7 = 4611686018427398424
+		l7 = 4611686018427398633
 		j0 = l7
 		goto B23
 	B99:
 		l8 = 25
-		l7 = 4611686018427400664
+		l7 = 4611686018427401152
 		j0 = l7
 		goto B23
 	B98:
 		l8 = 18
-		l7 = 4611686018427400944
+		l7 = 4611686018427401432
 		j0 = l7
 		goto B23
 	B96:
 		l8 = 12
-		l7 = 4611686018427401403
+		l7 = 4611686018427401891
 		switch l15 - 1 {
 		case 0:
 			goto B84
@@ -29082,62 +28702,62 @@ func (m *memory) cvss_record(p0 uint64, p1 uint64, p2 uint32, p3 uint64, p4 uint
 		}
 	B102:
 		l8 = 5
-		l7 = 4611686018427398747
+		l7 = 4611686018427399141
 		j0 = l7
 		goto B23
 	B95:
 		l8 = 21
-		l7 = 4611686018427399808
+		l7 = 4611686018427400296
 		j0 = l7
 		goto B23
 	B94:
 		l8 = 15
-		l7 = 4611686018427399952
+		l7 = 4611686018427400440
 		j0 = l7
 		goto B23
 	B93:
 		l8 = 18
-		l7 = 4611686018427399967
+		l7 = 4611686018427400455
 		j0 = l7
 		goto B23
 	B92:
 		l8 = 19
-		l7 = 4611686018427402112
+		l7 = 4611686018427402600
 		j0 = l7
 		goto B23
 	B91:
 		l8 = 16
-		l7 = 4611686018427400216
+		l7 = 4611686018427400704
 		j0 = l7
 		goto B23
 	B90:
 		l8 = 16
-		l7 = 4611686018427400464
+		l7 = 4611686018427400952
 		j0 = l7
 		goto B23
 	B89:
 		l8 = 13
-		l7 = 4611686018427398734
+		l7 = 4611686018427399128
 		j0 = l7
 		goto B23
 	B88:
 		l8 = 29
-		l7 = 4611686018427403768
+		l7 = 4611686018427404256
 		j0 = l7
 		goto B23
 	B87:
 		l8 = 23
-		l7 = 4611686018427403960
+		l7 = 4611686018427404448
 		j0 = l7
 		goto B23
 	B86:
 		l8 = 26
-		l7 = 4611686018427403983
+		l7 = 4611686018427404471
 		j0 = l7
 		goto B23
 	B85:
 		l8 = 12
-		l7 = 4611686018427401403
+		l7 = 4611686018427401891
 		switch l15 - 1 {
 		case 0:
 			goto B83
@@ -29206,161 +28826,161 @@ func (m *memory) cvss_record(p0 uint64, p1 uint64, p2 uint32, p3 uint64, p4 uint
 		}
 	B84:
 		l8 = 16
-		l7 = 4611686018427401584
+		l7 = 4611686018427402072
 		j0 = l7
 		goto B23
 	B83:
 		l8 = 18
-		l7 = 4611686018427404176
+		l7 = 4611686018427404664
 		j0 = l7
 		goto B23
 	B82:
 		l8 = 18
-		l7 = 4611686018427401680
+		l7 = 4611686018427402168
 		j0 = l7
 		goto B23
 	B81:
 		l8 = 15
-		l7 = 4611686018427401816
+		l7 = 4611686018427402304
 		j0 = l7
 		goto B23
 	B80:
 		l8 = 25
-		l7 = 4611686018427404400
+		l7 = 4611686018427404888
 		j0 = l7
 		goto B23
 	B79:
 		l8 = 19
-		l7 = 4611686018427404425
+		l7 = 4611686018427404913
 		j0 = l7
 		goto B23
 	B78:
 		l8 = 22
-		l7 = 4611686018427404444
+		l7 = 4611686018427404932
 		j0 = l7
 		goto B23
 	B77:
 		l8 = 24
-		l7 = 4611686018427404466
+		l7 = 4611686018427404954
 		j0 = l7
 		goto B23
 	B76:
 		l8 = 18
-		l7 = 4611686018427404490
+		l7 = 4611686018427404978
 		j0 = l7
 		goto B23
 	B75:
 		l8 = 21
-		l7 = 4611686018427404508
+		l7 = 4611686018427404996
 		j0 = l7
 		goto B23
 	B74:
 		l8 = 15
-		l7 = 4611686018427404529
+		l7 = 4611686018427405017
 		j0 = l7
 		goto B23
 	B73:
 		l8 = 26
-		l7 = 4611686018427401168
+		l7 = 4611686018427401656
 		j0 = l7
 		goto B23
 	B72:
 		l8 = 20
-		l7 = 4611686018427401360
+		l7 = 4611686018427401848
 		j0 = l7
 		goto B23
 	B71:
 		l8 = 23
-		l7 = 4611686018427401380
+		l7 = 4611686018427401868
 		j0 = l7
 		goto B23
 	B70:
 		l8 = 20
-		l7 = 4611686018427402912
+		l7 = 4611686018427403400
 		j0 = l7
 		goto B23
 	B69:
 		l8 = 24
-		l7 = 4611686018427403152
+		l7 = 4611686018427403640
 		j0 = l7
 		goto B23
 	B68:
 		l8 = 26
-		l7 = 4611686018427405096
+		l7 = 4611686018427405584
 		j0 = l7
 		goto B23
 	B67:
 		l8 = 26
-		l7 = 4611686018427403296
+		l7 = 4611686018427403784
 		j0 = l7
 		goto B23
 	B66:
 		l8 = 23
-		l7 = 4611686018427403488
+		l7 = 4611686018427403976
 		j0 = l7
 		goto B23
 	B65:
 		l8 = 33
-		l7 = 4611686018427405416
+		l7 = 4611686018427405904
 		j0 = l7
 		goto B23
 	B64:
 		l8 = 27
-		l7 = 4611686018427405449
+		l7 = 4611686018427405937
 		j0 = l7
 		goto B23
 	B63:
 		l8 = 30
-		l7 = 4611686018427405476
+		l7 = 4611686018427405964
 		j0 = l7
 		goto B23
 	B62:
 		l8 = 32
-		l7 = 4611686018427405506
+		l7 = 4611686018427405994
 		j0 = l7
 		goto B23
 	B61:
 		l8 = 26
-		l7 = 4611686018427405704
+		l7 = 4611686018427406192
 		j0 = l7
 		goto B23
 	B60:
 		l8 = 29
-		l7 = 4611686018427405936
+		l7 = 4611686018427406424
 		j0 = l7
 		goto B23
 	B59:
 		l8 = 6
-		l7 = 4611686018427405965
+		l7 = 4611686018427406453
 		j0 = l7
 		goto B23
 	B58:
 		l8 = 11
-		l7 = 4611686018427406104
+		l7 = 4611686018427406592
 		j0 = l7
 		goto B23
 	B57:
 		l8 = 8
-		l7 = 4611686018427406240
+		l7 = 4611686018427406728
 		j0 = l7
 		goto B23
 	B56:
-		l7 = 4611686018427406424
+		l7 = 4611686018427406912
 		j0 = l7
 		goto B23
 	B55:
 		l8 = 27
-		l7 = 4611686018427406576
+		l7 = 4611686018427407064
 		j0 = l7
 		goto B23
 	B54:
 		l8 = 15
-		l7 = 4611686018427406768
+		l7 = 4611686018427407256
 		j0 = l7
 		goto B23
 	B53:
 		l8 = 12
-		l7 = 4611686018427407057
+		l7 = 4611686018427407545
 		switch l15 - 1 {
 		case 0:
 			goto B104
@@ -29371,17 +28991,17 @@ func (m *memory) cvss_record(p0 uint64, p1 uint64, p2 uint32, p3 uint64, p4 uint
 		}
 	B104:
 		l8 = 16
-		l7 = 4611686018427407069
+		l7 = 4611686018427407557
 		j0 = l7
 		goto B23
 	B103:
 		l8 = 21
-		l7 = 4611686018427407085
+		l7 = 4611686018427407573
 		j0 = l7
 		goto B23
 	B52:
 		l8 = 16
-		l7 = 4611686018427399544
+		l7 = 4611686018427400032
 		j0 = l7
 		goto B23
 	B24:
@@ -29399,10 +29019,10 @@ func (m *memory) cvss_record(p0 uint64, p1 uint64, p2 uint32, p3 uint64, p4 uint
 		}
 		m.i32_store8((l6+144)+p4, 34)
 		m.i64_store(l6+4240, p4+1)
-		m.f68(l6+144, l7, l8)
+		m.f64(l6+144, l7, l8)
 		p4 = m.i64_load(l6 + 4240)
 		l7 = p4 + (l6 + 144)
-		if (l7 - 4611686018427398281) <= 1 {
+		if (l7 - 4611686018427398484) <= 1 {
 			m.i32_store16(l7, 14882)
 			goto B106
 		}
@@ -29413,7 +29033,7 @@ func (m *memory) cvss_record(p0 uint64, p1 uint64, p2 uint32, p3 uint64, p4 uint
 		m.i32_store8(l6+4489, l16)
 		m.i32_store8(l6+4488, p2)
 		m.i64_store(l6+4240, p4+2)
-		m.f69(l6+4488, l6+144)
+		m.f65(l6+4488, l6+144)
 	B9:
 		l20 = 1
 		i0 = l20
@@ -29433,7 +29053,7 @@ func (m *memory) cvss_record(p0 uint64, p1 uint64, p2 uint32, p3 uint64, p4 uint
 			m.i64_store(p3+28, 0)
 			m.i32_store(p3+36, 0)
 		}
-		j0 = m.f85(l6+144, p4, l11, p5)
+		j0 = m.f78(l6+144, p4, l11, p5)
 		goto B3
 	}
 	m.i32_store8(l6+26, m.i32_load8_u(l6+74))
@@ -29443,7 +29063,7 @@ func (m *memory) cvss_record(p0 uint64, p1 uint64, p2 uint32, p3 uint64, p4 uint
 	m.i64_store(l6+32, m.i64_load(l6+80))
 	m.i64_store(l6+40, m.i64_load(l6+88))
 	m.i64_store(l6+48, m.i64_load(l6+96))
-	j0 = m.f86(l6+8, p3, l11, p5)
+	j0 = m.f79(l6+8, p3, l11, p5)
 B3:
 	p4 = j0
 	m.stackPointer = l6 + 4512
@@ -29709,7 +29329,7 @@ func (m *memory) cvss_score(p0 uint64, p1 uint64, p2 uint32) uint32 {
 	m.stackPointer = l3
 	if int64(l3) >= 16 {
 		m.memory_fill(l3+8, 0, 88)
-		m.f108(l3+8, p0+select64(b32(p0 == 0), 4096, 0), p1, p2)
+		m.f101(l3+8, p0+select64(b32(p0 == 0), 4096, 0), p1, p2)
 		p2 = 4294967295
 		if m.i32_load8_u(l3+8) == 1 {
 			m.i32_store8(l3+96, m.i32_load8_u(l3+16))
@@ -29741,7 +29361,7 @@ func (m *memory) cvss_score_line(p0 uint64, p1 uint64, p2 uint32, p3 uint64, p4 
 	if int64(l5) <= 15 {
 		panic("cvss: unreachable")
 	}
-	j0 = m.f125(p0+select64(b32(p0 == 0), 4096, 0), p1, p2, 4611686018427397840, 0, p3+select64(b32(p3 == 0), 4096, 0), p4)
+	j0 = m.f118(p0+select64(b32(p0 == 0), 4096, 0), p1, p2, 4611686018427397840, 0, p3+select64(b32(p3 == 0), 4096, 0), p4)
 	p3 = j0
 	m.stackPointer = l5
 	p4 = p3
@@ -29823,7 +29443,7 @@ func (m *memory) cvss_score_lines(p0 uint64, p1 uint64, p2 uint32, p3 uint64, p4
 			p4 = j0
 			p0 = l8 - p3
 			l9 = l11 - l10
-			j0 = m.f125(l6, p4, p2, 4611686018427409040, 1, l10+l13, l9)
+			j0 = m.f118(l6, p4, p2, 4611686018427409528, 1, l10+l13, l9)
 			l7 = j0
 			p4 = l7 + l10
 			l6 = p3 + l6
@@ -29920,7 +29540,7 @@ func (m *memory) cvss_temporal_with_impact(p0 uint64, p1 uint64, p2 uint64, p3 u
 			goto B2
 		}
 		m.f18(l4-18446744073709551552, l5, uint64(int64(l5)>>63), 1000000000000, 0)
-		m.f116(l4+80, p0+select64(b32(p0 == 0), 4096, 0), p1)
+		m.f109(l4+80, p0+select64(b32(p0 == 0), 4096, 0), p1)
 		if m.i32_load8_u(l4+80) != 1 {
 			goto B2
 		}
@@ -29998,7 +29618,7 @@ func (m *memory) cvss_values(p0 uint64, p1 uint64, p2 uint32, p3 uint64) uint32 
 		if m.i32_load(p3) < 272 {
 			goto B3
 		}
-		m.f108(l4+8, p0+select64(b32(p0 == 0), 4096, 0), p1, p2)
+		m.f101(l4+8, p0+select64(b32(p0 == 0), 4096, 0), p1, p2)
 		if m.i32_load8_u(l4+8) != 1 {
 			goto B3
 		}
@@ -30009,10 +29629,10 @@ func (m *memory) cvss_values(p0 uint64, p1 uint64, p2 uint32, p3 uint64) uint32 
 		p2 = m.i32_load(p3)
 		i0 = m.f39(l4 + 96)
 		l36 = i0
-		l37 = m.i32_load(((uint64(l35) & 255) << 2) + 4611686018427412784)
+		l37 = m.i32_load(((uint64(l35) & 255) << 2) + 4611686018427413528)
 		l35 = 4294967295
 		if m.i32_load8_u(l4+96) == 3 {
-			i0 = m.f81(l4 + 104)
+			i0 = m.f76(l4 + 104)
 			l35 = i0 & 255
 			i0 = l35
 		}
@@ -30097,20 +29717,20 @@ func (m *memory) cvss_values(p0 uint64, p1 uint64, p2 uint32, p3 uint64) uint32 
 			goto B9
 		}
 	B9:
-		m.f126(l4+888, p0, 2)
-		m.f126(l4+880, p0, 1)
-		m.f126(l4+872, p0, 3)
-		m.f126(l4+864, p0, 4)
-		m.f126(l4+856, p0, 5)
-		m.f126(l4+848, p0, 0)
-		m.f126(l4+840, p0, 6)
-		m.f126(l4+832, p0, 7)
-		m.f126(l4+824, p0, 8)
-		m.f126(l4+816, p0, 9)
-		m.f126(l4+808, p0, 10)
-		m.f126(l4+800, p0, 11)
-		m.f126(l4+792, p0, 12)
-		m.f126(l4+784, p0, 13)
+		m.f119(l4+888, p0, 2)
+		m.f119(l4+880, p0, 1)
+		m.f119(l4+872, p0, 3)
+		m.f119(l4+864, p0, 4)
+		m.f119(l4+856, p0, 5)
+		m.f119(l4+848, p0, 0)
+		m.f119(l4+840, p0, 6)
+		m.f119(l4+832, p0, 7)
+		m.f119(l4+824, p0, 8)
+		m.f119(l4+816, p0, 9)
+		m.f119(l4+808, p0, 10)
+		m.f119(l4+800, p0, 11)
+		m.f119(l4+792, p0, 12)
+		m.f119(l4+784, p0, 13)
 		m.i64_store(l4+896, m.i64_load(l4+888))
 		m.i64_store(l4+904, m.i64_load(l4+880))
 		m.i64_store(l4+912, m.i64_load(l4+872))
@@ -30126,42 +29746,42 @@ func (m *memory) cvss_values(p0 uint64, p1 uint64, p2 uint32, p3 uint64) uint32 
 		m.i64_store(l4+992, m.i64_load(l4+792))
 		m.i64_store(l4+1000, m.i64_load(l4+784))
 		m.memory_fill(l4+1008, 0, 256)
-		m.f129(l4+896, 14, l4+1008)
+		m.f122(l4+896, 14, l4+1008)
 		goto B6
 	B8:
 		p0 = l4 + 104
-		m.f127(l4+776, p0, 2)
-		m.f127(l4+768, p0, 0)
-		m.f127(l4+760, p0, 1)
-		m.f127(l4+752, p0, 3)
-		m.f127(l4+744, p0, 7)
-		m.f127(l4+736, p0, 9)
-		m.f127(l4+728, p0, 10)
-		m.f127(l4+720, p0, 8)
-		m.f127(l4+712, p0, 5)
-		m.f127(l4+704, p0, 6)
-		m.f127(l4+696, p0, 4)
-		m.f127(l4+688, p0, 11)
-		m.f127(l4+680, p0, 13)
-		m.f127(l4+672, p0, 14)
-		m.f127(l4+664, p0, 12)
-		m.f127(l4+656, p0, 17)
-		m.f127(l4+648, p0, 15)
-		m.f127(l4+640, p0, 16)
-		m.f127(l4+632, p0, 18)
-		m.f127(l4+624, p0, 22)
-		m.f127(l4+616, p0, 24)
-		m.f127(l4+608, p0, 25)
-		m.f127(l4+600, p0, 23)
-		m.f127(l4+592, p0, 20)
-		m.f127(l4+584, p0, 21)
-		m.f127(l4+576, p0, 19)
-		m.f127(l4+568, p0, 29)
-		m.f127(l4+560, p0, 26)
-		m.f127(l4+552, p0, 27)
-		m.f127(l4+544, p0, 31)
-		m.f127(l4+536, p0, 28)
-		m.f127(l4+528, p0, 30)
+		m.f120(l4+776, p0, 2)
+		m.f120(l4+768, p0, 0)
+		m.f120(l4+760, p0, 1)
+		m.f120(l4+752, p0, 3)
+		m.f120(l4+744, p0, 7)
+		m.f120(l4+736, p0, 9)
+		m.f120(l4+728, p0, 10)
+		m.f120(l4+720, p0, 8)
+		m.f120(l4+712, p0, 5)
+		m.f120(l4+704, p0, 6)
+		m.f120(l4+696, p0, 4)
+		m.f120(l4+688, p0, 11)
+		m.f120(l4+680, p0, 13)
+		m.f120(l4+672, p0, 14)
+		m.f120(l4+664, p0, 12)
+		m.f120(l4+656, p0, 17)
+		m.f120(l4+648, p0, 15)
+		m.f120(l4+640, p0, 16)
+		m.f120(l4+632, p0, 18)
+		m.f120(l4+624, p0, 22)
+		m.f120(l4+616, p0, 24)
+		m.f120(l4+608, p0, 25)
+		m.f120(l4+600, p0, 23)
+		m.f120(l4+592, p0, 20)
+		m.f120(l4+584, p0, 21)
+		m.f120(l4+576, p0, 19)
+		m.f120(l4+568, p0, 29)
+		m.f120(l4+560, p0, 26)
+		m.f120(l4+552, p0, 27)
+		m.f120(l4+544, p0, 31)
+		m.f120(l4+536, p0, 28)
+		m.f120(l4+528, p0, 30)
 		p0 = m.i64_load(l4 + 528)
 		p1 = m.i64_load(l4 + 536)
 		l5 = m.i64_load(l4 + 544)
@@ -30197,28 +29817,28 @@ func (m *memory) cvss_values(p0 uint64, p1 uint64, p2 uint32, p3 uint64) uint32 
 		goto B5
 	B7:
 		p0 = l4 + 104
-		m.f128(l4+344, p0, 2)
-		m.f128(l4+336, p0, 1)
-		m.f128(l4+328, p0, 5)
-		m.f128(l4+320, p0, 7)
-		m.f128(l4+312, p0, 6)
-		m.f128(l4+304, p0, 3)
-		m.f128(l4+296, p0, 4)
-		m.f128(l4+288, p0, 0)
-		m.f128(l4+280, p0, 8)
-		m.f128(l4+272, p0, 9)
-		m.f128(l4+264, p0, 10)
-		m.f128(l4+256, p0, 11)
-		m.f128(l4+248, p0, 12)
-		m.f128(l4+240, p0, 13)
-		m.f128(l4+232, p0, 14)
-		m.f128(l4+224, p0, 15)
-		m.f128(l4+216, p0, 16)
-		m.f128(l4+208, p0, 17)
-		m.f128(l4+200, p0, 18)
-		m.f128(l4+192, p0, 19)
-		m.f128(l4+184, p0, 20)
-		m.f128(l4+176, p0, 21)
+		m.f121(l4+344, p0, 2)
+		m.f121(l4+336, p0, 1)
+		m.f121(l4+328, p0, 5)
+		m.f121(l4+320, p0, 7)
+		m.f121(l4+312, p0, 6)
+		m.f121(l4+304, p0, 3)
+		m.f121(l4+296, p0, 4)
+		m.f121(l4+288, p0, 0)
+		m.f121(l4+280, p0, 8)
+		m.f121(l4+272, p0, 9)
+		m.f121(l4+264, p0, 10)
+		m.f121(l4+256, p0, 11)
+		m.f121(l4+248, p0, 12)
+		m.f121(l4+240, p0, 13)
+		m.f121(l4+232, p0, 14)
+		m.f121(l4+224, p0, 15)
+		m.f121(l4+216, p0, 16)
+		m.f121(l4+208, p0, 17)
+		m.f121(l4+200, p0, 18)
+		m.f121(l4+192, p0, 19)
+		m.f121(l4+184, p0, 20)
+		m.f121(l4+176, p0, 21)
 		m.i64_store(l4+352, m.i64_load(l4+344))
 		m.i64_store(l4+360, m.i64_load(l4+336))
 		m.i64_store(l4+368, m.i64_load(l4+328))
@@ -30242,7 +29862,7 @@ func (m *memory) cvss_values(p0 uint64, p1 uint64, p2 uint32, p3 uint64) uint32 
 		m.i64_store(l4+512, m.i64_load(l4+184))
 		m.i64_store(l4+520, m.i64_load(l4+176))
 		m.memory_fill(l4+1008, 0, 256)
-		m.f129(l4+352, 22, l4+1008)
+		m.f122(l4+352, 22, l4+1008)
 	B6:
 		p0 = m.i64_load(l4 + 1256)
 		p1 = m.i64_load(l4 + 1248)
@@ -30412,12 +30032,12 @@ func (m *memory) cvss_with_metrics(p0 uint64, p1 uint64, p2 uint64, p3 uint64, p
 		p4 = b32(p1 != 0)
 		m.i64_store(l8+856, select64(p4, p2, 0))
 		m.i64_store(l8+848, uint64(p4))
-		m.f96(l8+872, l8+848, l8+776)
+		m.f89(l8+872, l8+848, l8+776)
 		p2 = m.i64_load8_u(l8 + 872)
 		if p2 == 0 {
 			p1 = 0
 			m.i64_store(l8+752, 0)
-			m.f130(l8+720, (l8+872)|1, p0, l8+752)
+			m.f123(l8+720, (l8+872)|1, p0, l8+752)
 			m.i64_store(l8+952, 0)
 			m.i64_store(l8+960, 0)
 			m.i64_store(l8+968, 0)
@@ -30475,10 +30095,10 @@ func (m *memory) cvss_with_metrics(p0 uint64, p1 uint64, p2 uint64, p3 uint64, p
 		m.i64_store(l8+712, m.i64_load(l8+976))
 		goto B5
 	B8:
-		m.f132(l8+632, l8+560, m.i64_load(l8+560), 0, p2, p1)
+		m.f125(l8+632, l8+560, m.i64_load(l8+560), 0, p2, p1)
 		goto B5
 	B7:
-		m.f132(l8+632, l8+560, m.i64_load(l8+560), 1, p2, p1)
+		m.f125(l8+632, l8+560, m.i64_load(l8+560), 1, p2, p1)
 		goto B5
 	B6:
 		p3 = m.i64_load(l8 + 560)
@@ -30497,11 +30117,11 @@ func (m *memory) cvss_with_metrics(p0 uint64, p1 uint64, p2 uint64, p3 uint64, p
 		p4 = b32(p1 != 0)
 		m.i64_store(l8+856, select64(p4, p2, 0))
 		m.i64_store(l8+848, uint64(p4))
-		m.f102(l8+872, l8+848, l8+952)
+		m.f95(l8+872, l8+848, l8+952)
 		l11 = m.i64_load8_u(l8 + 872)
 		if l11 == 0 {
 			m.i64_store(l8+752, 0)
-			m.f134(l8+776, l8+880, l8+560, l8+752)
+			m.f127(l8+776, l8+880, l8+560, l8+752)
 			m.i64_store(l8+720, m.i64_load(l8+816))
 			m.i64_store(l8+728, m.i64_load(l8+824))
 			m.i64_store(l8+736, m.i64_load(l8+832))
@@ -30606,7 +30226,7 @@ func (m *memory) cvss_with_metrics(p0 uint64, p1 uint64, p2 uint64, p3 uint64, p
 			m.i64_store(l8+528, m.i64_load(l8+232))
 			m.i64_store(l8+536, m.i64_load(l8+240))
 			m.i64_store(l8+544, m.i64_load(l8+248))
-			m.f104(l8+136, l8+472, l15)
+			m.f97(l8+136, l8+472, l15)
 			l14 = m.i32_load8_u(l8 + 154)
 			l13 = m.i32_load8_u(l8 + 153)
 			l12 = m.i32_load8_u(l8 + 152)
@@ -30709,7 +30329,7 @@ B2:
 	m.i64_store(l8+43, m.i64_load(l8+304))
 	m.i64_store(l8+51, m.i64_load(l8+312))
 B1:
-	j0 = m.f105(l8+8, p5, p6+select64(b32(p6 == 0), 4096, 0), p7)
+	j0 = m.f98(l8+8, p5, p6+select64(b32(p6 == 0), 4096, 0), p7)
 	p6 = j0
 	m.stackPointer = l8 + 1024
 	p7 = p6
@@ -30767,7 +30387,7 @@ func (m *memory) cvss_without_not_defined(p0 uint64, p1 uint64, p2 uint32, p3 ui
 		m.i64_store(l6+624, 0)
 		m.i64_store(l6+616, 0)
 		m.i64_store(l6+608, 0)
-		m.f110(l6+608, p0, m.i32_load8_u(p4+4611686018427389575))
+		m.f103(l6+608, p0, m.i32_load8_u(p4+4611686018427389575))
 		if m.i32_load8_u(l6+608) == 1 {
 			if m.i64_load(l6+624) != 2 {
 				goto B10
@@ -30797,7 +30417,7 @@ func (m *memory) cvss_without_not_defined(p0 uint64, p1 uint64, p2 uint32, p3 ui
 		m.i64_store(l6+600, 2)
 		m.i64_store(l6+592, 4611686018427389546)
 		m.i64_store(l6+584, 1)
-		m.f130(l6+680, l6+608, p0, l6+584)
+		m.f123(l6+680, l6+608, p0, l6+584)
 		m.i32_store(l6+328, m.i32_load(l6+704))
 		m.i64_store(l6+320, m.i64_load(l6+696))
 		m.i64_store(l6+312, m.i64_load(l6+688))
@@ -30809,11 +30429,11 @@ func (m *memory) cvss_without_not_defined(p0 uint64, p1 uint64, p2 uint32, p3 ui
 		m.i32_store(l6+528, m.i32_load(l6+328))
 		goto B4
 	B7:
-		m.f135(l6+440, l6+232, m.i64_load(l6+232))
+		m.f128(l6+440, l6+232, m.i64_load(l6+232))
 		m.memory_copy(l6+511, l6+440, 64)
 		goto B4
 	B6:
-		m.f135(l6+376, l6+232, m.i64_load(l6+232))
+		m.f128(l6+376, l6+232, m.i64_load(l6+232))
 		m.memory_copy(l6+511, l6+376, 64)
 		goto B4
 	B5:
@@ -30826,7 +30446,7 @@ func (m *memory) cvss_without_not_defined(p0 uint64, p1 uint64, p2 uint32, p3 ui
 		m.i64_store(l6+624, 0)
 		m.i64_store(l6+616, 0)
 		m.i64_store(l6+608, 0)
-		m.f113(l6+608, p0, m.i32_load8_u(p4+4611686018427397872))
+		m.f106(l6+608, p0, m.i32_load8_u(p4+4611686018427397872))
 		if m.i32_load8_u(l6+608) == 1 {
 			if m.i64_load(l6+624) != 1 {
 				goto B14
@@ -30847,7 +30467,7 @@ func (m *memory) cvss_without_not_defined(p0 uint64, p1 uint64, p2 uint32, p3 ui
 		m.i64_store(l6+600, 1)
 		m.i64_store(l6+592, 4611686018427397872)
 		m.i64_store(l6+584, 1)
-		m.f134(l6+680, l6+608, p0, l6+584)
+		m.f127(l6+680, l6+608, p0, l6+584)
 		m.memory_copy(l6+304, l6+680, 72)
 	B13:
 		m.memory_copy(l6+511, l6+304, 72)
@@ -30861,7 +30481,7 @@ func (m *memory) cvss_without_not_defined(p0 uint64, p1 uint64, p2 uint32, p3 ui
 			m.i64_store(p3+28, 0)
 			m.i32_store(p3+36, 0)
 		}
-		j0 = m.f106(l6+56, l8, p5)
+		j0 = m.f99(l6+56, l8, p5)
 		goto B1
 	}
 	panic("cvss: unreachable")
@@ -30873,7 +30493,7 @@ B2:
 	m.i64_store(l6+32, m.i64_load(l6+160))
 	m.i64_store(l6+40, m.i64_load(l6+168))
 	m.i64_store(l6+48, m.i64_load(l6+176))
-	j0 = m.f86(l6+8, p3, l8, p5)
+	j0 = m.f79(l6+8, p3, l8, p5)
 B1:
 	p4 = j0
 	m.stackPointer = l6 + 752

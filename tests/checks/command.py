@@ -40,7 +40,7 @@ def expect(status, out, error, *arguments, given=b"", **streams):
 def assert_fits(text):
     """A help text fits a screen."""
     rows = text.decode().splitlines()
-    assert len(rows) <= 25 and max(map(len, rows)) <= 80, text
+    assert len(rows) <= 24 and max(map(len, rows)) <= 80, text
 
 
 def try_arguments():
@@ -48,12 +48,14 @@ def try_arguments():
     for topic in [line.split()[0].decode() for line in usage.splitlines() if re.match(rb"  [a-z]+  ", line)]:
         text = subprocess.run([PROGRAM, "help", topic], stdout=subprocess.PIPE, check=True).stdout
         assert re.search(f"^  (.* )?cvss {topic} ".encode(), text, re.MULTILINE), f"no example of {topic}"
-        expect(0, text, b"", topic, "--help")
+        for asked in (["--help"], ["-h"], ["a/b", "-h"]):
+            expect(0, text, b"", topic, *asked)
         assert_fits(text)
     assert_fits(usage)
-    expect(0, usage, b"", "help")
-    expect(0, usage, b"", "help", "help")
-    expect(0, f"cvss {(ROOT / 'VERSION').read_text().strip()}\n".encode(), b"", "--version")
+    for asked in (["help"], ["help", "help"], ["help", "version"], ["-h"]):
+        expect(0, usage, b"", *asked)
+    for asked in ("--version", "-V", "version"):
+        expect(0, f"cvss {(ROOT / 'VERSION').read_text().strip()}\n".encode(), b"", asked)
     expect(2, b"", usage)
 
 
@@ -63,7 +65,8 @@ def try_usage_errors():
     for arguments, problem, topic in (
             (["scores"], "unknown command 'scores'", None), ([b"a\n"], "unknown command 'a\n'", None),
             (["-"], "unknown command '-'", None), (["--helper"], "unknown option '--helper'", None),
-            (["-h"], "unknown option '-h'", None), (["--version", "x"], "unexpected argument 'x'", None),
+            (["-v"], "unknown option '-v'", None), (["--version", "x"], "unexpected argument 'x'", None),
+            (["version", "-V"], "unexpected argument '-V'", None), (["-h", "-h"], "unexpected argument '-h'", None),
             (["--help", "score"], "unexpected argument 'score'", None), (["help", "x"], "unknown command 'x'", None),
             (["help", "set", "y", "z"], "unexpected argument 'y'", None),
             (["score", "--min", "x"], "unknown option '--min'", "score"),
@@ -73,9 +76,19 @@ def try_usage_errors():
             (["triage", "--base", "--min", "x"], "unknown option '--min'", "triage"),
             (["triage", "--set"], "option '--set' needs a value", "triage"),
             (["triage", "--keep-going", "--profile"], "option '--profile' needs a value", "triage"),
+            (["triage", V2, "--set"], "option '--set' needs a value", "triage"),
+            (["find", "gone", "--assume"], "option '--assume' needs a value", "find"),
+            (["find", "gone", "--assume", "3.2"], "unknown version '3.2'", "find"),
+            (["find", "--assume=", "gone"], "unknown version ''", "find"),
+            (["score", V2, "--min", "--max"], "unknown option '--min'", "score"),
+            (["score", "--json=x", V2], "unknown option '--json=x'", "score"),
+            (["score", V2, "--min=--json"], "unknown option '--min=--json'", "score"),
             (["set"], "no metric to set", "set"), (["set", "--", "x"], "no metric to set", "set"),
+            (["set", BASE], "no metric to set", "set"), (["set", "--", "E:A"], "no metric to set", "set"),
+            (["set", "E:", BASE], "'E:' is not METRIC:VALUE", "set"), (["set", ":A"], "':A' is not METRIC:VALUE", "set"),
+            (["set", BASE, "E:A", ""], "'' is not METRIC:VALUE", "set"), (["set", "list"], "'list' is not METRIC:VALUE", "set"),
             (["set", "--base", "--allow-incomplete", "--", V2], "no metric to set", "set"),
-            (["set", b"E:\xff"], "a metric is not UTF-8", "set"), (["set", "E:A", b"\xff"], "a metric is not UTF-8", "set"),
+            (["set", b"E:\xff"], "a metric is not UTF-8", "set"), (["set", "E:A", b"\xff:A"], "a metric is not UTF-8", "set"),
             (["score", "--base", "--json"], "--base" + all_scores, "score"),
             (["score", "--json", "--tsv", "--base"], "--base" + all_scores, "score"),
             (["score", "--tsv", "--base", V2], "--base" + all_scores.replace("json", "tsv"), "score"),
@@ -98,6 +111,29 @@ def try_base():
     expect(0, b"9.8 critical " + all_metrics + b"\t" + all_metrics + b"\n", b"", "triage", "--base", all_metrics)
     expect(0, V4 + b"/E:P 7.8 high\n", b"", "score", V4 + b"/E:P")
     expect(0, V4 + b"/E:P 8.8 high\n", b"", "score", "--base", V4 + b"/E:P")
+
+
+def try_order(room):
+    """Options among and after vectors and files, and what `--` ends."""
+    (room / "list").write_bytes(BASE + b"\n" + V2)
+    scored, scored_v2 = BASE + b" 9.8 critical\n", V2 + b" 7.8 high\n"
+    for arguments in ([V2, "--base", BASE], [V2, BASE, "--base"], ["--base", V2, "--", BASE], [V2, "--base", "--", BASE]):
+        expect(0, scored_v2 + scored, b"", "score", *arguments)
+    expect(2, scored_v2, b"cvss: --base" + NO_FILE, "score", V2, "--", "--base", cwd=room)
+    expect(2, scored_v2, b"cvss: --" + NO_FILE, "score", "--", V2, "--", cwd=room)
+    done = subprocess.run([PROGRAM, "score", V2, "--json"], capture_output=True, check=True)
+    assert done.stdout.startswith(b'{"given":"' + V2 + b'"'), done
+    changed = BASE + b"/E:P 9.3 critical\n"
+    for arguments in (["E:P", BASE], [BASE, "E:P"], ["E:P", "--", BASE], ["E:P", "-"], ["E:P"]):
+        expect(0, changed, b"", "set", *arguments, given=BASE)
+    expect(0, BASE + b"/E:P 9.8 critical\n", b"", "set", BASE, "--base", "E:P")
+    ranked = b"9.3 critical " + BASE + b"/E:P\t" + BASE + b"\n"
+    for arguments in ([BASE, "--set", "E:P"], ["--set=E:P", BASE], [BASE, "--set=E:P"], [BASE, "--set=E:U", "--set", "E:P"]):
+        expect(0, ranked, b"", "triage", *arguments)
+    expect(2, b"", b"cvss: no CVSS version has --\n", "triage", BASE, "--set", "--")
+    bare = BASE.partition(b"/")[2]
+    for arguments in (["--assume", "3.1"], ["--assume=3.1"], ["--assume=3.0", "-", "--assume", "3.1"]):
+        expect(0, b"1:1 " + scored, b"", "find", *arguments, given=bare)
 
 
 def try_incomplete():
@@ -217,7 +253,9 @@ def try_completion():
     assert complete_words("sc") == ["score"] and complete_words("help", "se") == ["set"]
     assert complete_words("score", "--a") == ["--allow-incomplete"] and "--tsv" in complete_words("score", "--")
     assert complete_words("set", "--b") == ["--base"] and "--base" not in complete_words("explain", "--")
-    assert complete_words("score", "VERS") == ["VERSION"]
+    assert complete_words("score", "VERS") == ["VERSION"] and set(complete_words("-")) == {"-h", "-V", "--help", "--version"}
+    for words in (["--assume", ""], ["--assume", "="], ["--assume", "=", "3"]):
+        assert complete_words("find", *words) == ["3.0", "3.1"], words
     usage = subprocess.run([PROGRAM, "help"], stdout=subprocess.PIPE, text=True, check=True).stdout
     commands = re.findall(r"^  ([a-z]+)  ", usage, re.MULTILINE)
     zsh, fish = ((ROOT / "bindings/completion" / name).read_text() for name in ("_cvss", "cvss.fish"))
@@ -243,6 +281,7 @@ def main():
         try_incomplete()
         try_hints()
         try_notes()
+        try_order(room)
         try_operands(room)
         try_long_names(room)
         try_help(room)

@@ -27,10 +27,10 @@ HEADER = "\t".join(rows.COLUMNS).encode() + b"\n"
 CUT = b"CVSS:3.1/AV:N/AC:L/PR:N/UI:N/S:U/C:H"
 ODD = [b"", b"a\tb\\c\rd:e/f", b'x:"\x01\x1f\x7f/AV:N', b"\xff\t\\", "AV:\u00e9/AC:L".encode(), CUT]
 # Metrics by hand, and how drawn ones are made wrong.
-METRICS = (["E:U"], ["E:A", "MAV:L"], ["c:h", "i:H", "A:N"], ["RL:OF"], ["MSI:S", "CR:H", "CR:L"], ["Q"],
-           ["S:C/PR:L"], ["E:U", ""])
+METRICS = (["E:U"], ["E:A", "MAV:L"], ["c:h", "i:H", "A:N"], ["RL:OF"], ["MSI:S", "CR:H", "CR:L"], ["Q:Q"],
+           ["S:C", "PR:L"])
 FLAGS = (), (), ("--base",), ("--allow-incomplete", "--base"), ("--base", "--allow-incomplete")
-WRONG = "", "x", ":", "E:", ":A", "E:Q", "E::U", "CVSS:3.1", "E:\u00dc", "/", "AV:N/", "e"
+WRONG = "x:y", "E:Q", "E::U", "CVSS:3.1", "E:\u00dc"
 AT_ONCE = 5_000
 
 
@@ -93,9 +93,9 @@ def metrics(draw):
     words = []
     for _ in range(draw.choice((1, 1, 1, 2, 3, 6))):
         _, parts = lines.components(draw, draw.choice(list(lines.VERSIONS)), 1)
-        word = "/".join(draw.sample(parts, draw.choice((1, 1, 1, 2))))
-        chance = draw.random()
-        words.append(draw.choice(WRONG) if chance < 0.06 else lines.in_some_case(draw, word) if chance < 0.25 else word)
+        for word in draw.sample(parts, draw.choice((1, 1, 1, 2))):
+            chance = draw.random()
+            words.append(draw.choice(WRONG) if chance < 0.06 else lines.in_some_case(draw, word) if chance < 0.25 else word)
     return words
 
 

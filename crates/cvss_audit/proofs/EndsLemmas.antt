@@ -5,7 +5,7 @@ use Rattle.std.specs.Io.KnownBytes.{Consumes}
 use Rattle.cvss_lines.specs.declared.fault.RunFault.{RunFault}
 use Rattle.cvss_lines.specs.declared.summary.Summary.{Summary}
 use Rattle.cvss_audit.specs.Files.{AnswersBy, Are, AreByLine, HasFirstText, IsBeginning, is_by_line, is_json}
-use Rattle.cvss_program.specs.Operands.{Ending}
+use Rattle.cvss_frame.specs.Operands.{Ending}
 use Rattle.cvss_audit.proofs.FilesLemmas.{first_text_settled}
 
 -- what is read again is what was there

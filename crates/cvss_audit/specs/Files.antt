@@ -6,7 +6,7 @@ use Rattle.cvss_audit.specs.Answers.{BeginsLine, IsLineAnswer, is_blank}
 use Rattle.cvss_audit.specs.Inputs.{Input}
 use Rattle.cvss_audit.specs.Whole.{WholeEnds}
 use Rattle.cvss_lines.specs.Streaming.{StreamEnds}
-use Rattle.cvss_program.specs.Operands.{Ending}
+use Rattle.cvss_frame.specs.Operands.{Ending}
 use Rattle.cvss_lines.specs.declared.fault.RunFault.{RunFault}
 use Rattle.cvss_lines.specs.declared.fault.RunFault.TheVariants.{Read, Memory}
 use Rattle.cvss_lines.specs.declared.summary.Summary.{Summary}

@@ -2,7 +2,7 @@
 use Rattle.std.specs.Prelude.{ℕ, Bool, List, [], ◌∷◌, length, take, if◌then◌else◌, Option, Some, None}
 use Rattle.std.specs.Str.{is_utf8}
 use Rattle.cvss_lines.specs.Streaming.{StreamEnds}
-use Rattle.cvss_program.specs.Operands.{Ending, Endings}
+use Rattle.cvss_frame.specs.Operands.{Ending, Endings}
 use Rattle.cvss_audit.specs.Answers.{BeginsLine, IsLineAnswer}
 use Rattle.cvss_audit.specs.Files.{FileEnds}
 use Rattle.cvss_audit.specs.Inputs.{Input}

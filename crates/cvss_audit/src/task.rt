@@ -7,8 +7,8 @@ use crate::documents::Documents;
 use crate::files::answer_file;
 use crate::input::Input;
 use crate::whole::answer_whole;
+use cvss_frame::Task;
 use cvss_lines::{RunFault, Summary, serve};
-use cvss_program::Task;
 use std::alloc::Global;
 use std::io::{Read, Write};
 

@@ -7,8 +7,8 @@ ghost use Rattle.cvss_audit.specs.private.Writing.{summary_of_one};
 
 use crate::answer::answer_text;
 use crate::input::Input;
+use cvss_frame::read_whole;
 use cvss_lines::{OutputBuffer, RunFault, Summary, write_whole};
-use cvss_program::read_whole;
 use std::alloc::Global;
 use std::io::{Read, Write};
 

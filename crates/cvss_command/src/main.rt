@@ -2,7 +2,7 @@
 //! subcommand for each thing that it does.
 #![tactic(auto)]
 
-use cvss_program::{Report, SystemFiles, WatchedReader, WatchedWriter, arguments};
+use cvss_frame::{Streams, arguments};
 use cvss_subcommands::run;
 use std::process::ExitCode;
 
@@ -10,9 +10,6 @@ fn main(rt: HostRuntime) -> ExitCode {
     ExitCode::from(run(
         rt.alloc(),
         arguments(rt.alloc(), &rt),
-        &SystemFiles { runtime: &rt },
-        &mut WatchedReader::new(rt.stdin()),
-        &mut WatchedWriter::new(rt.stdout()),
-        &mut Report::new(rt.stderr()),
+        &mut Streams::of_system(&rt),
     ))
 }

@@ -1,10 +1,9 @@
 -- The nearest ten millionths are near.
-use Rattle.std.proofs.Common.{◌≡◌, ◌<◌, ℤ, arith}
+use Rattle.std.proofs.Common.{◌≡◌, ◌*◌, ◌^◌, ◌<◌, ℤ, pos, ◌*ℤ◌, arith, lit<}
 use Rattle.std.proofs.lemmas.Int.{ints}
 use Rattle.cvss_base.proofs.ExactLemmas.{at_most_below, below_at_most, equal_at_most, equal_sym, equal_trans, sum_at_most}
 use Rattle.cvss_base.specs.Exact.{Exact, of_count, ◌over◌, ◌⊕◌, ◌≈◌}
-use Rattle.cvss_explain.specs.Near.{AreNearest, IsNear, IsTenth, ten_millionths}
-use Rattle.cvss_base.specs.Tenths.{IsInTenths}
+use Rattle.cvss_explain.specs.Near.{AreNearest, IsNear, ten_millionths}
 
 -- the ten millionths of the only count that is so many of them
 settled : (c k m : ℤ) → AreNearest c k → of_count c ≈ ten_millionths m → k ≡ m
@@ -26,10 +25,8 @@ near_equal n c k some same nearest =
       exact = λ m is. settled c k m nearest (equal_trans some same is);
     }
 
--- a count of tenths is reported as these tenths
-pub tenth_reported : (IsNumber : ℤ → Type 0) (c k : ℤ) → IsInTenths IsNumber c → AreNearest c k → IsTenth IsNumber k
-tenth_reported IsNumber c k reported nearest = record {
-  tenths = reported.number;
-  is_number = reported.is_number;
-  is = omega (arith, ints, nearest.not_above, nearest.not_below, reported.is_count);
-}
+-- ten millionths that are the number are near to it
+pub near_itself : (n : Exact) (k : ℤ) → 0 < n.bottom → ten_millionths k ≈ n → IsNear n k
+near_itself n k some same =
+    near_equal n (k *ℤ pos (10 ^ 17)) k some (equal_trans (lit< tt) (record { equal = omega (arith, ints) }) same)
+    (record { not_above = omega (arith, ints); not_below = omega (arith, ints) })

@@ -1,11 +1,14 @@
-pub mod Explanation
 pub mod Decimal
+pub mod Explanation
+pub mod Json
 pub mod LettersV4
+pub mod Lines
 pub mod Near
-pub mod NumbersV2
-pub mod NumbersV3
 pub mod Parts
+pub mod Steps
+pub mod Text
 pub mod V2
 pub mod V3
 pub mod V4
+pub mod WhatIf
 pub mod private

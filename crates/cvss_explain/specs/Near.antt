@@ -1,5 +1,5 @@
 -- Numbers of at most seven places that are near to exact ones.
-use Rattle.std.specs.Prelude.{◌≡◌, ℕ, ◌*◌, ◌^◌, ℤ, pos, ◌+ℤ◌, ◌*ℤ◌, ◌≤ℤ◌, ◌<ℤ◌}
+use Rattle.std.specs.Prelude.{◌≡◌, ◌*◌, ◌^◌, ℤ, pos, ◌+ℤ◌, ◌*ℤ◌, ◌≤ℤ◌, ◌<ℤ◌, Bool, false}
 use Rattle.cvss_base.specs.Exact.{Exact, ratio, ◌over◌, ◌⊕◌, ◌≈◌, ◌⊏◌}
 
 -- so many ten millionths
@@ -21,12 +21,19 @@ pub record IsNear (x : Exact) (count : ℤ) : Type 0 where
   pub within : IsWithinMillionth x count
   pub exact : (n : ℤ) → x ≈ ten_millionths n → count ≡ n
 
+-- a number that has a power where the scope is changed is reported
+pub record IsNearBy (changed : Bool) (x : Exact) (reported : ℤ) : Type 0 where
+  pub within : IsWithinMillionth x reported
+  pub near : changed ≡ false → IsNear x reported
+
+-- the number that is made of tenths is reported, of which this holds
+pub record IsNearOf (IsTenths : ℤ → Type 0) (number : ℤ → Exact) (reported : ℤ) : Type 0 where
+  pub tenths : ℤ
+  pub are_tenths : IsTenths tenths
+  pub near : IsNear (number tenths) reported
+
 -- such a number of tenths is reported in ten millionths
 pub record IsTenth (IsNumber : ℤ → Type 0) (reported : ℤ) : Type 0 where
   pub tenths : ℤ
   pub is_number : IsNumber tenths
   pub is : reported ≡ tenths *ℤ pos 1_000_000
-
--- a score of so many tenths, as a count of 10^-24
-abbrev pub count_of : ℕ → ℤ
-count_of tenths = pos (tenths * 10 ^ 23)

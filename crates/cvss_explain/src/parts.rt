@@ -3,22 +3,20 @@
 ghost use Rattle.std.specs.Prelude.{◌≡◌, ◌+◌, ◌≤◌, ◌++◌, [], length, unwrap_or};
 ghost use Rattle.cvss_vector.specs.Answers.{severity_by, score_of_tenths};
 ghost use Rattle.cvss_base.specs.SeverityText.{text_of as severity_text};
-ghost use Rattle.cvss_explain.specs.private.Values.{members_view, part_member, part_room, value_room, value_text};
-ghost use Rattle.cvss_json.specs.Json.{object_text};
-ghost use Rattle.cvss_json.specs.Scalars.{member_room, rooms};
+ghost use Rattle.cvss_explain.specs.private.Values.{part_member, part_room, value_room, value_text};
 
 use crate::groups::{levels, put_groups};
-use crate::v2::numbers as numbers_v2;
-use crate::v3::numbers as numbers_v3;
+use crate::object::{Entry, Table};
+use crate::step::Step;
+use crate::v2::{METRICS, Weights};
 use crate::v4::{EFFECTIVE, Letters};
-use crate::{v2, v3};
 use cvss_base::TENTH;
 use cvss_json::{Member, Members, Page, Scalar, Scalars, put_name, put_object};
 use cvss_report::put_vector;
 use cvss_score::v4::scoring::classes::MacroVector;
 use cvss_score::v4::scoring::effective::Effective;
-use cvss_vector::Cvss;
 use cvss_vector::v4::Explanation;
+use cvss_vector::{Cvss, v2};
 
 /// What a member says: of the vector, or of numbers that are made of it.
 #[derive(Clone, Copy)]
@@ -34,16 +32,12 @@ pub(crate) enum Value<'v> {
     Text,
     /// The vector's version.
     Version,
-    /// The numbers of the scores of CVSS v2, and what each metric weighs.
-    BaseV2(numbers_v2::BaseNumbers),
-    TemporalV2(numbers_v2::TemporalNumbers),
-    EnvironmentalV2(numbers_v2::EnvironmentalNumbers),
-    WeightsV2(&'v cvss_vector::v2::Vector),
-    /// The numbers of the scores of CVSS v3, and what each metric weighs.
-    BaseV3(numbers_v3::BaseNumbers),
-    TemporalV3(numbers_v3::Scored),
-    EnvironmentalV3(numbers_v3::EnvironmentalNumbers),
-    WeightsV3(&'v cvss_vector::v3::Vector),
+    /// Steps to a score, by these entries.
+    Steps(&'v [Step], &'static [Entry]),
+    /// Members whose values are scalars.
+    Scalars(&'v [Member<'static>]),
+    /// What each metric of CVSS v2 weighs.
+    WeightsV2(v2::Vector),
     /// The letters of effective values.
     Letters(Effective),
     /// What each group of metrics of CVSS v4.0 contributes.
@@ -55,11 +49,11 @@ pub(crate) type Part<'v> = (&'static str, Value<'v>);
 
 /// The vector that is explained.
 #[derive(Drop)]
-pub(crate) struct Explained<'v> {
+pub(crate) struct VectorParts<'v> {
     pub(crate) cvss: &'v Cvss,
 }
 
-impl<'a> Members<Part<'a>> for Explained<'_> {
+impl<'a> Members<Part<'a>> for VectorParts<'_> {
     ghost text_at = { λ explained part. part_member explained.cvss.now part };
 
     ghost room_at = { λ _ part. part_room part };
@@ -93,14 +87,9 @@ fn put_value(page: &mut Page, cvss: &Cvss, value: Value<'_>)
             page.push(b"\"");
         }
         Value::Version => Scalar::Text(cvss.version().as_str()).put(page),
-        Value::BaseV2(numbers) => put_scalars(page, &v2::base(numbers)),
-        Value::TemporalV2(numbers) => put_scalars(page, &v2::temporal(numbers)),
-        Value::EnvironmentalV2(numbers) => put_scalars(page, &v2::environmental(numbers)),
-        Value::WeightsV2(vector) => put_object(page, &v2::Weights { vector }, &v2::METRICS),
-        Value::BaseV3(numbers) => put_scalars(page, &v3::base(cvss, numbers)),
-        Value::TemporalV3(scored) => put_scalars(page, &v3::temporal(cvss, scored)),
-        Value::EnvironmentalV3(numbers) => put_scalars(page, &v3::environmental(cvss, numbers)),
-        Value::WeightsV3(vector) => put_scalars(page, &v3::weights(vector)),
+        Value::Steps(steps, entries) => put_object(page, &Table { steps }, entries),
+        Value::Scalars(members) => put_object(page, &Scalars {}, members),
+        Value::WeightsV2(vector) => put_object(page, &Weights { vector: &vector }, &METRICS),
         Value::Letters(effective) => {
             put_object(
                 page,
@@ -114,19 +103,10 @@ fn put_value(page: &mut Page, cvss: &Cvss, value: Value<'_>)
     }
 }
 
-/// Writes an object of scalars.
-fn put_scalars(page: &mut Page, members: &[Member<'_>])
-    requires { length page.old + rooms member_room members.now + 2 ≤ 4096 }
-    ensures text { page.new ≡ page.old ++ object_text (members_view members.now) }
-    ensures room { length page.new ≤ length page.old + rooms member_room members.now + 2 }
-{
-    put_object(page, &Scalars {}, members);
-}
-
 /// The severity of the vector's score of so many tenths.
 #[inline(never)]
 #[tactic(auto, using(crate::proofs::ShortLemmas::severity_short))]
-pub(crate) fn severity(cvss: &Cvss, tenths: u8) -> &'static str
+fn severity(cvss: &Cvss, tenths: u8) -> &'static str
     ensures text { result.now ≡ severity_text (severity_by cvss.now (score_of_tenths tenths)) }
     ensures short { length result.now ≤ 8 }
 {

@@ -1,22 +1,36 @@
 //! The explanations of the scores of CVSS v2 (guide, section 3.2).
 
-ghost use Rattle.std.specs.Prelude.{◌≡◌, ◌≤◌, [], Some};
-ghost use Rattle.cvss_explain.specs.V2.{IsExplanationText, base_members, environmental_members, temporal_members, weight_member};
-ghost use Rattle.cvss_explain.specs.private.Values.{members_view};
-ghost use Rattle.cvss_json.specs.Scalars.{member_room, rooms};
+ghost use Rattle.std.specs.Prelude.{◌≡◌, [], OnOk, Some, ⊤};
+ghost use Rattle.cvss_base.specs.V2Types.{description_of};
+ghost use Rattle.cvss_explain.specs.V2.{AreLines, IsExplanationText, weight_member, weight_text};
+ghost use Rattle.cvss_explain.specs.private.Writing.{Writes};
+ghost use Rattle.cvss_report.specs.WordsV2.{words_of};
 
-pub mod counts;
-pub mod numbers;
+pub mod steps;
 
-use crate::parts::{Explained, Value};
+use crate::lines::write_ways;
+use crate::metrics::{Explained, write_metrics};
+use crate::object::Entry::{self, Value as Of};
+use crate::parts::{Value, VectorParts};
 use MetricType::*;
 use cvss_base::v2::MetricType;
-use cvss_json::{Member, Members, Page, Scalar, put_member, put_object};
-use cvss_vector::Cvss;
+use cvss_json::{Members, Page, Scalar, put_member, put_object};
+use cvss_lines::OutputBuffer;
+use cvss_report::is_in_v2;
+use cvss_report::names::{self, v2};
 use cvss_vector::v2::Vector;
-use numbers::{BaseNumbers, EnvironmentalNumbers, TemporalNumbers};
+use cvss_vector::{Cvss, Group};
+use std::alloc::AllocError;
+use steps::Steps;
 
-/// Writes why a vector has its score.
+/// The members of the objects of steps, in the order of their names.
+const BASE: [Entry; 5] = [Of(1), Of(2), Of(0), Of(3), Of(4)];
+
+const TEMPORAL: [Entry; 2] = [Of(0), Of(1)];
+
+const ENVIRONMENTAL: [Entry; 5] = [Of(1), Of(0), Of(2), Of(3), Of(4)];
+
+/// Writes why a vector has its score, as an object.
 pub(crate) fn put_explanation(
     page: &mut Page,
     line: Option<u64>,
@@ -27,63 +41,25 @@ pub(crate) fn put_explanation(
     requires { page.old ≡ [] }
     ensures { IsExplanationText line cvss.now vector.now tenths page.new }
 {
-    let base = BaseNumbers::of(vector);
-    let environmental = EnvironmentalNumbers::of(vector);
-    let temporal = TemporalNumbers::of(vector);
+    let steps = &Steps::of(&vector.weights());
     put_object(
         page,
-        &Explained { cvss },
+        &VectorParts { cvss },
         &[
-            ("base", Value::BaseV2(base)),
-            ("environmental", Value::EnvironmentalV2(environmental)),
+            ("base", Value::Steps(&steps.base, &BASE)),
+            (
+                "environmental",
+                Value::Steps(&steps.environmental, &ENVIRONMENTAL),
+            ),
             ("line", Value::Line(line)),
             ("score", Value::Scalar(Scalar::Tenths(tenths))),
             ("severity", Value::Severity(tenths)),
-            ("temporal", Value::TemporalV2(temporal)),
+            ("temporal", Value::Steps(&steps.temporal, &TEMPORAL)),
             ("vector", Value::Text),
             ("version", Value::Version),
-            ("weights", Value::WeightsV2(vector)),
+            ("weights", Value::WeightsV2(*vector)),
         ],
     );
-}
-
-pub(crate) fn base(numbers: BaseNumbers) -> [Member<'static>; 5]
-    ensures text { members_view result ≡ base_members numbers }
-    ensures room { rooms member_room result ≤ 300 }
-{
-    [
-        ("exploitability", Scalar::Decimal(numbers.exploitability)),
-        ("f", Scalar::Decimal(numbers.f)),
-        ("impact", Scalar::Decimal(numbers.impact)),
-        ("number", Scalar::Decimal(numbers.number)),
-        ("score", Scalar::Tenths(numbers.score)),
-    ]
-}
-
-pub(crate) fn temporal(numbers: TemporalNumbers) -> [Member<'static>; 2]
-    ensures text { members_view result ≡ temporal_members numbers }
-    ensures room { rooms member_room result ≤ 100 }
-{
-    [
-        ("number", Scalar::Decimal(numbers.number)),
-        ("score", Scalar::Tenths(numbers.score)),
-    ]
-}
-
-pub(crate) fn environmental(numbers: EnvironmentalNumbers) -> [Member<'static>; 5]
-    ensures text { members_view result ≡ environmental_members numbers }
-    ensures room { rooms member_room result ≤ 300 }
-{
-    [
-        ("adjustedBase", Scalar::Decimal(numbers.adjusted_base)),
-        ("adjustedImpact", Scalar::Decimal(numbers.adjusted_impact)),
-        (
-            "adjustedTemporal",
-            Scalar::Decimal(numbers.adjusted_temporal),
-        ),
-        ("number", Scalar::Decimal(numbers.number)),
-        ("score", Scalar::Tenths(numbers.score)),
-    ]
 }
 
 /// The metrics, in the order of their names.
@@ -104,5 +80,47 @@ impl Members<MetricType> for Weights<'_> {
         let ten_millionths = self.vector.thousandths(kind) as i64 * 10_000;
         put_member(page, later, kind.name(), Scalar::Decimal(ten_millionths));
         true
+    }
+}
+
+/// Writes the lines that explain a vector's scores.
+pub(crate) fn write_lines(vector: &Vector, answers: &mut OutputBuffer) -> Result<(), AllocError>
+    ensures { OnOk result (Writes (AreLines vector.now)
+        answers.old.bytes.items answers.new.bytes.items) }
+{
+    let steps = Steps::of(&vector.weights());
+    write_metrics(vector, &(), answers)?;
+    write_ways(
+        &steps.base,
+        is_in_v2(Group::Temporal, vector),
+        &steps.temporal,
+        is_in_v2(Group::Environmental, vector),
+        &steps.environmental,
+        answers,
+    )
+}
+
+impl Explained for Vector {
+    type Class = ();
+
+    ghost description = { description_of };
+
+    ghost words = { words_of };
+
+    ghost is_class = { λ _. ⊤ };
+
+    ghost figure = { λ vector _. weight_text vector };
+
+    fn description(kind: MetricType) -> &'static str {
+        kind.description()
+    }
+
+    fn rows(kind: MetricType) -> &'static [names::Row] {
+        v2::entry(kind).1
+    }
+
+    /// Writes what a metric weighs.
+    fn put_figure(&self, _class: &(), kind: MetricType, page: &mut Page) {
+        page.decimal(self.thousandths(kind) as i64 * 10_000);
     }
 }

@@ -1,22 +1,49 @@
 //! The explanations of the scores of CVSS v3 (v3.1 specification, section 7; v3.0 specification, section 8).
 
-ghost use Rattle.std.specs.Prelude.{◌≡◌, ◌≤◌, ◌+◌, ◌*◌, [], length, pos};
-ghost use Rattle.cvss_explain.specs.V3.{IsExplanationText, base_members, environmental_members, scope_letter, scored_members, weights_members};
+ghost use Rattle.std.specs.Prelude.{◌≡◌, ◌≤◌, ◌+◌, ◌*◌, [], IfSome, OnOk, length, pos};
+ghost use Rattle.cvss_base.specs.V3Types.{description_of};
+ghost use Rattle.cvss_explain.specs.V3.{AreLines, IsExplanationText, hundredths_text, scope_letter, weight_text, weights_members};
 ghost use Rattle.cvss_explain.specs.private.Values.{members_view};
-ghost use Rattle.cvss_json.specs.Json.{decimal_text};
+ghost use Rattle.cvss_explain.specs.private.Writing.{Writes};
 ghost use Rattle.cvss_json.specs.Scalars.{member_room, member_view, rooms};
+ghost use Rattle.cvss_report.specs.WordsV3.{words_of};
+ghost use Rattle.cvss_score.specs.v3.Bounds.{AreBounded};
+ghost use Rattle.cvss_score.specs.v3.Weighing.{weight_in};
 ghost use Rattle.cvss_vector.specs.v3.VectorWeights.{weights_of};
 
-pub mod counts;
-pub mod numbers;
+pub mod steps;
 
-use crate::parts::{Explained, Value, severity};
+use crate::lines::write_ways;
+use crate::metrics::{Explained, write_metrics};
+use crate::object::Entry::{self, Severity, Value as Of};
+use crate::parts::{Value, VectorParts};
+use cvss_base::v3::MetricType;
 use cvss_json::{Member, Page, Scalar, put_object};
-use cvss_vector::Cvss;
+use cvss_lines::OutputBuffer;
+use cvss_report::is_in_v3;
+use cvss_report::names::{self, v3};
+use cvss_score::v3::Weights;
 use cvss_vector::v3::Vector;
-use numbers::{BaseNumbers, EnvironmentalNumbers, Scored};
+use cvss_vector::{Cvss, Group};
+use std::alloc::AllocError;
+use steps::Steps;
 
-/// Writes why a vector has its score.
+/// The members of the objects of steps, in the order of their names.
+const BASE: [Entry; 6] = [Of(2), Of(1), Of(0), Of(3), Of(4), Severity(4)];
+
+const TEMPORAL: [Entry; 3] = [Of(0), Of(1), Severity(1)];
+
+const ENVIRONMENTAL: [Entry; 8] = [Of(3), Of(4), Of(0), Of(2), Of(1), Of(5), Of(6), Severity(6)];
+
+/// What is made of the weights of a vector.
+#[derive(Drop)]
+struct Made {
+    steps: Steps,
+    /// What each metric weighs.
+    weights: [Member<'static>; 20],
+}
+
+/// Writes why a vector has its score, as an object.
 pub(crate) fn put_explanation(
     page: &mut Page,
     line: Option<u64>,
@@ -25,28 +52,34 @@ pub(crate) fn put_explanation(
     tenths: u8,
 )
     requires { page.old ≡ [] }
-    ensures { IsExplanationText line cvss.now vector.now tenths page.new }
+    ensures { IsExplanationText line cvss.now vector.now.minor_version (weights_of vector.now)
+        tenths page.new }
 {
-    let base = BaseNumbers::of(vector);
-    let environmental = EnvironmentalNumbers::of(vector);
-    let temporal = Scored::temporal(vector);
-    let modified = scope_letter(vector.is_modified_scope_changed());
-    let scope = scope_letter(vector.is_scope_changed());
+    let weights = vector.weights();
+    let modified = scope_letter(weights.modified_changed);
+    let scope = scope_letter(weights.changed);
+    let made = &Made {
+        steps: Steps::of(&weights, vector.minor_version),
+        weights: weight_members(&weights),
+    };
     put_object(
         page,
-        &Explained { cvss },
+        &VectorParts { cvss },
         &[
-            ("base", Value::BaseV3(base)),
-            ("environmental", Value::EnvironmentalV3(environmental)),
+            ("base", Value::Steps(&made.steps.base, &BASE)),
+            (
+                "environmental",
+                Value::Steps(&made.steps.environmental, &ENVIRONMENTAL),
+            ),
             ("line", Value::Line(line)),
             ("modifiedScope", Value::Scalar(Scalar::Text(modified))),
             ("scope", Value::Scalar(Scalar::Text(scope))),
             ("score", Value::Scalar(Scalar::Tenths(tenths))),
             ("severity", Value::Severity(tenths)),
-            ("temporal", Value::TemporalV3(temporal)),
+            ("temporal", Value::Steps(&made.steps.temporal, &TEMPORAL)),
             ("vector", Value::Text),
             ("version", Value::Version),
-            ("weights", Value::WeightsV3(vector)),
+            ("weights", Value::Scalars(&made.weights)),
         ],
     );
 }
@@ -58,56 +91,12 @@ fn scope_letter(changed: bool) -> &'static str
     if changed { "C" } else { "U" }
 }
 
-pub(crate) fn base(cvss: &Cvss, numbers: BaseNumbers) -> [Member<'static>; 6]
-    ensures text { members_view result ≡ base_members cvss.now numbers }
-    ensures room { rooms member_room result ≤ 300 }
-{
-    let scored = numbers.scored;
-    [
-        ("exploitability", Scalar::Decimal(numbers.exploitability)),
-        ("impact", Scalar::Decimal(numbers.impact)),
-        ("iss", Scalar::Decimal(numbers.iss)),
-        ("number", Scalar::Decimal(scored.number)),
-        ("score", Scalar::Tenths(scored.score)),
-        ("severity", Scalar::Text(severity(cvss, scored.score))),
-    ]
-}
-
-pub(crate) fn temporal(cvss: &Cvss, scored: Scored) -> [Member<'static>; 3]
-    ensures text { members_view result ≡ scored_members cvss.now scored }
-    ensures room { rooms member_room result ≤ 300 }
-{
-    [
-        ("number", Scalar::Decimal(scored.number)),
-        ("score", Scalar::Tenths(scored.score)),
-        ("severity", Scalar::Text(severity(cvss, scored.score))),
-    ]
-}
-
-pub(crate) fn environmental(cvss: &Cvss, numbers: EnvironmentalNumbers) -> [Member<'static>; 8]
-    ensures text { members_view result ≡ environmental_members cvss.now numbers }
-    ensures room { rooms member_room result ≤ 500 }
-{
-    let exploitability = numbers.exploitability;
-    let scored = numbers.scored;
-    [
-        ("firstNumber", Scalar::Decimal(numbers.first.number)),
-        ("firstScore", Scalar::Tenths(numbers.first.score)),
-        ("miss", Scalar::Decimal(numbers.miss)),
-        ("modifiedExploitability", Scalar::Decimal(exploitability)),
-        ("modifiedImpact", Scalar::Decimal(numbers.impact)),
-        ("number", Scalar::Decimal(scored.number)),
-        ("score", Scalar::Tenths(scored.score)),
-        ("severity", Scalar::Text(severity(cvss, scored.score))),
-    ]
-}
-
-/// What each metric of a vector weighs, which the scopes don't, in the order of their names.
-pub(crate) fn weights(vector: &Vector) -> [Member<'static>; 20]
-    ensures text { members_view result ≡ weights_members (weights_of vector.now) }
+/// What each metric weighs, which the scopes don't, in the order of their names.
+fn weight_members(weights: &Weights) -> [Member<'static>; 20]
+    requires { AreBounded weights.now }
+    ensures text { members_view result ≡ weights_members weights.now }
     ensures room { rooms member_room result ≤ 968 }
 {
-    let weights = vector.weights();
     [
         weight("A", weights.a),
         weight("AC", weights.ac),
@@ -136,8 +125,85 @@ pub(crate) fn weights(vector: &Vector) -> [Member<'static>; 20]
 #[inline(always)]
 fn weight(name: &'static str, hundredths: u64) -> Member<'static>
     requires { hundredths ≤ 150 }
-    ensures view { member_view result ≡ (name.now, decimal_text (pos (hundredths * 100_000))) }
+    ensures view { member_view result ≡ (name.now, hundredths_text hundredths) }
     ensures room { member_room result ≡ length name.now + 36 }
 {
     (name, Scalar::Decimal((hundredths * 100_000) as i64))
+}
+
+/// Writes the lines that explain a vector's scores.
+pub(crate) fn write_lines(vector: &Vector, answers: &mut OutputBuffer) -> Result<(), AllocError>
+    ensures { OnOk result (Writes (AreLines vector.now (weights_of vector.now))
+        answers.old.bytes.items answers.new.bytes.items) }
+{
+    let weights = vector.weights();
+    let steps = Steps::of(&weights, vector.minor_version);
+    write_metrics(vector, &weights, answers)?;
+    write_ways(
+        &steps.base,
+        is_in_v3(Group::Temporal, vector),
+        &steps.temporal,
+        is_in_v3(Group::Environmental, vector),
+        &steps.environmental,
+        answers,
+    )
+}
+
+impl Explained for Vector {
+    type Class = Weights;
+
+    ghost description = { description_of };
+
+    ghost words = { words_of };
+
+    ghost is_class = { AreBounded };
+
+    ghost figure = { λ _ weights. weight_text weights };
+
+    fn description(kind: MetricType) -> &'static str {
+        kind.description()
+    }
+
+    fn rows(kind: MetricType) -> &'static [names::Row] {
+        v3::entry(kind).1
+    }
+
+    /// Writes what a metric weighs, which the scopes don't.
+    fn put_figure(&self, weights: &Weights, kind: MetricType, page: &mut Page) {
+        match hundredths_of(weights, kind) {
+            Some(hundredths) => page.decimal(hundredths as i64 * 100_000),
+            None => page.push(b"-"),
+        }
+    }
+}
+
+/// The weight of a metric in hundredths, which the scopes have not.
+fn hundredths_of(weights: &Weights, metric: MetricType) -> Option<u64>
+    requires { AreBounded weights.now }
+    ensures value { result ≡ weight_in weights.now metric }
+    ensures bound { IfSome result (λ weight. weight ≤ 150) }
+{
+    match metric {
+        MetricType::AV => Some(weights.av),
+        MetricType::AC => Some(weights.ac),
+        MetricType::PR => Some(weights.pr),
+        MetricType::UI => Some(weights.ui),
+        MetricType::C => Some(weights.c),
+        MetricType::I => Some(weights.i),
+        MetricType::A => Some(weights.a),
+        MetricType::E => Some(weights.e),
+        MetricType::RL => Some(weights.rl),
+        MetricType::RC => Some(weights.rc),
+        MetricType::CR => Some(weights.cr),
+        MetricType::IR => Some(weights.ir),
+        MetricType::AR => Some(weights.ar),
+        MetricType::MAV => Some(weights.mav),
+        MetricType::MAC => Some(weights.mac),
+        MetricType::MPR => Some(weights.mpr),
+        MetricType::MUI => Some(weights.mui),
+        MetricType::MC => Some(weights.mc),
+        MetricType::MI => Some(weights.mi),
+        MetricType::MA => Some(weights.ma),
+        MetricType::S | MetricType::MS => None,
+    }
 }

@@ -5,14 +5,17 @@ ghost use Rattle.cvss_base.specs.Version.{IsComplete};
 ghost use Rattle.cvss_explain.specs.V4.{IsExplanationText};
 ghost use Rattle.cvss_vector.specs.v4.Vector.{v4};
 
+mod effect;
 mod effective;
+mod lines;
 
 use crate::groups::fraction;
-use crate::parts::{Explained, Value};
+use crate::parts::{Value, VectorParts};
 use cvss_json::{Page, Scalar, put_object};
 use cvss_vector::Cvss;
 use cvss_vector::v4::Vector;
 pub(crate) use effective::{EFFECTIVE, Letters};
+pub(crate) use lines::{put_group, write_lines};
 
 /// Writes why a complete vector has its score.
 pub(crate) fn put_explanation(
@@ -32,7 +35,7 @@ pub(crate) fn put_explanation(
     let nomenclature = vector.nomenclature().as_str();
     put_object(
         page,
-        &Explained { cvss },
+        &VectorParts { cvss },
         &[
             ("effective", Value::Letters(explanation.effective)),
             ("groups", Value::Groups(&explanation)),

@@ -19,9 +19,9 @@ pub fn put_string<S: Sink>(sink: &mut S, text: &str)
     sink.push(b"\"");
 }
 
-/// Writes the characters of a string.
+/// Writes the characters of a string, with the same escapes, so that they break no line and no terminal.
 #[tactic(auto, using(crate::proofs::ClearLemmas::clear_escaped))]
-fn put_escaped<S: Sink>(sink: &mut S, text: &str)
+pub fn put_escaped<S: Sink>(sink: &mut S, text: &str)
     ensures { Adds S.Holds (escaped text.now) sink.old sink.new }
 {
     if are_clear(text.as_bytes()) {

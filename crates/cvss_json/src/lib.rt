@@ -9,7 +9,7 @@ mod number;
 mod page;
 mod sink;
 
-pub use escape::put_string;
+pub use escape::{put_escaped, put_string};
 pub use member::{Member, Members, Scalar, Scalars, put_member, put_name, put_object};
 pub use number::put_whole;
 pub use page::Page;

@@ -16,8 +16,7 @@ use Rattle.cvss_vector.specs.declared.v3.vector.Vector as vector_v3
 use Rattle.cvss_vector.specs.declared.v4.vector.Vector as vector_v4
 use Rattle.cvss_vector.proofs.ReadLemmas.{v2_parts}
 use Rattle.cvss_matches.specs.Matches.{IsAccepted}
-use Rattle.cvss_matches.specs.Parts.{begins_like, begins_metrics, begins_sought, has_sought, is_like, lacks_prefix, percent}
-use Rattle.cvss_matches.specs.declared.unprefixed.Sought.TheVariants.{MetricAfterV2}
+use Rattle.cvss_matches.specs.Parts.{begins_like, begins_like_any, begins_metrics, has_like_any, is_like, lacks_prefix, metrics_after_v2, percent}
 use Rattle.cvss_matches.proofs.AcceptedLemmas.{all_parts, component_read}
 use Rattle.cvss_matches.proofs.DecodingLemmas.{unlike_percent}
 use Rattle.cvss_matches.proofs.PlainLemmas.{IsLocal, at_each, each_with_slash, joined_holds}
@@ -67,17 +66,17 @@ none_later [] each = refl
 none_later (byte ∷ rest) each =
     not-true (begins_later (byte ∷ rest)) (and_parts (not (eqb byte percent)) _ (and_parts (earlier_at byte rest) (at_each earlier_at rest) each).0).1
 
-not_sought : (text : List ℕ) → at_each earlier_at text ≡ true → has_sought MetricAfterV2 text ≡ false
-not_sought [] each = refl
-not_sought (byte ∷ rest) each =
+none_like : (text : List ℕ) → at_each earlier_at text ≡ true → has_like_any metrics_after_v2 text ≡ false
+none_like [] each = refl
+none_like (byte ∷ rest) each =
     let both = and_parts (earlier_at byte rest) (at_each earlier_at rest) each in
-    or_from (begins_sought MetricAfterV2 (byte ∷ rest)) (has_sought MetricAfterV2 rest)
+    or_from (begins_like_any metrics_after_v2 (byte ∷ rest)) (has_like_any metrics_after_v2 rest)
     (none_here (is_like slash byte) (is_like percent byte) _ _ _ _ _ _ _ _
     (unlike_percent byte (not-true (eqb byte percent) (and_parts (not (eqb byte percent)) _ both.0).0)) (none_later rest both.1))
-    (not_sought rest both.1)
+    (none_like rest both.1)
 
 earlier_lacks : (text : List ℕ) → at_each earlier_at text ≡ true → lacks_prefix text ≡ false
-earlier_lacks text each = and_right (begins_metrics text) (has_sought MetricAfterV2 text) (not_sought text each)
+earlier_lacks text each = and_right (begins_metrics text) (has_like_any metrics_after_v2 text) (none_like text each)
 
 prefixed_v2 : (text : List ℕ) (vector : vector_v2.Vector) → DenotesV2 text vector → lacks_prefix text ≡ false
 prefixed_v2 text vector denotes =

@@ -2,8 +2,7 @@
 use Rattle.std.specs.Prelude.{◌≡◌, ℕ, ◌+◌, ◌⊎◌, ◌&&◌, ◌||◌, Bool, true, List, [], ◌∷◌, drop, if◌then◌else◌, length, ⊤, unwrap_or}
 use Rattle.cvss_vector.specs.Dispatch.{DenotesCvss}
 use Rattle.cvss_vector.specs.declared.vector.Cvss.{Cvss}
-use Rattle.cvss_matches.specs.declared.unprefixed.Sought.TheVariants.{Slash}
-use Rattle.cvss_matches.specs.Parts.{begins_exactly, begins_loosely, begins_with_prefix, has_sought, is_encoded_v2, label_length, lacks_prefix, without_dividers, parts_of, unencoded}
+use Rattle.cvss_matches.specs.Parts.{begins_exactly, begins_loosely, begins_with_prefix, has_like_any, is_encoded_v2, label_length, lacks_prefix, slashes, without_dividers, parts_of, unencoded}
 
 -- a candidate, and the place of its first byte, counted from 0
 pub record Placed : Type 0 where
@@ -38,7 +37,7 @@ pub record IsAccepted (text : List ℕ) : Type 0 where
 
 -- the text was meant as a vector: it begins with `CVSS:` and has a slash, percent-encoded or not
 abbrev pub is_meant_exactly : List ℕ → Bool
-is_meant_exactly text = begins_exactly text && has_sought Slash text
+is_meant_exactly text = begins_exactly text && has_like_any slashes text
 
 -- or it begins as a vector whose prefix is written loosely, as one without its prefix, or as an encoded one of v2
 abbrev pub is_meant_loosely : List ℕ → Bool

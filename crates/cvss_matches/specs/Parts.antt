@@ -4,8 +4,6 @@ use Rattle.std.specs.Char.{is_ascii_alphanumeric, is_ascii_digit, to_ascii_upper
 use Rattle.std.specs.List.{before_first, list_any, onto_first, starts_with, suffix_len}
 use Rattle.std.specs.Option.{option_map}
 use Rattle.cvss_base.specs.Text.{colon, dot, has, slash}
-use Rattle.cvss_matches.specs.declared.unprefixed.Sought.{Sought}
-use Rattle.cvss_matches.specs.declared.unprefixed.Sought.TheVariants.{Slash, MetricAfterV2, EncodedMetricOfV2}
 
 -- the byte before two digits in a percent-encoded link
 abbrev pub percent : ℕ
@@ -107,23 +105,28 @@ encoded_length (byte ∷ rest) = if ends_encoded (byte ∷ rest) then 0 else suc
 abbrev pub before_other : List ℕ → List ℕ
 before_other text = take (encoded_length text) text
 
--- how what is sought in a text may begin, after slashes: as a slash; as a metric that v3 and v4.0 have and v2 has not; or as
--- the metric Au of v2, of which the colon or the slash is percent-encoded or the slash is after a backslash
-abbrev pub patterns_of : Sought → List (List ℕ)
-patterns_of Slash = codes "/" ∷ codes "%2F" ∷ []
-patterns_of MetricAfterV2 =
+-- the text begins with bytes as those of one of the patterns
+abbrev pub begins_like_any : List (List ℕ) → List ℕ → Bool
+begins_like_any patterns text = list_any (λ pattern. begins_like pattern text) patterns
+
+-- such bytes are somewhere in the text
+abbrev pub has_like_any : List (List ℕ) → List ℕ → Bool
+has_like_any patterns [] = false
+has_like_any patterns (byte ∷ rest) = begins_like_any patterns (byte ∷ rest) || has_like_any patterns rest
+
+-- a slash, and one that is percent-encoded
+abbrev pub slashes : List (List ℕ)
+slashes = codes "/" ∷ codes "%2F" ∷ []
+
+-- the metrics PR and UI, which v3 and v4.0 have and v2 has not, after a slash; the slash and the colon may be percent-encoded
+abbrev pub metrics_after_v2 : List (List ℕ)
+metrics_after_v2 =
     codes "/PR:" ∷ codes "/UI:" ∷ codes "/PR%3A" ∷ codes "/UI%3A"
     ∷ codes "%2FPR:" ∷ codes "%2FUI:" ∷ codes "%2FPR%3A" ∷ codes "%2FUI%3A" ∷ []
-patterns_of EncodedMetricOfV2 = codes "/AU%3A" ∷ codes "%2FAU:" ∷ codes "%2FAU%3A" ∷ codes "\\/AU:" ∷ []
 
--- the text begins with what is sought
-abbrev pub begins_sought : Sought → List ℕ → Bool
-begins_sought sought text = list_any (λ pattern. begins_like pattern text) (patterns_of sought)
-
--- it is somewhere in the text
-abbrev pub has_sought : Sought → List ℕ → Bool
-has_sought sought [] = false
-has_sought sought (byte ∷ rest) = begins_sought sought (byte ∷ rest) || has_sought sought rest
+-- the metric Au of v2 after a slash, of which the slash or the colon is percent-encoded, or the slash is after a backslash
+abbrev pub encoded_metrics_of_v2 : List (List ℕ)
+encoded_metrics_of_v2 = codes "/AU%3A" ∷ codes "%2FAU:" ∷ codes "%2FAU%3A" ∷ codes "\\/AU:" ∷ []
 
 -- the text begins with the metric AV
 abbrev pub begins_metrics : List ℕ → Bool
@@ -131,7 +134,7 @@ begins_metrics text = begins_like (codes "AV:") text || begins_like (codes "AV%3
 
 -- the part begins as a vector, and a slash, encoded or not, is before its first `%` that encodes neither a colon nor a slash
 abbrev pub is_encoded : List ℕ → Bool
-is_encoded part = (begins_with_prefix part || begins_metrics part) && has_sought Slash (before_other part)
+is_encoded part = (begins_with_prefix part || begins_metrics part) && has_like_any slashes (before_other part)
 
 -- a part, which ends before its first `%` that encodes neither a colon nor a slash, if a vector is encoded in it
 abbrev pub encoded_front : List ℕ → List ℕ
@@ -141,13 +144,13 @@ encoded_front part = if is_encoded part then before_other part else part
 abbrev pub unencoded : List ℕ → List ℕ
 unencoded part = if has slash (before_escape part) then before_escape part else encoded_front part
 
--- the text begins as a vector of v3 or v4.0 without its prefix: with the metric AV, and PR or UI is after a slash
+-- the text begins as a vector of v3 or v4.0 without its prefix: with the metric AV, and has PR or UI after a slash
 abbrev pub lacks_prefix : List ℕ → Bool
-lacks_prefix text = begins_metrics text && has_sought MetricAfterV2 text
+lacks_prefix text = begins_metrics text && has_like_any metrics_after_v2 text
 
--- the text begins as an encoded vector of v2: with the metric AV, and Au is after a slash
+-- the text begins as an encoded vector of v2: with the metric AV, and has Au after a slash
 abbrev pub is_encoded_v2 : List ℕ → Bool
-is_encoded_v2 text = begins_metrics text && has_sought EncodedMetricOfV2 text
+is_encoded_v2 text = begins_metrics text && has_like_any encoded_metrics_of_v2 text
 
 -- the two bytes end a label before a vector of CVSS v2, as in `vector:AV:N` and `7.5/AV:N`
 abbrev pub ends_label : ℕ → ℕ → Bool

@@ -1,8 +1,8 @@
 //! Vectors without a prefix: of v3 and v4.0, where it is missing, and encoded ones of v2.
 
 ghost use Rattle.std.specs.Prelude.{◌≡◌};
-ghost use Rattle.cvss_matches.specs.Parts.{begins_metrics, begins_sought, has_sought, is_encoded_v2, lacks_prefix};
-ghost use Rattle.cvss_matches.specs.declared.unprefixed.Sought.TheVariants.{MetricAfterV2, Slash};
+ghost use Rattle.cvss_matches.specs.Parts.{begins_like_any, begins_metrics, encoded_metrics_of_v2, has_like_any, is_encoded_v2, lacks_prefix, metrics_after_v2, slashes};
+ghost use Rattle.cvss_matches.specs.private.Sought.{patterns_of};
 
 use crate::prefix::begins_like;
 
@@ -41,7 +41,7 @@ pub(crate) fn begins_metrics(text: &[u8]) -> bool
 
 /// Whether what is sought is somewhere in a text.
 pub(crate) fn has_sought(sought: Sought, text: &[u8]) -> bool
-    ensures { result ≡ has_sought sought text.now }
+    ensures { result ≡ has_like_any (patterns_of sought) text.now }
 {
     let mut left = text;
     while let Some((_, rest)) = left.split_first() {
@@ -55,38 +55,52 @@ pub(crate) fn has_sought(sought: Sought, text: &[u8]) -> bool
 
 /// Whether a text begins with what is sought.
 fn begins_sought(sought: Sought, text: &[u8]) -> bool
-    ensures { result ≡ begins_sought sought text.now }
+    ensures { result ≡ begins_like_any (patterns_of sought) text.now }
 {
     match sought {
         Sought::Slash => begins_slash(text),
         Sought::MetricAfterV2 => begins_metric_after_v2(text),
-        Sought::EncodedMetricOfV2 => {
-            begins_like(b"/AU%3A", text)
-                || begins_like(b"%2FAU:", text)
-                || begins_like(b"%2FAU%3A", text)
-                || begins_like(b"\\/AU:", text)
-        }
+        Sought::EncodedMetricOfV2 => begins_encoded_metric_of_v2(text),
     }
 }
 
 /// Whether a text begins with a slash, percent-encoded or not.
 #[inline(always)]
 fn begins_slash(text: &[u8]) -> bool
-    ensures { result ≡ begins_sought Slash text.now }
+    ensures { result ≡ begins_like_any slashes text.now }
 {
     matches!(text, [b'/', ..] | [b'%', b'2', b'F' | b'f', ..])
 }
 
 /// Whether a text begins with a slash and a metric that vectors of v2 do not have.
 fn begins_metric_after_v2(text: &[u8]) -> bool
-    ensures { result ≡ begins_sought MetricAfterV2 text.now }
+    ensures { result ≡ begins_like_any metrics_after_v2 text.now }
 {
-    begins_like(b"/PR:", text)
-        || begins_like(b"/UI:", text)
-        || begins_like(b"/PR%3A", text)
-        || begins_like(b"/UI%3A", text)
-        || begins_like(b"%2FPR:", text)
-        || begins_like(b"%2FUI:", text)
-        || begins_like(b"%2FPR%3A", text)
-        || begins_like(b"%2FUI%3A", text)
+    match text {
+        [b'/', ..] => {
+            begins_like(b"/PR:", text)
+                || begins_like(b"/UI:", text)
+                || begins_like(b"/PR%3A", text)
+                || begins_like(b"/UI%3A", text)
+        }
+        [b'%', ..] => {
+            begins_like(b"%2FPR:", text)
+                || begins_like(b"%2FUI:", text)
+                || begins_like(b"%2FPR%3A", text)
+                || begins_like(b"%2FUI%3A", text)
+        }
+        _ => false,
+    }
+}
+
+/// Whether a text begins with a slash and the metric Au of v2, of which one is encoded.
+fn begins_encoded_metric_of_v2(text: &[u8]) -> bool
+    ensures { result ≡ begins_like_any encoded_metrics_of_v2 text.now }
+{
+    match text {
+        [b'/', ..] => begins_like(b"/AU%3A", text),
+        [b'%', ..] => begins_like(b"%2FAU:", text) || begins_like(b"%2FAU%3A", text),
+        [b'\\', ..] => begins_like(b"\\/AU:", text),
+        _ => false,
+    }
 }

@@ -56,12 +56,23 @@ fn put_byte<S: Sink>(sink: &mut S, byte: u8)
 }
 
 /// What an error says.
-pub(crate) fn reason_of(alloc: Global, error: ReadError<'_>) -> Result<Vec<u8>, AllocError>
+///
+/// # Errors
+///
+/// Out of memory.
+pub fn reason_of(alloc: Global, error: ReadError<'_>) -> Result<Vec<u8>, AllocError>
     ensures { IfOk result (λ reason. reason.items ≡ error_message error.entry) }
 {
     let mut reason = Growing::new(alloc);
     put_segments(&mut reason, &Message::of(error).segments);
     reason.end()
+}
+
+/// Writes what an error says.
+pub fn put_error<S: Sink>(sink: &mut S, error: ReadError<'_>)
+    ensures { Adds S.Holds (error_message error.entry) sink.old sink.new }
+{
+    put_segments(sink, &Message::of(error).segments);
 }
 
 /// Writes the text of segments.

@@ -19,7 +19,7 @@ mod text;
 mod writing;
 
 use cvss_vector::{v2, v3};
-pub use escaping::put_given;
+pub use escaping::{put_error, put_given, reason_of};
 pub use expected::{Expected, expected_of};
 pub use field::{Field, fields_of};
 pub use format::{Format, header};

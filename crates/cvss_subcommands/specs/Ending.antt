@@ -1,7 +1,6 @@
 -- How the command ends: its exit status, and what it reports last.
 use Rattle.std.specs.Prelude.{◌≡◌, ◌≢◌, ◌↔◌, ◌⊎◌, ℕ, ◌==◌, ◌&&◌, Bool, true, false, not, List, [], ◌∷◌, ◌++◌, codes, is_none, Option, None, Some, Result, MatchResult, IsSomeAnd, IsTrue, bytes_eq}
 use Rattle.std.specs.Global.{Vec}
-use Rattle.std.specs.Io.KnownBytes.{Keeps}
 use Rattle.std.specs.IoError.{error_kind}
 use Rattle.std.specs.Option.{option_map}
 use Rattle.std.specs.declared.io.Error.{Error}
@@ -9,11 +8,14 @@ use Rattle.std.specs.declared.io.ErrorKind.TheVariants.{BrokenPipe}
 use Rattle.cvss_lines.specs.Exit.{fault_text}
 use Rattle.cvss_lines.specs.declared.fault.RunFault.{RunFault}
 use Rattle.cvss_lines.specs.declared.fault.RunFault.TheVariants.{Read, Write, Memory}
-use Rattle.cvss_program.specs.Exit.{exit_status}
-use Rattle.cvss_program.specs.Reports.{Reported, Reports, ReportsError}
-use Rattle.cvss_program.specs.declared.served.Served.{Served}
+use Rattle.cvss_frame.specs.Arguments.{bytes_of}
+use Rattle.cvss_frame.specs.Exit.{exit_status}
+use Rattle.cvss_frame.specs.Reports.{Reported, Reports, ReportsError}
+use Rattle.cvss_frame.specs.State.{State}
+use Rattle.cvss_frame.specs.declared.served.Served.{Served}
 use Rattle.cvss_subcommands.specs.Done.{Does}
 use Rattle.cvss_subcommands.specs.Hints.{IsFirstHint, hint_text}
+use Rattle.cvss_subcommands.specs.Ordering.{options_first}
 use Rattle.cvss_subcommands.specs.Requests.{request_of}
 use Rattle.cvss_subcommands.specs.Subcommands.{name_of}
 use Rattle.cvss_subcommands.specs.UsageErrors.{usage_report}
@@ -87,18 +89,23 @@ abbrev pub EndsWrong : List ℕ → UsageError → List (Vec ℕ) → Reported �
 EndsWrong usage error arguments report report' status = (status ≡ 2) × Reports report report' (usage_report usage error arguments)
 
 -- what the command has read, written and reported when it ends, and with which status
-pub record EndsCommand (help : Option Subcommand → List ℕ) (version : List ℕ) (arguments : List (Vec ℕ))
-    (contents : List ℕ → Option (List ℕ)) (unread unread' written written' : Option (List ℕ)) (has_taken : Bool)
-    (error : Option Error) (report report' : Reported) (status : ℕ) : Type 0 where
+pub record EndsCommand (help : Option Subcommand → List ℕ) (version : List ℕ) (arguments : List (Vec ℕ)) (old new : State)
+    (has_taken : Bool) (error : Option Error) (status : ℕ) : Type 0 where
   pub result : Result Served UsageError
   pub middle : Reported
-  pub does : Does (request_of arguments) help version arguments contents unread unread' written written' report middle result
-  pub ends : MatchResult result (λ served. EndsServed arguments has_taken error served middle report' status)
-      (λ error. EndsWrong (help None) error arguments middle report' status)
+  pub does : Does (request_of arguments) help version arguments old (record new { reported = middle }) result
+  pub ends : MatchResult result (λ served. EndsServed arguments has_taken error served middle new.reported status)
+      (λ error. EndsWrong (help None) error arguments middle new.reported status)
 
 -- the command ends before it does anything, since there is no memory for its arguments
-pub record EndsBefore (unread unread' written written' : Option (List ℕ)) (report report' : Reported) (status : ℕ) : Type 0 where
-  pub unread_kept : Keeps unread unread'
-  pub written_kept : Keeps written written'
+pub record EndsBefore (old new : State) (status : ℕ) : Type 0 where
+  pub kept : new ≡ record old { reported = new.reported }
   pub status_is : status ≡ 2
-  pub reports : Reports report report' (fault_report Memory)
+  pub reports : Reports old.reported new.reported (fault_report Memory)
+
+-- the command ends as the arguments in order ask for, or before it does anything
+abbrev pub EndsOrdered : (Option Subcommand → List ℕ) → List ℕ → List (Vec ℕ) → State → State → Bool → Option Error → ℕ → Type 0
+EndsOrdered help version arguments old new has_taken error status =
+    ((ordered : List (Vec ℕ)) × (bytes_of ordered ≡ options_first (bytes_of arguments))
+    × EndsCommand help version ordered old new has_taken error status)
+    ⊎ EndsBefore old new status

@@ -1,9 +1,11 @@
 -- The options of subcommands.
-use Rattle.std.specs.Prelude.{◌&&◌, Bool, true, false, List, ℕ, codes, Option, None, Some, if◌then◌else◌}
+use Rattle.std.specs.Prelude.{◌&&◌, Bool, true, false, List, ℕ, codes, Option, None, Some, if◌then◌else◌, bytes_eq}
+use Rattle.std.specs.Option.{option_map}
 use Rattle.cvss_subcommands.specs.declared.flags.Flag.{Flag}
-use Rattle.cvss_subcommands.specs.declared.flags.Flag.TheVariants.{Json, Tsv, Base, AllowIncomplete, Assume30, Assume31, Annotate, All, WhatIf, KeepGoing, Document, Set, Profile}
+use Rattle.cvss_subcommands.specs.declared.flags.Flag.TheVariants.{Json, Tsv, Base, AllowIncomplete, Assume, Annotate, All, WhatIf, KeepGoing, Document, Set, Profile}
 use Rattle.cvss_subcommands.specs.declared.flags.Flags.{Flags}
 use Rattle.cvss_vector.specs.declared.scoring.Scoring.{Scoring}
+use Rattle.cvss_vector.specs.declared.setting.Version.{Version}
 use Rattle.cvss_vector.specs.declared.setting.Version.TheVariants.{V30, V31}
 use Rattle.cvss_vector.specs.declared.scoring.Scoring.TheVariants as scoring
 
@@ -13,8 +15,7 @@ flag_name Json = codes "--json"
 flag_name Tsv = codes "--tsv"
 flag_name Base = codes "--base"
 flag_name AllowIncomplete = codes "--allow-incomplete"
-flag_name Assume30 = codes "--assume=3.0"
-flag_name Assume31 = codes "--assume=3.1"
+flag_name Assume = codes "--assume"
 flag_name Annotate = codes "--annotate"
 flag_name All = codes "--all"
 flag_name WhatIf = codes "--what-if"
@@ -25,7 +26,11 @@ flag_name Profile = codes "--profile"
 
 -- the word after it is its value
 abbrev pub has_value : Flag → Bool
-has_value = elim [ Set ↦ true | Profile ↦ true | _ ↦ false ]
+has_value = elim [ Assume ↦ true | Set ↦ true | Profile ↦ true | _ ↦ false ]
+
+-- the option whose value comes next
+abbrev pub value_due : Flag → Option Flag
+value_due flag = if has_value flag then Some flag else None
 
 abbrev pub no_flags : Flags
 no_flags = record {
@@ -41,14 +46,13 @@ no_flags = record {
   document = false;
 }
 
--- one more option is given; what has a value is read where it is used
+-- one more option is given, which may have a value after it
 abbrev pub with_flag : Flag → Flags → Flags
 with_flag Json flags = record flags { json = true }
 with_flag Tsv flags = record flags { tsv = true }
 with_flag Base flags = record flags { base = true }
 with_flag AllowIncomplete flags = record flags { allow_incomplete = true }
-with_flag Assume30 flags = record flags { assumed = Some V30 }
-with_flag Assume31 flags = record flags { assumed = Some V31 }
+with_flag Assume flags = flags
 with_flag Annotate flags = record flags { annotate = true }
 with_flag All flags = record flags { all = true }
 with_flag WhatIf flags = record flags { what_if = true }
@@ -56,6 +60,18 @@ with_flag KeepGoing flags = record flags { keep_going = true }
 with_flag Document flags = record flags { document = true }
 with_flag Set flags = flags
 with_flag Profile flags = flags
+
+-- the version that vectors without their prefix can have
+abbrev pub version_of : List ℕ → Option Version
+version_of value =
+    if bytes_eq value (codes "3.0") then Some V30
+    else if bytes_eq value (codes "3.1") then Some V31
+    else None
+
+-- the value of an option is given, if it can be; those of the others are read where they are used
+abbrev pub with_value : Flag → List ℕ → Flags → Option Flags
+with_value Assume value flags = option_map (λ version. record flags { assumed = Some version }) (version_of value)
+with_value _ value flags = Some flags
 
 -- the option whose output has all scores, where it is given with the one that chooses the base score
 abbrev pub all_scores_of : Flags → Option Flag

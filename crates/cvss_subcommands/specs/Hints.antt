@@ -7,8 +7,8 @@ use Rattle.std.specs.List.{suffix_len}
 use Rattle.std.specs.Str.{IsUtf8}
 use Rattle.cvss_matches.specs.declared.hint.PrefixHint.{PrefixHint}
 use Rattle.cvss_matches.specs.declared.hint.PrefixHint.TheVariants.{Loose, MissingV31, MissingV40}
-use Rattle.cvss_program.specs.Sources.{source_of}
-use Rattle.cvss_program.specs.declared.sources.Source.TheVariants.{Vector}
+use Rattle.cvss_frame.specs.Sources.{source_of}
+use Rattle.cvss_frame.specs.declared.sources.Source.TheVariants.{Vector}
 use Rattle.cvss_subcommands.specs.declared.hint.Hint.{Hint}
 use Rattle.cvss_subcommands.specs.declared.hint.Hint.TheVariants.{Version, VersionV40, Capitals, Alone}
 use Rattle.cvss_vector.specs.Complete.{first_missing}

@@ -3,6 +3,7 @@ pub mod Done
 pub mod Ending
 pub mod Flags
 pub mod Hints
+pub mod Ordering
 pub mod Requests
 pub mod Scoring
 pub mod Setting

@@ -1,7 +1,7 @@
 -- The subcommands, with their names and options.
 use Rattle.std.specs.Prelude.{Bool, true, false, ℕ, List, [], ◌∷◌, codes}
 use Rattle.cvss_subcommands.specs.declared.flags.Flag.{Flag}
-use Rattle.cvss_subcommands.specs.declared.flags.Flag.TheVariants.{All, AllowIncomplete, Annotate, Assume30, Assume31, Base, Document, Json, KeepGoing, Profile, Tsv, WhatIf}
+use Rattle.cvss_subcommands.specs.declared.flags.Flag.TheVariants.{All, AllowIncomplete, Annotate, Assume, Base, Document, Json, KeepGoing, Profile, Tsv, WhatIf}
 use Rattle.cvss_subcommands.specs.declared.flags.Flag.TheVariants as flag
 use Rattle.cvss_subcommands.specs.declared.subcommand.Subcommand.{Subcommand}
 use Rattle.cvss_subcommands.specs.declared.subcommand.Subcommand.TheVariants.{Score, Find, Explain, Set, Triage, Audit}
@@ -20,12 +20,12 @@ name_of Audit = codes "audit"
 -- the options that it has
 unfoldable pub flags_of : Subcommand → List Flag
 flags_of Score = Json ∷ Tsv ∷ Base ∷ AllowIncomplete ∷ []
-flags_of Find = Json ∷ Annotate ∷ All ∷ Base ∷ AllowIncomplete ∷ Assume30 ∷ Assume31 ∷ []
+flags_of Find = Json ∷ Annotate ∷ All ∷ Base ∷ AllowIncomplete ∷ Assume ∷ []
 flags_of Explain = Json ∷ WhatIf ∷ AllowIncomplete ∷ []
 flags_of Set = Base ∷ AllowIncomplete ∷ []
-flags_of Triage = flag.Set ∷ Profile ∷ KeepGoing ∷ Base ∷ AllowIncomplete ∷ []
+flags_of Triage = flag.Set ∷ Profile ∷ KeepGoing ∷ Json ∷ Base ∷ AllowIncomplete ∷ []
 flags_of Audit = AllowIncomplete ∷ Document ∷ []
 
--- its first words are metrics, and its operands follow `--`
+-- words without a slash are metrics
 abbrev pub sets_metrics : Subcommand → Bool
 sets_metrics = elim [ Set ↦ true | _ ↦ false ]

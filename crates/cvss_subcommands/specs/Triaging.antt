@@ -1,8 +1,10 @@
--- What the options of `cvss triage` set.
+-- What `cvss triage` is asked for.
 use Rattle.std.specs.Prelude.{ℕ, List, [], ◌∷◌, Option, None, Some, if◌then◌else◌, bytes_eq}
 use Rattle.std.specs.Global.{Vec}
-use Rattle.cvss_subcommands.specs.Flags.{flag_name}
+use Rattle.cvss_subcommands.specs.Flags.{flag_name, scoring_of}
 use Rattle.cvss_subcommands.specs.declared.flags.Flag.TheVariants.{Set, Profile as ProfileFlag}
+use Rattle.cvss_subcommands.specs.declared.flags.Flags.{Flags}
+use Rattle.cvss_triage.specs.Triage.{Asked}
 use Rattle.cvss_triage.specs.declared.settings.SettingKind.{SettingKind}
 use Rattle.cvss_triage.specs.declared.settings.SettingKind.TheVariants.{Metrics, Profile}
 
@@ -21,3 +23,13 @@ settings_after None (word ∷ words) = settings_after (kind_of word.items) words
 
 abbrev pub settings_of : List (Vec ℕ) → List (SettingKind × List ℕ)
 settings_of words = settings_after None words
+
+-- what is asked for by the words and the flags
+abbrev pub asked_by : List (Vec ℕ) → Flags → Asked
+asked_by words flags = record {
+  settings = settings_of words;
+  keep_going = flags.keep_going;
+  allow_incomplete = flags.allow_incomplete;
+  scoring = scoring_of flags.base;
+  json = flags.json;
+}

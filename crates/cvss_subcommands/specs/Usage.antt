@@ -9,12 +9,12 @@ abbrev pub usage_of : Subcommand → List ℕ
 usage_of Score = codes "cvss score [--json|--tsv|--base] [--allow-incomplete] [VECTOR|FILE].."
 usage_of Find =
     codes "cvss find [--json|[--annotate [--all]] [--base]] [--allow-incomplete]\n"
-    ++ codes "                 [--assume=3.0|--assume=3.1] [FILE].."
+    ++ codes "                 [--assume 3.0|3.1] [FILE].."
 usage_of Explain = codes "cvss explain [--json|--what-if] [--allow-incomplete] [VECTOR|FILE].."
-usage_of Set = codes "cvss set [--base] [--allow-incomplete] METRIC:VALUE.. [-- VECTOR|FILE ..]"
+usage_of Set = codes "cvss set METRIC:VALUE.. [--base] [--allow-incomplete] [VECTOR|FILE].."
 usage_of Triage =
     codes "cvss triage [--set METRIC:VALUE].. [--profile FILE].. [--keep-going]\n"
-    ++ codes "                   [--base] [--allow-incomplete] [VECTOR|FILE].."
+    ++ codes "                   [--json] [--base] [--allow-incomplete] [VECTOR|FILE].."
 usage_of Audit = codes "cvss audit [--allow-incomplete] [--document] [FILE].."
 
 -- the help on a subcommand begins with its usage, and an empty line; the help on all, with the usage of each in turn

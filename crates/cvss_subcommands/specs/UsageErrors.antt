@@ -5,8 +5,9 @@ use Rattle.cvss_subcommands.specs.Arguments.{operands_of}
 use Rattle.cvss_subcommands.specs.Flags.{flag_name}
 use Rattle.cvss_subcommands.specs.Subcommands.{name_of}
 use Rattle.cvss_subcommands.specs.declared.subcommand.Subcommand.{Subcommand}
+use Rattle.cvss_subcommands.specs.declared.subcommand.Subcommand.TheVariants.{Set}
 use Rattle.cvss_subcommands.specs.declared.usage_error.UsageError.{UsageError}
-use Rattle.cvss_subcommands.specs.declared.usage_error.UsageError.TheVariants.{NoCommand, UnknownCommand, UnknownOption, Unexpected, NoValue, NoMetric, NotUtf8, AllScores}
+use Rattle.cvss_subcommands.specs.declared.usage_error.UsageError.TheVariants.{NoCommand, UnknownCommand, UnknownOption, Unexpected, NoValue, UnknownVersion, NotMetric, NoMetric, NotUtf8, AllScores}
 
 -- the first of words, or an empty one
 abbrev pub first_word : List (Vec ℕ) → List ℕ
@@ -37,6 +38,10 @@ usage_report usage (Unexpected left) arguments =
     line_about (codes "cvss: unexpected argument '") (word_at left arguments) (codes "'; see '") None
 usage_report usage (NoValue subcommand) arguments =
     line_about (codes "cvss: option '") (word_at 1 arguments) (codes "' needs a value; see '") (Some subcommand)
+usage_report usage (UnknownVersion subcommand left) arguments =
+    line_about (codes "cvss: unknown version '") (word_at left arguments) (codes "'; see '") (Some subcommand)
+usage_report usage (NotMetric left) arguments =
+    line_about (codes "cvss: '") (word_at left arguments) (codes "' is not METRIC:VALUE; see '") (Some Set)
 usage_report usage NoMetric arguments = codes "cvss: no metric to set; see 'cvss help set'\n"
 usage_report usage NotUtf8 arguments = codes "cvss: a metric is not UTF-8; see 'cvss help set'\n"
 usage_report usage (AllScores subcommand flag) arguments =

@@ -1,7 +1,7 @@
 //! The whole command.
 
 ghost use Rattle.std.specs.Prelude.{◌≡◌, ◌++◌, IfOk, OnOk};
-ghost use Rattle.cvss_program.specs.Reports.{reported};
+ghost use Rattle.cvss_frame.specs.Streams.{state};
 ghost use Rattle.cvss_subcommands.specs.Arguments.{metric_part, metrics_in, operands_of, words_of};
 ghost use Rattle.cvss_subcommands.specs.Done.{Does, Runs, SetsGiven, SetsMetrics, audit_of, help_of};
 ghost use Rattle.cvss_subcommands.specs.Requests.{request_of};
@@ -20,87 +20,46 @@ use crate::subcommand::Subcommand;
 use crate::triage::triage_lines;
 use crate::usage_error::UsageError;
 use cvss_audit::{Audit, Layout};
+use cvss_frame::{EachLine, Host, Served, Streams, serve_operands};
 use cvss_lines::{RunFault, write_whole};
-use cvss_program::{EachLine, Files, Report, Served, WatchedReader, serve_operands};
 use std::alloc::{AllocError, Global};
-use std::io::{Read, Write};
+use std::io::Write;
 
 /// Does what the arguments ask for.
 ///
 /// # Errors
 ///
 /// The arguments are not understood. Nothing is read, written or reported then.
-pub(crate) fn run_command<F: Files, R: Read, W: Write, E: Write>(
+pub(crate) fn run_command<H: Host>(
     alloc: Global,
     arguments: &[Vec<u8>],
-    files: &F,
-    reader: &mut WatchedReader<R>,
-    writer: &mut W,
-    report: &mut Report<E>,
+    streams: &mut Streams<H>,
 ) -> Result<Served, UsageError>
     ensures { Does (request_of arguments.now)
         (help_of USAGE.now SCORE_USAGE.now FIND_USAGE.now EXPLAIN_USAGE.now SET_USAGE.now TRIAGE_USAGE.now AUDIT_USAGE.now) VERSION.now
-        arguments.now (F.contents files.now)
-        (R.remaining reader.old.reader) (R.remaining reader.new.reader)
-        (W.contents writer.old) (W.contents writer.new)
-        (reported E.contents report.old) (reported E.contents report.new) result }
+        arguments.now (state streams.old) (state streams.new) result }
 {
     match request_of(arguments) {
-        Request::Help(topic) => Ok(write_text(help_of(topic), writer)),
-        Request::Version => Ok(write_text(VERSION, writer)),
+        Request::Help(topic) => Ok(write_text(help_of(topic), &mut streams.output)),
+        Request::Version => Ok(write_text(VERSION, &mut streams.output)),
         Request::Wrong(error) => Err(error),
         Request::Run(subcommand, options) => {
             let operands = last(arguments, options.operands);
             match subcommand {
-                Subcommand::Score => {
-                    Ok(score(
-                        alloc,
-                        options.flags,
-                        operands,
-                        files,
-                        reader,
-                        writer,
-                        report,
-                    ))
-                }
-                Subcommand::Find => {
-                    Ok(find_vectors(
-                        alloc,
-                        options.flags,
-                        operands,
-                        files,
-                        reader,
-                        writer,
-                        report,
-                    ))
-                }
-                Subcommand::Explain => {
-                    Ok(explain(
-                        alloc,
-                        options.flags,
-                        operands,
-                        files,
-                        reader,
-                        writer,
-                        report,
-                    ))
-                }
-                Subcommand::Set => set_metrics(
-                    alloc, arguments, options, files, reader, writer, report,
-                ),
+                Subcommand::Score => { Ok(score(alloc, options.flags, operands, streams)) }
+                Subcommand::Find => { Ok(find_vectors(alloc, options.flags, operands, streams)) }
+                Subcommand::Explain => { Ok(explain(alloc, options.flags, operands, streams)) }
+                Subcommand::Set => set_metrics(alloc, arguments, options, streams),
                 Subcommand::Triage => Ok(triage_lines(
                     alloc,
                     words_of(arguments, options.words),
                     options.flags,
                     operands,
-                    files,
-                    reader,
-                    writer,
-                    report,
+                    streams,
                 )),
                 Subcommand::Audit => {
                     let task = audit_of(&options);
-                    Ok(serve_operands(alloc, &task, operands, files, reader, writer, report))
+                    Ok(serve_operands(alloc, &task, operands, streams))
                 }
             }
         }
@@ -123,44 +82,30 @@ fn audit_of(options: &Options) -> Audit
 }
 
 /// Sets the metrics that follow the subcommand in the vectors of the operands.
-fn set_metrics<F: Files, R: Read, W: Write, E: Write>(
+fn set_metrics<H: Host>(
     alloc: Global,
     arguments: &[Vec<u8>],
     options: Options,
-    files: &F,
-    reader: &mut WatchedReader<R>,
-    writer: &mut W,
-    report: &mut Report<E>,
+    streams: &mut Streams<H>,
 ) -> Result<Served, UsageError>
     ensures { SetsMetrics (metrics_in (words_of options.words arguments.now)) options
-        arguments.now (F.contents files.now)
-        (R.remaining reader.old.reader) (R.remaining reader.new.reader)
-        (W.contents writer.old) (W.contents writer.new)
-        (reported E.contents report.old) (reported E.contents report.new) result }
+        arguments.now (state streams.old) (state streams.new) result }
 {
     match metrics_in(alloc, words_of(arguments, options.words)) {
-        Ok(given) => set_given(
-            alloc, &given, arguments, options, files, reader, writer, report,
-        ),
+        Ok(given) => set_given(alloc, &given, arguments, options, streams),
         Err(_) => Ok(Served::nothing().after(Err(RunFault::Memory))),
     }
 }
 
 /// Sets metrics, each after a slash, in the vectors of the operands.
-fn set_given<F: Files, R: Read, W: Write, E: Write>(
+fn set_given<H: Host>(
     alloc: Global,
     given: &[u8],
     arguments: &[Vec<u8>],
     options: Options,
-    files: &F,
-    reader: &mut WatchedReader<R>,
-    writer: &mut W,
-    report: &mut Report<E>,
+    streams: &mut Streams<H>,
 ) -> Result<Served, UsageError>
-    ensures { SetsGiven given.now options arguments.now (F.contents files.now)
-        (R.remaining reader.old.reader) (R.remaining reader.new.reader)
-        (W.contents writer.old) (W.contents writer.new)
-        (reported E.contents report.old) (reported E.contents report.new) result }
+    ensures { SetsGiven given.now options arguments.now (state streams.old) (state streams.new) result }
 {
     let Some((_, metrics)) = given.split_first() else {
         return Err(UsageError::NoMetric);
@@ -174,15 +119,8 @@ fn set_given<F: Files, R: Read, W: Write, E: Write>(
         allow_incomplete: options.flags.allow_incomplete,
     };
     let operands = last(arguments, options.operands);
-    Ok(serve_operands(
-        alloc,
-        &EachLine { answer },
-        operands,
-        files,
-        reader,
-        writer,
-        report,
-    ))
+    let task = EachLine { answer };
+    Ok(serve_operands(alloc, &task, operands, streams))
 }
 
 /// Writes a text.

@@ -1,49 +1,41 @@
 //! `cvss explain`.
 
 ghost use Rattle.cvss_subcommands.specs.Done.{explain_ends};
-ghost use Rattle.cvss_explain_answers.specs.Json as json;
-ghost use Rattle.cvss_explain_answers.specs.Text as text;
+ghost use Rattle.cvss_explain.specs.Json as json;
+ghost use Rattle.cvss_explain.specs.Text as text;
 ghost use Rattle.cvss_lines.specs.Prefixed.{is_one_text};
 ghost use Rattle.cvss_lines.specs.Runs.{Ends};
-ghost use Rattle.cvss_program.specs.Operands.{ServesAll};
-ghost use Rattle.cvss_program.specs.Reports.{reported};
+ghost use Rattle.cvss_frame.specs.Operands.{ServesAll};
+ghost use Rattle.cvss_frame.specs.Streams.{state};
 
 use crate::flags::Flags;
-use cvss_explain_answers::{Explaining, answer_explained};
+use cvss_explain::{Explaining, answer_explained};
+use cvss_frame::{EachLine, Host, LineAnswer, Served, Streams, Task, serve_operands};
 use cvss_lines::{Answering, OutputBuffer, RunFault, Summary, run};
-use cvss_program::{
-    EachLine, Files, LineAnswer, Report, Served, Task, WatchedReader, serve_operands,
-};
 use std::alloc::{AllocError, Global};
 use std::io::{Read, Write};
 
 /// Explains the scores of the vectors of the operands.
-pub(crate) fn explain<F: Files, R: Read, W: Write, E: Write>(
+pub(crate) fn explain<H: Host>(
     alloc: Global,
     flags: Flags,
     operands: &[Vec<u8>],
-    files: &F,
-    reader: &mut WatchedReader<R>,
-    writer: &mut W,
-    report: &mut Report<E>,
+    streams: &mut Streams<H>,
 ) -> Served
     ensures { ServesAll (explain_ends flags.json flags.what_if flags.allow_incomplete)
-        (F.contents files.now) operands.now
-        (R.remaining reader.old.reader) (R.remaining reader.new.reader)
-        (W.contents writer.old) (W.contents writer.new)
-        (reported E.contents report.old) (reported E.contents report.new) result }
+        operands.now (state streams.old) (state streams.new) result }
 {
     let allow_incomplete = flags.allow_incomplete;
     if flags.json {
         let task = ExplainObjects { allow_incomplete };
-        serve_operands(alloc, &task, operands, files, reader, writer, report)
+        serve_operands(alloc, &task, operands, streams)
     } else {
         let answer = ExplainText {
             what_if: flags.what_if,
             allow_incomplete,
         };
         let task = EachLine { answer };
-        serve_operands(alloc, &task, operands, files, reader, writer, report)
+        serve_operands(alloc, &task, operands, streams)
     }
 }
 

@@ -2,34 +2,29 @@
 
 ghost use Rattle.std.specs.Prelude.{◌≡◌};
 ghost use Rattle.cvss_subcommands.specs.Done.{FindsAll, FindsVectors, MayHint, find_ends, form_of};
-ghost use Rattle.cvss_program.specs.Reports.{reported};
+ghost use Rattle.cvss_frame.specs.Reports.{reported};
+ghost use Rattle.cvss_frame.specs.Streams.{state};
 ghost use Rattle.cvss_subcommands.specs.Hints.{prefix_hint};
 
 use crate::flags::Flags;
+use cvss_frame::{Host, Report, Served, Streams, Task, serve_operands};
 use cvss_lines::{RunFault, Summary, run};
 use cvss_matches::{Finding, Form, PrefixHint};
-use cvss_program::{Files, Report, Served, Task, WatchedReader, serve_operands};
 use cvss_vector::{Scoring, Version};
 use std::alloc::Global;
 use std::cell::Cell;
 use std::io::{Read, Write};
 
 /// Finds the vectors in the operands. A hint follows on standard error if one was rejected for its prefix.
-pub(crate) fn find_vectors<F: Files, R: Read, W: Write, E: Write>(
+pub(crate) fn find_vectors<H: Host>(
     alloc: Global,
     flags: Flags,
     operands: &[Vec<u8>],
-    files: &F,
-    reader: &mut WatchedReader<R>,
-    writer: &mut W,
-    report: &mut Report<E>,
+    streams: &mut Streams<H>,
 ) -> Served
     ensures { FindsAll
         (find_ends flags.json flags.annotate flags.all flags.base flags.allow_incomplete flags.assumed)
-        (F.contents files.now) operands.now
-        (R.remaining reader.old.reader) (R.remaining reader.new.reader)
-        (W.contents writer.old) (W.contents writer.new)
-        (reported E.contents report.old) (reported E.contents report.new) result }
+        operands.now (state streams.old) (state streams.new) result }
 {
     let hint = Cell::new(None);
     let task = Find {
@@ -39,8 +34,8 @@ pub(crate) fn find_vectors<F: Files, R: Read, W: Write, E: Write>(
         assumed: flags.assumed,
         hint: &hint,
     };
-    let served = serve_operands(alloc, &task, operands, files, reader, writer, report);
-    report_hint(hint.get(), report);
+    let served = serve_operands(alloc, &task, operands, streams);
+    report_hint(hint.get(), &mut streams.errors);
     served
 }
 

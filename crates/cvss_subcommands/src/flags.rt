@@ -1,8 +1,9 @@
 //! The options of subcommands.
 
 ghost use Rattle.std.specs.Prelude.{◌≡◌};
-ghost use Rattle.cvss_subcommands.specs.Flags.{all_scores_of, flag_name, has_value, no_flags, scoring_of, with_flag};
+ghost use Rattle.cvss_subcommands.specs.Flags.{all_scores_of, flag_name, has_value, no_flags, scoring_of, value_due, version_of, with_flag, with_value};
 
+use crate::requests::is;
 use cvss_vector::{Scoring, Version};
 
 /// An option of some subcommands.
@@ -12,10 +13,8 @@ pub(crate) enum Flag {
     Tsv,
     Base,
     AllowIncomplete,
-    /// Vectors without their prefix are of v3.0.
-    Assume30,
-    /// They are of v3.1.
-    Assume31,
+    /// The version of vectors without their prefix is the next word.
+    Assume,
     Annotate,
     All,
     WhatIf,
@@ -27,7 +26,7 @@ pub(crate) enum Flag {
     Profile,
 }
 
-/// Which options are given, of those that have no value.
+/// Which options are given, except those whose values are read where they are used.
 #[derive(Clone, Copy, Drop)]
 pub(crate) struct Flags {
     pub(crate) json: bool,
@@ -52,8 +51,7 @@ impl Flag {
             Flag::Tsv => "--tsv",
             Flag::Base => "--base",
             Flag::AllowIncomplete => "--allow-incomplete",
-            Flag::Assume30 => "--assume=3.0",
-            Flag::Assume31 => "--assume=3.1",
+            Flag::Assume => "--assume",
             Flag::Annotate => "--annotate",
             Flag::All => "--all",
             Flag::WhatIf => "--what-if",
@@ -68,7 +66,14 @@ impl Flag {
     pub(crate) fn has_value(self) -> bool
         ensures { result ≡ has_value self }
     {
-        matches!(self, Flag::Set | Flag::Profile)
+        matches!(self, Flag::Assume | Flag::Set | Flag::Profile)
+    }
+
+    /// The option, if its value is the next word.
+    pub(crate) fn value_due(self) -> Option<Flag>
+        ensures { result ≡ value_due self }
+    {
+        self.has_value().then_some(self)
     }
 }
 
@@ -99,14 +104,26 @@ impl Flags {
             Flag::Tsv => Flags { tsv: true, ..self },
             Flag::Base => Flags { base: true, ..self },
             Flag::AllowIncomplete => Flags { allow_incomplete: true, ..self },
-            Flag::Assume30 => Flags { assumed: Some(Version::V30), ..self },
-            Flag::Assume31 => Flags { assumed: Some(Version::V31), ..self },
             Flag::Annotate => Flags { annotate: true, ..self },
             Flag::All => Flags { all: true, ..self },
             Flag::WhatIf => Flags { what_if: true, ..self },
             Flag::KeepGoing => Flags { keep_going: true, ..self },
             Flag::Document => Flags { document: true, ..self },
-            Flag::Set | Flag::Profile => self,
+            Flag::Assume | Flag::Set | Flag::Profile => self,
+        }
+    }
+
+    /// The options after the value of one of them, if it can be its value.
+    #[rattlefmt::skip]
+    pub(crate) fn with_value(self, flag: Flag, value: &[u8]) -> Option<Flags>
+        ensures { result ≡ with_value flag value.now self }
+    {
+        match flag {
+            Flag::Assume => match version_of(value) {
+                Some(version) => Some(Flags { assumed: Some(version), ..self }),
+                None => None,
+            },
+            _ => Some(self),
         }
     }
 
@@ -132,5 +149,18 @@ impl Flags {
         } else {
             None
         }
+    }
+}
+
+/// The version that vectors without their prefix can have.
+fn version_of(value: &[u8]) -> Option<Version>
+    ensures { result ≡ version_of value.now }
+{
+    if is(value, "3.0") {
+        Some(Version::V30)
+    } else if is(value, "3.1") {
+        Some(Version::V31)
+    } else {
+        None
     }
 }

@@ -14,13 +14,13 @@ pub(crate) const VERSION: &str = "cvss 2.0.0\n";
 pub const USAGE: &str = "\
 usage: cvss score [--json|--tsv|--base] [--allow-incomplete] [VECTOR|FILE]..
        cvss find [--json|[--annotate [--all]] [--base]] [--allow-incomplete]
-                 [--assume=3.0|--assume=3.1] [FILE]..
+                 [--assume 3.0|3.1] [FILE]..
        cvss explain [--json|--what-if] [--allow-incomplete] [VECTOR|FILE]..
-       cvss set [--base] [--allow-incomplete] METRIC:VALUE.. [-- VECTOR|FILE ..]
+       cvss set METRIC:VALUE.. [--base] [--allow-incomplete] [VECTOR|FILE]..
        cvss triage [--set METRIC:VALUE].. [--profile FILE].. [--keep-going]
-                   [--base] [--allow-incomplete] [VECTOR|FILE]..
+                   [--json] [--base] [--allow-incomplete] [VECTOR|FILE]..
        cvss audit [--allow-incomplete] [--document] [FILE]..
-       cvss help [COMMAND], --help, --version
+       cvss help [COMMAND], cvss version, -h, --help, -V, --version
 
   score    the canonical vector, its score and severity for each line
   find     the same for each vector in any text, with its line and column
@@ -30,12 +30,12 @@ usage: cvss score [--json|--tsv|--base] [--allow-incomplete] [VECTOR|FILE]..
   audit    where JSON documents disagree with the vectors in them
 
 An argument with a colon before its first slash is read as a vector; ./ before
-it makes it a file. Without either, or for -, standard input is read.
+it makes it a file. Without either, or for -, standard input is read. Options
+may follow vectors and files; -- ends them, and --set=E:A is as --set E:A.
 
   cvss score AV:N/AC:L/Au:N/C:N/I:N/A:C
 
-Exit status: 0 on success; 1 if a line is rejected or a document disagrees; 2 on
-usage or I/O errors.
+Exit status: 0 on success, 1 if lines are rejected or documents disagree, else 2
 ";
 
 /// What `help score` prints.
@@ -65,7 +65,7 @@ Exit status: 0 on success; 1 if a line is rejected; 2 on usage or I/O errors.
 /// What `help find` prints.
 pub(crate) const FIND_USAGE: &str = "\
 usage: cvss find [--json|[--annotate [--all]] [--base]] [--allow-incomplete]
-                 [--assume=3.0|--assume=3.1] [FILE]..
+                 [--assume 3.0|3.1] [FILE]..
 
 Finds the vectors in any text, of any bytes. For each it prints LINE:COLUMN
 (both from 1, in bytes), a space and the line that cvss score prints for it.
@@ -83,8 +83,7 @@ that ends the line, since a vector may go on in the next line.
   --base               print base scores (--json prints all scores)
   --allow-incomplete   score vectors before such a slash, and v3 vectors that
                        lack base metrics
-  --assume=3.1         read v3 vectors without a prefix as CVSS:3.1/AV:N..; or
-                       --assume=3.0
+  --assume VERSION     read v3 vectors without a prefix as of v3.0 or v3.1
 
   cvss find --annotate findings.tsv
 
@@ -115,18 +114,19 @@ Exit status: 0 on success; 1 if a line is rejected; 2 on usage or I/O errors.
 
 /// What `help set` prints.
 pub(crate) const SET_USAGE: &str = "\
-usage: cvss set [--base] [--allow-incomplete] METRIC:VALUE.. [-- VECTOR|FILE ..]
+usage: cvss set METRIC:VALUE.. [--base] [--allow-incomplete] [VECTOR|FILE]..
 
 Replaces or adds metrics of vectors of any version, and prints the line that
-cvss score prints for each new vector. The vectors are arguments or in files
-after --, or else one per line on standard input.
+cvss score prints for each new vector. An argument with a slash is a vector or a
+file, and any other before -- is a metric and its value. Without vectors and
+files, or for -, standard input is read, with one vector per line.
 
   --base               print base scores (v4.0: of CVSS-B) and their severities
   --allow-incomplete   accept new v3 vectors that lack base metrics, which are
                        rejected otherwise
 
   cvss set E:A < list.txt
-  cvss set MAV:L CR:H -- CVSS:3.1/AV:N/AC:L/PR:N/UI:N/S:U/C:H/I:H/A:H
+  cvss set MAV:L CR:H CVSS:3.1/AV:N/AC:L/PR:N/UI:N/S:U/C:H/I:H/A:H
 
 Exit status: 0 on success; 1 if a line is rejected; 2 on usage or I/O errors.
 ";
@@ -134,7 +134,7 @@ Exit status: 0 on success; 1 if a line is rejected; 2 on usage or I/O errors.
 /// What `help triage` prints.
 pub(crate) const TRIAGE_USAGE: &str = "\
 usage: cvss triage [--set METRIC:VALUE].. [--profile FILE].. [--keep-going]
-                   [--base] [--allow-incomplete] [VECTOR|FILE]..
+                   [--json] [--base] [--allow-incomplete] [VECTOR|FILE]..
 
 Ranks lines by the scores of the vectors (v2, v3.0, v3.1, v4.0) in them, highest
 first, after --set and --profile. For each line it prints the score with all
@@ -146,6 +146,8 @@ metrics in the vector, its severity, the vector, a tab and the line.
                        CR:H/CDP:H (v2)
   --keep-going         skip a line that has no vector or more than one, or whose
                        vector is rejected; otherwise nothing is printed then
+  --json               one object for each line: file (if there are several),
+                       line, text, and the members of cvss score --json
   --base               rank by base scores (v4.0: of CVSS-B)
   --allow-incomplete   score v3 vectors that lack base metrics
 

@@ -6,7 +6,7 @@ ghost use Rattle.cvss_subcommands.specs.declared.hint.Hint.{Hint};
 ghost use Rattle.cvss_subcommands.specs.declared.hint.Hint.TheVariants.{Capitals};
 ghost use Rattle.cvss_vector.specs.Setting.{text_with};
 
-use cvss_program::{Source, source_of};
+use cvss_frame::{Source, source_of};
 use cvss_vector::{Cvss, Version};
 
 /// What would make a rejected text a vector.

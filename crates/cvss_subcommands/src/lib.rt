@@ -7,6 +7,7 @@ mod find;
 mod flags;
 mod help;
 mod hint;
+mod ordering;
 mod requests;
 mod running;
 mod score;

@@ -1,9 +1,10 @@
 //! What the arguments of the command ask for.
 
-ghost use Rattle.std.specs.Prelude.{◌≡◌, bytes_eq, false, length};
+ghost use Rattle.std.specs.Prelude.{◌≡◌, ◌<◌, ◌==◌, IfSome, None, bytes_eq, length};
+ghost use Rattle.std.specs.List.{position};
 ghost use Rattle.cvss_subcommands.specs.Flags.{no_flags};
 ghost use Rattle.cvss_subcommands.specs.Arguments.{is_option};
-ghost use Rattle.cvss_subcommands.specs.Requests.{alone as alone_of, flag_of, found, help_request as help_of, named as named_by, read_words, request_of, word_of};
+ghost use Rattle.cvss_subcommands.specs.Requests.{alone as alone_of, flag_of, found, help_request as help_of, is_help, is_setting, is_version, metric_word, named as named_by, read_words, request_of, word_of};
 
 use crate::flags::{Flag, Flags};
 use crate::subcommand::Subcommand;
@@ -31,7 +32,7 @@ pub(crate) struct Options {
     pub(crate) operands: usize,
 }
 
-/// What a word after a subcommand is.
+/// What a word after a subcommand is, where it is no value of an option.
 #[derive(Drop)]
 pub(crate) enum Word {
     /// `--`, after which all words are operands.
@@ -42,6 +43,8 @@ pub(crate) enum Word {
     Unknown,
     /// What is set in vectors.
     Metric,
+    /// Where a metric and its value are expected, and one of them is missing.
+    NotMetric,
     Operand,
 }
 
@@ -56,9 +59,9 @@ pub(crate) fn request_of(arguments: &[Vec<u8>]) -> Request
         read_words(subcommand, words)
     } else if is(word, "help") {
         help_request(words)
-    } else if is(word, "--help") {
+    } else if is_help(word) {
         alone(Request::Help(None), words)
-    } else if is(word, "--version") {
+    } else if is_version(word) {
         alone(Request::Version, words)
     } else if is_option(word) {
         Request::Wrong(UsageError::UnknownOption(None, arguments.len()))
@@ -67,8 +70,15 @@ pub(crate) fn request_of(arguments: &[Vec<u8>]) -> Request
     }
 }
 
+/// Whether a word asks for the version.
+fn is_version(word: &[u8]) -> bool
+    ensures { result ≡ is_version word.now }
+{
+    is(word, "version") || is(word, "--version") || is(word, "-V")
+}
+
 /// The subcommand of this name.
-fn named(word: &[u8]) -> Option<Subcommand>
+pub(crate) fn named(word: &[u8]) -> Option<Subcommand>
     ensures { result ≡ named_by word.now }
 {
     let all = Subcommand::ALL.iter();
@@ -77,51 +87,51 @@ fn named(word: &[u8]) -> Option<Subcommand>
 
 /// What the words after a subcommand ask for.
 fn read_words(subcommand: Subcommand, words: &[Vec<u8>]) -> Request
-    ensures { result ≡ read_words subcommand (length words.now) no_flags false words.now }
+    ensures { result ≡ read_words subcommand (length words.now) no_flags None words.now }
 {
     let mut flags = Flags::none();
-    let mut value = false;
+    let mut due = None;
     let mut left = words;
     while let Some((word, rest)) = left.split_first() {
-        if value {
-            value = false;
-        } else {
-            match word_of(subcommand, word) {
-                Word::End => {
-                    let read = words.len().saturating_sub(left.len());
-                    return found(subcommand, flags, read, rest.len());
+        let read = words.len().saturating_sub(left.len());
+        match due {
+            Some(flag) => match flags.with_value(flag, word) {
+                Some(given) => {
+                    flags = given;
+                    due = None;
                 }
+                None => return Request::Wrong(UsageError::UnknownVersion(subcommand, left.len())),
+            },
+            None => match word_of(subcommand, word) {
+                Word::End => return found(subcommand, flags, read, rest.len()),
+                Word::Operand => return found(subcommand, flags, read, left.len()),
                 Word::Help => return Request::Help(Some(subcommand)),
                 Word::Unknown => {
                     let error = UsageError::UnknownOption(Some(subcommand), left.len());
                     return Request::Wrong(error);
                 }
-                Word::Operand => {
-                    let read = words.len().saturating_sub(left.len());
-                    return found(subcommand, flags, read, left.len());
-                }
+                Word::NotMetric => return Request::Wrong(UsageError::NotMetric(left.len())),
                 Word::Metric => {}
                 Word::Flag(flag) => {
                     flags = flags.with(flag);
-                    value = flag.has_value();
+                    due = flag.value_due();
                 }
-            }
+            },
         }
         left = rest;
     }
-    if value {
-        Request::Wrong(UsageError::NoValue(subcommand))
-    } else {
-        found(subcommand, flags, words.len(), 0)
+    match due {
+        Some(_) => Request::Wrong(UsageError::NoValue(subcommand)),
+        None => found(subcommand, flags, words.len(), 0),
     }
 }
 
-fn word_of(subcommand: Subcommand, word: &[u8]) -> Word
+pub(crate) fn word_of(subcommand: Subcommand, word: &[u8]) -> Word
     ensures { result ≡ word_of subcommand word.now }
 {
     if is(word, "--") {
         Word::End
-    } else if is(word, "--help") {
+    } else if is_help(word) {
         Word::Help
     } else if is_option(word) {
         match flag_of(subcommand, word) {
@@ -129,14 +139,45 @@ fn word_of(subcommand: Subcommand, word: &[u8]) -> Word
             None => Word::Unknown,
         }
     } else if subcommand.sets_metrics() {
-        Word::Metric
+        metric_word(word)
     } else {
         Word::Operand
     }
 }
 
+/// What a word is where metrics are set.
+fn metric_word(word: &[u8]) -> Word
+    ensures { result ≡ metric_word word.now }
+{
+    if word.contains(&b'/') || is(word, "-") {
+        Word::Operand
+    } else if is_setting(word) {
+        Word::Metric
+    } else {
+        Word::NotMetric
+    }
+}
+
+/// Whether a word has bytes before its first colon, and after it.
+fn is_setting(word: &[u8]) -> bool
+    ensures { result ≡ is_setting word.now }
+{
+    match first_index(word, b':') {
+        Some(index) => index != 0 && index + 1 != word.len(),
+        None => false,
+    }
+}
+
+/// The index of the first byte with this value.
+pub(crate) fn first_index(word: &[u8], value: u8) -> Option<usize>
+    ensures index { result ≡ position (λ byte. byte == value) word.now }
+    ensures bound { IfSome result (λ index. index < length word.now) }
+{
+    word.iter().position(|byte| *byte == value)
+}
+
 /// The flag of this name that a subcommand has.
-fn flag_of(subcommand: Subcommand, word: &[u8]) -> Option<Flag>
+pub(crate) fn flag_of(subcommand: Subcommand, word: &[u8]) -> Option<Flag>
     ensures { result ≡ flag_of subcommand word.now }
 {
     let known = subcommand.flags().iter();
@@ -165,7 +206,7 @@ fn help_request(words: &[Vec<u8>]) -> Request
 {
     match words {
         [] => Request::Help(None),
-        [word] if is(word, "help") => Request::Help(None),
+        [word] if is(word, "help") || is(word, "version") => Request::Help(None),
         [word] => match named(word) {
             Some(subcommand) => Request::Help(Some(subcommand)),
             None => Request::Wrong(UsageError::UnknownCommand(1)),
@@ -184,7 +225,13 @@ fn alone(request: Request, words: &[Vec<u8>]) -> Request
     }
 }
 
-fn is(word: &[u8], text: &str) -> bool
+fn is_help(word: &[u8]) -> bool
+    ensures { result ≡ is_help word.now }
+{
+    is(word, "--help") || is(word, "-h")
+}
+
+pub(crate) fn is(word: &[u8], text: &str) -> bool
     ensures { result ≡ bytes_eq word.now text.now }
 {
     word == text.as_bytes()

@@ -1,76 +1,73 @@
 //! A run of the command: what it does, what it reports, and its exit status.
 
 ghost use Rattle.std.specs.Prelude.{◌≡◌, ◌↔◌, IsTrue, MatchResult};
-ghost use Rattle.cvss_program.specs.Reports.{Reports, reported};
+ghost use Rattle.cvss_frame.specs.Reports.{Reports, reported};
+ghost use Rattle.cvss_frame.specs.Streams.{state};
 ghost use Rattle.cvss_subcommands.specs.Done.{help_of};
-ghost use Rattle.cvss_subcommands.specs.Ending.{EndsBefore, EndsCommand, EndsServed, IsClosed, ReportsHint, ReportsNote, ReportsStop, ReportsWrite, fault_report, is_audit, is_silent};
+ghost use Rattle.cvss_subcommands.specs.Ending.{EndsBefore, EndsCommand, EndsOrdered, EndsServed, IsClosed, ReportsHint, ReportsNote, ReportsStop, ReportsWrite, fault_report, is_audit, is_silent};
 
 use crate::command::run_command;
 use crate::help::{
     AUDIT_USAGE, EXPLAIN_USAGE, FIND_USAGE, SCORE_USAGE, SET_USAGE, TRIAGE_USAGE, USAGE, VERSION,
 };
 use crate::hint::first_hint;
+use crate::ordering::options_first;
 use crate::subcommand::Subcommand;
 use crate::usage_error::report_usage;
+use cvss_frame::{Host, Report, Served, Streams, exit_status, report_error};
 use cvss_lines::RunFault;
-use cvss_program::{
-    Files, Report, Served, WatchedReader, WatchedWriter, exit_status, report_error,
-};
 use std::alloc::{AllocError, Global};
-use std::io::{self, ErrorKind, Read, Write};
+use std::io::{self, ErrorKind, Write};
 
 /// Does what the arguments ask for, where there is memory for them, and reports what is to be said of it.
 /// The result is the exit status.
-pub fn run<F: Files, R: Read, W: Write, E: Write>(
+pub fn run<H: Host>(
     alloc: Global,
     arguments: Result<Vec<Vec<u8>>, AllocError>,
-    files: &F,
-    reader: &mut WatchedReader<R>,
-    writer: &mut WatchedWriter<W>,
-    report: &mut Report<E>,
+    streams: &mut Streams<H>,
 ) -> u8
     ensures { MatchResult arguments
-        (λ arguments. EndsCommand
+        (λ arguments. EndsOrdered
         (help_of USAGE.now SCORE_USAGE.now FIND_USAGE.now EXPLAIN_USAGE.now SET_USAGE.now TRIAGE_USAGE.now AUDIT_USAGE.now)
-        VERSION.now arguments.items (F.contents files.now)
-        (R.remaining reader.old.reader) (R.remaining reader.new.reader)
-        (W.contents writer.old.writer) (W.contents writer.new.writer)
-        writer.new.has_taken writer.new.error
-        (reported E.contents report.old) (reported E.contents report.new) result)
-        (λ _. EndsBefore (R.remaining reader.old.reader) (R.remaining reader.new.reader)
-        (W.contents writer.old.writer) (W.contents writer.new.writer)
-        (reported E.contents report.old) (reported E.contents report.new) result) }
+        VERSION.now arguments.items (state streams.old) (state streams.new)
+        streams.new.output.has_taken streams.new.output.error result)
+        (λ _. EndsBefore (state streams.old) (state streams.new) result) }
 {
     match arguments {
-        Ok(arguments) => run_with(alloc, &arguments, files, reader, writer, report),
+        Ok(arguments) => match options_first(alloc, arguments) {
+            Ok(arguments) => run_with(alloc, &arguments, streams),
+            Err(_) => {
+                report_fault(RunFault::Memory, &mut streams.errors);
+                2
+            }
+        },
         Err(_) => {
-            report_fault(RunFault::Memory, report);
+            report_fault(RunFault::Memory, &mut streams.errors);
             2
         }
     }
 }
 
 /// Does what the arguments ask for.
-fn run_with<F: Files, R: Read, W: Write, E: Write>(
-    alloc: Global,
-    arguments: &[Vec<u8>],
-    files: &F,
-    reader: &mut WatchedReader<R>,
-    writer: &mut WatchedWriter<W>,
-    report: &mut Report<E>,
-) -> u8
+fn run_with<H: Host>(alloc: Global, arguments: &[Vec<u8>], streams: &mut Streams<H>) -> u8
     ensures { EndsCommand
         (help_of USAGE.now SCORE_USAGE.now FIND_USAGE.now EXPLAIN_USAGE.now SET_USAGE.now TRIAGE_USAGE.now AUDIT_USAGE.now)
-        VERSION.now arguments.now (F.contents files.now)
-        (R.remaining reader.old.reader) (R.remaining reader.new.reader)
-        (W.contents writer.old.writer) (W.contents writer.new.writer)
-        writer.new.has_taken writer.new.error
-        (reported E.contents report.old) (reported E.contents report.new) result }
+        VERSION.now arguments.now (state streams.old) (state streams.new)
+        streams.new.output.has_taken streams.new.output.error result }
 {
-    match run_command(alloc, arguments, files, reader, writer, report) {
-        Ok(served) => end(arguments, writer.has_taken, writer.error, served, report),
+    match run_command(alloc, arguments, streams) {
+        Ok(served) => {
+            let output = &streams.output;
+            end(
+                arguments,
+                output.has_taken,
+                output.error,
+                served,
+                &mut streams.errors,
+            )
+        }
         Err(error) => {
-            report_usage(error, arguments, report);
+            report_usage(error, arguments, &mut streams.errors);
             2
         }
     }

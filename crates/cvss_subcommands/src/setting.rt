@@ -5,8 +5,8 @@ ghost use Rattle.cvss_vector.specs.Answers.{HasScore};
 ghost use Rattle.cvss_subcommands.specs.Setting.{IsSetBy, IsSetError, set_rule};
 ghost use Rattle.cvss_lines.specs.Prefixed.{is_one_text};
 
+use cvss_frame::LineAnswer;
 use cvss_lines::{Answering, OutputBuffer};
-use cvss_program::LineAnswer;
 use cvss_vector::{Cvss, ReadError, Rejection, Scoring, write_error, write_vector};
 use std::alloc::{AllocError, Global};
 

@@ -53,8 +53,7 @@ impl Subcommand {
                     Flag::All,
                     Flag::Base,
                     Flag::AllowIncomplete,
-                    Flag::Assume30,
-                    Flag::Assume31,
+                    Flag::Assume,
                 ]
             }
             Subcommand::Explain => &[Flag::Json, Flag::WhatIf, Flag::AllowIncomplete],
@@ -64,6 +63,7 @@ impl Subcommand {
                     Flag::Set,
                     Flag::Profile,
                     Flag::KeepGoing,
+                    Flag::Json,
                     Flag::Base,
                     Flag::AllowIncomplete,
                 ]
@@ -72,7 +72,7 @@ impl Subcommand {
         }
     }
 
-    /// Whether its first words are metrics, and its operands follow `--`.
+    /// Whether words without a slash are metrics.
     pub(crate) fn sets_metrics(self) -> bool
         ensures { result ≡ sets_metrics self }
     {

@@ -5,8 +5,8 @@ ghost use Rattle.cvss_lines.specs.Prefixed.{is_one_text};
 ghost use Rattle.cvss_lines.specs.Runs.{Ends};
 ghost use Rattle.cvss_report.specs.Rows.{IsRow};
 
+use cvss_frame::{LineAnswer, Task};
 use cvss_lines::{Answering, OutputBuffer, RunFault, Summary, run};
-use cvss_program::{LineAnswer, Task};
 use cvss_report::{Format, Rows};
 use cvss_vector::{Scoring, answer_score};
 use std::alloc::{AllocError, Global};

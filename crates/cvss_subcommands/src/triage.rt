@@ -1,35 +1,27 @@
 //! `cvss triage`.
 
 ghost use Rattle.std.specs.Prelude.{◌≡◌, IfOk, map};
-ghost use Rattle.cvss_program.specs.Reports.{reported};
-ghost use Rattle.cvss_subcommands.specs.Flags.{scoring_of};
-ghost use Rattle.cvss_subcommands.specs.Triaging.{kind_of, settings_of};
+ghost use Rattle.cvss_frame.specs.Streams.{state};
+ghost use Rattle.cvss_subcommands.specs.Triaging.{asked_by, kind_of, settings_of};
 ghost use Rattle.cvss_triage.specs.Settings.{as_words};
 ghost use Rattle.cvss_triage.specs.Triage.{Triages};
 
 use crate::flags::{Flag, Flags};
+use cvss_frame::{Host, Served, Streams};
 use cvss_lines::RunFault;
-use cvss_program::{Files, Report, Served, WatchedReader};
 use cvss_triage::{Setting, SettingKind, Triage, rank_operands};
 use std::alloc::{AllocError, Global};
-use std::io::{Read, Write};
 
 /// Ranks the lines of the operands, with what the words of the options set.
-pub(crate) fn triage_lines<F: Files, R: Read, W: Write, E: Write>(
+pub(crate) fn triage_lines<H: Host>(
     alloc: Global,
     words: &[Vec<u8>],
     flags: Flags,
     operands: &[Vec<u8>],
-    files: &F,
-    reader: &mut WatchedReader<R>,
-    writer: &mut W,
-    report: &mut Report<E>,
+    streams: &mut Streams<H>,
 ) -> Served
-    ensures { Triages (settings_of words.now) flags.keep_going (scoring_of flags.base)
-        flags.allow_incomplete (F.contents files.now) operands.now
-        (R.remaining reader.old.reader) (R.remaining reader.new.reader)
-        (W.contents writer.old) (W.contents writer.new)
-        (reported E.contents report.old) (reported E.contents report.new) result }
+    ensures { Triages (asked_by words.now flags) operands.now
+        (state streams.old) (state streams.new) result }
 {
     let Ok(settings) = settings_of(alloc, words) else {
         return Served::nothing().after(Err(RunFault::Memory));
@@ -39,8 +31,9 @@ pub(crate) fn triage_lines<F: Files, R: Read, W: Write, E: Write>(
         keep_going: flags.keep_going,
         scoring: flags.scoring(),
         allow_incomplete: flags.allow_incomplete,
+        json: flags.json,
     };
-    rank_operands(alloc, &asked, operands, files, reader, writer, report)
+    rank_operands(alloc, &asked, operands, streams)
 }
 
 /// What the words of the options set.

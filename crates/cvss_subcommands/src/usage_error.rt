@@ -1,14 +1,14 @@
 //! What is wrong with the arguments of the command, and the line that is reported of it.
 
 ghost use Rattle.std.specs.Prelude.{◌≡◌};
-ghost use Rattle.cvss_program.specs.Reports.{Reports, reported};
+ghost use Rattle.cvss_frame.specs.Reports.{Reports, reported};
 ghost use Rattle.cvss_subcommands.specs.UsageErrors.{help_command, line_about, usage_report, word_at};
 
 use crate::command::last;
 use crate::flags::Flag;
 use crate::help::USAGE;
 use crate::subcommand::Subcommand;
-use cvss_program::Report;
+use cvss_frame::Report;
 use std::io::Write;
 
 /// What is wrong with the arguments. A word of them is given by how many are left from it on.
@@ -24,6 +24,10 @@ pub(crate) enum UsageError {
     Unexpected(usize),
     /// The last word is an option that needs a value.
     NoValue(Subcommand),
+    /// The word is no version that vectors can be assumed to have.
+    UnknownVersion(Subcommand, usize),
+    /// The word is to be a metric and its value.
+    NotMetric(usize),
     /// There is no metric to set.
     NoMetric,
     /// A metric to set is not UTF-8.
@@ -64,6 +68,20 @@ pub(crate) fn report_usage<E: Write>(
         UsageError::NoValue(subcommand) => {
             let (word, after) = (word_at(arguments, 1), "' needs a value; see '");
             report_about("cvss: option '", word, after, Some(subcommand), report);
+        }
+        UsageError::UnknownVersion(subcommand, left) => {
+            let (word, after) = (word_at(arguments, left), "'; see '");
+            report_about(
+                "cvss: unknown version '",
+                word,
+                after,
+                Some(subcommand),
+                report,
+            );
+        }
+        UsageError::NotMetric(left) => {
+            let (word, after) = (word_at(arguments, left), "' is not METRIC:VALUE; see '");
+            report_about("cvss: '", word, after, Some(Subcommand::Set), report);
         }
         UsageError::NoMetric => report.write(b"cvss: no metric to set; see 'cvss help set'\n"),
         UsageError::NotUtf8 => {

@@ -1,7 +1,7 @@
 //! Tests of how a program's arguments are read.
 
 use crate::values::Tried;
-use cvss_program::arguments;
+use cvss_frame::arguments;
 use std::alloc::Global;
 use std::env::{Env, FillError};
 use std::process::Abort;

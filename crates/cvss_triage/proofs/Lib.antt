@@ -1,1 +1,4 @@
+mod OwnLemmas
+mod RankLemmas
 mod ReadsLemmas
+mod RowLemmas

@@ -1,5 +1,10 @@
 pub mod Inputs
+pub mod Overrides
+pub mod Places
+pub mod Ranking
+pub mod Reading
 pub mod Reports
 pub mod Rows
 pub mod Settings
 pub mod Triage
+pub mod private

@@ -3,12 +3,11 @@
 use Rattle.std.specs.Prelude.{◌≡◌, ℕ, ◌==◌, ◌||◌, Bool, List, [], ◌∷◌, codes, drop, flat_map, filter_map, All, IsSome, IsSomeAnd, Option, None, Some, if◌then◌else◌}
 use Rattle.std.specs.List.{list_all, starts_with}
 use Rattle.std.specs.Global.{Vec}
-use Rattle.std.specs.Io.KnownBytes.{Keeps}
 use Rattle.cvss_lines.specs.Lines.{lines}
-use Rattle.cvss_rank.specs.Overrides.{HoldsForSome}
-use Rattle.cvss_rank.specs.declared.overrides.Family.{Family}
-use Rattle.cvss_rank.specs.declared.overrides.Family.TheVariants.{V2, V3, V4}
-use Rattle.cvss_rank.specs.declared.overrides.Override.{Override}
+use Rattle.cvss_triage.specs.Overrides.{HoldsForSome}
+use Rattle.cvss_triage.specs.declared.overrides.Family.{Family}
+use Rattle.cvss_triage.specs.declared.overrides.Family.TheVariants.{V2, V3, V4}
+use Rattle.cvss_triage.specs.declared.overrides.Override.{Override}
 use Rattle.cvss_triage.specs.Inputs.{Reading, ReadsInput}
 use Rattle.cvss_triage.specs.declared.settings.Setting.{Setting}
 use Rattle.cvss_triage.specs.declared.settings.SettingKind.{SettingKind}
@@ -24,14 +23,12 @@ abbrev pub as_metrics : Override → Option Family × List ℕ
 as_metrics it = (it.family, it.metrics.now)
 
 -- the text of a setting: its word, or what the profile has that its word names
-abbrev pub ReadsText : (List ℕ → Option (List ℕ)) → SettingKind → Reading (List ℕ) (Option (Vec ℕ))
-ReadsText contents Metrics word unread unread' report report' text =
-    Keeps unread unread' × (report' ≡ report) × IsSomeAnd text (λ bytes. bytes.items ≡ word)
-ReadsText contents Profile word unread unread' report report' text = ReadsInput contents word unread unread' report report' text
+abbrev pub ReadsText : SettingKind → Reading (List ℕ) (Option (Vec ℕ))
+ReadsText Metrics word old new text = (new ≡ old) × IsSomeAnd text (λ bytes. bytes.items ≡ word)
+ReadsText Profile word old new text = ReadsInput word old new text
 
-abbrev pub ReadsSetting : (List ℕ → Option (List ℕ)) → Reading (SettingKind × List ℕ) SettingText
-ReadsSetting contents words unread unread' report report' it =
-    (as_words it.setting.now ≡ words) × ReadsText contents words.0 words.1 unread unread' report report' it.text
+abbrev pub ReadsSetting : Reading (SettingKind × List ℕ) SettingText
+ReadsSetting words old new it = (as_words it.setting.now ≡ words) × ReadsText words.0 words.1 old new it.text
 
 -- a blank or a tab
 abbrev pub is_blank : ℕ → Bool

@@ -3,7 +3,7 @@
 ghost use Rattle.std.specs.Prelude.{◌≡◌, ◌++◌, IfOk, OnOk, map};
 ghost use Rattle.cvss_lines.specs.Lines.{lines as lines_of_text};
 ghost use Rattle.cvss_triage.specs.Inputs.{lines_in, lines_of_input};
-ghost use Rattle.cvss_triage.specs.Reports.{starts_of};
+ghost use Rattle.cvss_triage.specs.Places.{starts_of};
 
 use cvss_lines::first_line;
 use std::alloc::{AllocError, Global};

@@ -2,16 +2,18 @@
 
 ghost use Rattle.std.specs.Prelude.{[], None, OnOk, Some};
 ghost use Rattle.cvss_lines.specs.Lines.{lines as lines_of_text};
-ghost use Rattle.cvss_program.specs.Reports.{reported};
-ghost use Rattle.cvss_triage.specs.Reports.{ReportsBadLine, ReportsEach, ReportsLines, ReportsSetting, ReportsUnknown, ReportsUnknownIn, place_text};
+ghost use Rattle.cvss_frame.specs.Reports.{reported};
+ghost use Rattle.cvss_triage.specs.Reports.{ReportsBadLine, ReportsEach, ReportsLines, ReportsSetting, ReportsUnknown, ReportsUnknownIn};
+ghost use Rattle.cvss_triage.specs.Places.{place_text};
 ghost use Rattle.cvss_triage.specs.Settings.{as_metrics, line_metrics};
 
-use crate::overrides::{for_all_versions, override_by};
-use crate::reported::{bad_report, unknown_line_text, unknown_text};
+use crate::messages::{bad_line_text, unknown_line_text, unknown_text};
+use crate::overrides::Override;
+use crate::places::Places;
+use crate::ranking::BadLine;
 use crate::settings::{SettingKind, SettingText};
+use cvss_frame::Report;
 use cvss_lines::first_line;
-use cvss_program::Report;
-use cvss_rank::{BadLine, Override, holds_for_some};
 use std::alloc::{AllocError, Global};
 use std::io::Write;
 
@@ -61,8 +63,8 @@ fn report_metrics<E: Write>(
     ensures { OnOk result (ReportsUnknown (None, metrics.now) [] metrics.now
         (reported E.contents report.old) (reported E.contents report.new)) }
 {
-    if !holds_for_some(for_all_versions(metrics)) {
-        report.write(&unknown_text(alloc, metrics)?.bytes);
+    if !Override::for_all_versions(metrics).holds_for_some() {
+        report.write(&unknown_text(alloc, metrics)?);
     }
     Ok(())
 }
@@ -74,50 +76,50 @@ fn report_profile<E: Write>(
     alloc: Global,
     report: &mut Report<E>,
 ) -> Result<(), AllocError>
-    ensures { OnOk result (ReportsLines name.now 0 (lines_of_text text.now)
+    ensures { OnOk result (ReportsLines name.now 1 (lines_of_text text.now)
         (reported E.contents report.old) (reported E.contents report.new)) }
 {
-    let mut index = 0;
+    let mut number = 1;
     let mut left = text;
     while let Some((line, rest)) = first_line(left) {
-        report_line(name, index, line, alloc, report)?;
-        index += 1;
+        report_line(name, number, line, alloc, report)?;
+        number += 1;
         left = rest;
     }
     Ok(())
 }
 
-/// Reports the line of an index of a profile, if it is not blank and holds for no vector.
+/// Reports the line of this number of a profile, if it is not blank and holds for no vector.
 fn report_line<E: Write>(
     name: &[u8],
-    index: usize,
+    number: usize,
     line: &[u8],
     alloc: Global,
     report: &mut Report<E>,
 ) -> Result<(), AllocError>
-    ensures { OnOk result (ReportsUnknownIn (line_metrics line.now) (place_text (Some name.now) index)
+    ensures { OnOk result (ReportsUnknownIn (line_metrics line.now) (place_text (Some name.now) number)
         line.now (reported E.contents report.old) (reported E.contents report.new)) }
 {
-    match override_by(line) {
-        Some(it) => report_override(name, index, line, it, alloc, report),
+    match Override::by_line(line) {
+        Some(it) => report_override(name, number, line, it, alloc, report),
         None => Ok(()),
     }
 }
 
-/// Reports the line of an index of a profile that sets these metrics, if they hold for no vector.
+/// Reports the line of this number of a profile that sets these metrics, if they hold for no vector.
 fn report_override<E: Write>(
     name: &[u8],
-    index: usize,
+    number: usize,
     line: &[u8],
     it: Override<'_>,
     alloc: Global,
     report: &mut Report<E>,
 ) -> Result<(), AllocError>
-    ensures { OnOk result (ReportsUnknown (as_metrics it.entry) (place_text (Some name.now) index)
+    ensures { OnOk result (ReportsUnknown (as_metrics it.entry) (place_text (Some name.now) number)
         line.now (reported E.contents report.old) (reported E.contents report.new)) }
 {
-    if !holds_for_some(it) {
-        report.write(&unknown_line_text(alloc, name, index, line)?.bytes);
+    if !it.holds_for_some() {
+        report.write(&unknown_line_text(alloc, name, number, line)?);
     }
     Ok(())
 }
@@ -132,16 +134,15 @@ fn report_override<E: Write>(
 pub(crate) fn report_bad<E: Write>(
     alloc: Global,
     bad: &[BadLine<'_>],
-    starts: &[usize],
-    many: bool,
-    operands: &[Vec<u8>],
+    places: &Places<'_>,
     report: &mut Report<E>,
 ) -> Result<(), AllocError>
-    ensures { OnOk result (ReportsEach (ReportsBadLine starts.now many operands.now)
+    ensures { OnOk result (ReportsEach
+        (ReportsBadLine places.now.starts.now places.now.many places.now.operands.now)
         bad.now (reported E.contents report.old) (reported E.contents report.new)) }
 {
     for it in bad {
-        report_bad_line(alloc, it, starts, many, operands, report)?;
+        report_bad_line(alloc, it, places, report)?;
     }
     Ok(())
 }
@@ -149,14 +150,14 @@ pub(crate) fn report_bad<E: Write>(
 fn report_bad_line<E: Write>(
     alloc: Global,
     it: &BadLine<'_>,
-    starts: &[usize],
-    many: bool,
-    operands: &[Vec<u8>],
+    places: &Places<'_>,
     report: &mut Report<E>,
 ) -> Result<(), AllocError>
-    ensures { OnOk result (ReportsBadLine starts.now many operands.now it.now
+    ensures { OnOk result
+        (ReportsBadLine places.now.starts.now places.now.many places.now.operands.now it.now
         (reported E.contents report.old) (reported E.contents report.new)) }
 {
-    report.write(&bad_report(alloc, it, starts, many, operands)?.bytes);
+    let (name, number) = places.of_line(it.number);
+    report.write(&bad_line_text(alloc, name, number, &it.reason)?);
     Ok(())
 }

@@ -1,69 +1,98 @@
 //! How rows are written.
 
-ghost use Rattle.std.specs.Prelude.{◌≡◌, ◌++◌, IfOk, OnOk, flat_map};
-ghost use Rattle.cvss_vector.specs.Answers.{score_of_tenths, text_of};
-ghost use Rattle.cvss_triage.specs.Rows.{row_text, score_text, scored_text};
+ghost use Rattle.std.specs.Prelude.{◌≡◌, ◌++◌, ◌≤◌, All, IfOk, OnOk, option_map};
+ghost use Rattle.cvss_json.specs.Sinks.{Adds};
+ghost use Rattle.cvss_vector.specs.Answers.{text_of};
+ghost use Rattle.cvss_triage.specs.Rows.{AreRowTexts, IsObject, IsRowText, file_member, first_members, row_text, scored_text};
+ghost use Rattle.cvss_triage.specs.private.Steps.{IsToTen, WritesRow};
 
-use cvss_base::{OneDecimal, TENTH};
+use crate::places::Places;
+use crate::row::Row;
+use crate::triage::Triage;
+use cvss_base::tenths;
+use cvss_json::{Growing, Sink, put_whole};
 use cvss_lines::OutputBuffer;
-use cvss_rank::Row;
+use cvss_report::{Format, put_given, write_cells};
 use cvss_vector::Cvss;
 use std::alloc::{AllocError, Global};
 use std::fmt::{self, Write};
 
-/// The rows as they are written, one a line.
+/// The text of rows, one a line, in words or as objects.
 ///
 /// # Errors
 ///
 /// Out of memory.
-pub(crate) fn rows_text(alloc: Global, rows: &[Row<'_>]) -> Result<Vec<u8>, AllocError>
-    ensures { IfOk result (λ text. text.items ≡ flat_map row_text rows.now) }
+#[tactic(auto, using(crate::proofs::RowLemmas::texts_more, crate::proofs::RowLemmas::to_ten_at))]
+pub(crate) fn rows_text(
+    alloc: Global,
+    asked: &Triage<'_>,
+    rows: &[Row<'_>],
+    places: &Places<'_>,
+) -> Result<Vec<u8>, AllocError>
+    requires { All IsToTen rows.now }
+    ensures { IfOk result (λ text. AreRowTexts
+        (IsRowText asked.now.json asked.now.allow_incomplete places.now.starts.now places.now.many
+        places.now.operands.now) rows.now text.items) }
 {
     let mut text = OutputBuffer {
         bytes: Vec::new(alloc),
     };
     for row in rows {
-        if write_row(row, &mut text).is_err() {
-            return Err(AllocError);
-        }
+        write_row(alloc, asked, row, places, &mut text)?;
     }
     Ok(text.bytes)
 }
 
-fn write_row(row: &Row<'_>, text: &mut OutputBuffer) -> fmt::Result
+/// Writes a row in words or as an object.
+fn write_row(
+    alloc: Global,
+    asked: &Triage<'_>,
+    row: &Row<'_>,
+    places: &Places<'_>,
+    text: &mut OutputBuffer,
+) -> Result<(), AllocError>
+    requires { IsToTen row.now }
+    ensures { OnOk result (WritesRow
+        (IsRowText asked.now.json asked.now.allow_incomplete places.now.starts.now places.now.many
+        places.now.operands.now row.now)
+        text.old.bytes.items text.new.bytes.items) }
+{
+    if asked.json {
+        write_object(alloc, asked.allow_incomplete, row, places, text)
+    } else {
+        write_words(row, text)
+    }
+}
+
+/// Writes the score, its severity, the vector and the line.
+fn write_words(row: &Row<'_>, text: &mut OutputBuffer) -> Result<(), AllocError>
+    requires { row.now.tenths ≤ 100 }
     ensures { OnOk result (text.new.bytes.items ≡ text.old.bytes.items ++ row_text row.now) }
 {
     write_scored(row, text)?;
     text.push(b"\t")?;
     text.push(row.line)?;
-    text.push(b"\n")?;
-    Ok(())
+    text.push(b"\n")
 }
 
 /// Writes the score, its severity and the vector, with a blank between two of them.
-fn write_scored(row: &Row<'_>, text: &mut OutputBuffer) -> fmt::Result
+fn write_scored(row: &Row<'_>, text: &mut OutputBuffer) -> Result<(), AllocError>
+    requires { row.now.tenths ≤ 100 }
     ensures { OnOk result (text.new.bytes.items ≡ text.old.bytes.items ++ scored_text row.now) }
 {
-    write_score(score_of(row), text)?;
+    text.push(tenths::text_of(row.tenths).as_bytes())?;
     text.push(b" ")?;
-    text.push(row.severity().as_str().as_bytes())?;
+    text.push(
+        row.vector
+            .severity_of_tenths(row.tenths)
+            .as_str()
+            .as_bytes(),
+    )?;
     text.push(b" ")?;
-    write_vector(&row.vector, text)
-}
-
-fn score_of(row: &Row<'_>) -> OneDecimal
-    ensures { result.count ≡ score_of_tenths row.now.tenths }
-{
-    OneDecimal {
-        count: i128::from(row.tenths) * TENTH,
+    match write_vector(&row.vector, text) {
+        Ok(()) => Ok(()),
+        Err(_) => Err(AllocError),
     }
-}
-
-fn write_score(score: OneDecimal, text: &mut OutputBuffer) -> fmt::Result
-    ensures { OnOk result (text.new.bytes.items
-        ≡ text.old.bytes.items ++ score_text score.count) }
-{
-    write!(text, "{score}")
 }
 
 #[tactic(auto, using(cvss_lines::proofs::TextsLemmas::appended))]
@@ -71,4 +100,72 @@ fn write_vector(vector: &Cvss, text: &mut OutputBuffer) -> fmt::Result
     ensures { OnOk result (text.new.bytes.items ≡ text.old.bytes.items ++ text_of vector.now) }
 {
     write!(text, "{vector}")
+}
+
+/// Writes the object of a row.
+fn write_object(
+    alloc: Global,
+    allow_incomplete: bool,
+    row: &Row<'_>,
+    places: &Places<'_>,
+    text: &mut OutputBuffer,
+) -> Result<(), AllocError>
+    ensures { OnOk result (WritesRow (IsObject allow_incomplete
+        places.now.starts.now places.now.many places.now.operands.now row.now)
+        text.old.bytes.items text.new.bytes.items) }
+{
+    let (name, number) = places.of_line(row.number);
+    write_first_members(name, number, row.line, text)?;
+    let vector = row.vector.to_string(alloc)?;
+    write_cells(
+        alloc,
+        Format::Json,
+        vector.as_bytes(),
+        allow_incomplete,
+        text,
+    )?;
+    Ok(())
+}
+
+fn write_first_members(
+    name: Option<&[u8]>,
+    number: usize,
+    line: &[u8],
+    text: &mut OutputBuffer,
+) -> Result<(), AllocError>
+    ensures { OnOk result (text.new.bytes.items ≡ text.old.bytes.items
+        ++ first_members (option_map (λ name. name.now) name.entry) number line.now) }
+{
+    let mut sink = Growing::begin_after(text);
+    put_first_members(&mut sink, name, number, line);
+    sink.end_into(text)
+}
+
+fn put_first_members<S: Sink>(sink: &mut S, name: Option<&[u8]>, number: usize, line: &[u8])
+    ensures { Adds S.Holds
+        (first_members (option_map (λ name. name.now) name.entry) number line.now)
+        sink.old sink.new }
+{
+    sink.push(b"{");
+    put_file(sink, name);
+    sink.push(b"\"line\":");
+    put_whole(sink, number as u64);
+    sink.push(b",\"text\":");
+    put_given(sink, Format::Json, line);
+}
+
+/// Writes the member that says a line's file, if that is named.
+#[tactic(auto, using(cvss_json::proofs::AddsLemmas::join2))]
+fn put_file<S: Sink>(sink: &mut S, name: Option<&[u8]>)
+    ensures { Adds S.Holds (file_member (option_map (λ name. name.now) name.entry))
+        sink.old sink.new }
+{
+    match name {
+        None => sink.push(b""),
+        Some(name) => {
+            sink.push(b"\"file\":");
+            put_given(sink, Format::Json, name);
+            sink.push(b",");
+        }
+    }
 }

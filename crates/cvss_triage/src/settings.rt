@@ -1,14 +1,13 @@
 //! What the options of triage set, and the texts that say it.
 
-ghost use Rattle.std.specs.Prelude.{IfOk, map};
-ghost use Rattle.cvss_program.specs.Reports.{reported};
+ghost use Rattle.std.specs.Prelude.{◌≡◌, IfOk, map};
+ghost use Rattle.cvss_frame.specs.Streams.{state};
 ghost use Rattle.cvss_triage.specs.Inputs.{ReadsEach};
 ghost use Rattle.cvss_triage.specs.Settings.{ReadsSetting, as_words};
 
 use crate::inputs::read_input;
-use cvss_program::{Files, Report, WatchedReader};
+use cvss_frame::{Host, Streams};
 use std::alloc::{AllocError, Global};
-use std::io::{Read, Write};
 
 /// How an option says which metrics are set.
 #[derive(Drop)]
@@ -34,44 +33,40 @@ pub(crate) struct SettingText<'a> {
     pub(crate) text: Option<Vec<u8>>,
 }
 
-/// Reads the texts of settings in turn.
+/// Reads the texts of settings in turn. Nothing is written.
 ///
 /// # Errors
 ///
 /// Out of memory.
 #[tactic(auto, using(crate::proofs::ReadsLemmas::reads_all))]
-pub(crate) fn read_settings<'a, F: Files, R: Read, E: Write>(
+pub(crate) fn read_settings<'a, H: Host>(
     alloc: Global,
     settings: &'a [Setting<'a>],
-    files: &F,
-    reader: &mut WatchedReader<R>,
-    report: &mut Report<E>,
+    streams: &mut Streams<H>,
 ) -> Result<Vec<SettingText<'a>>, AllocError>
-    ensures { IfOk result (λ texts. ReadsEach (ReadsSetting (F.contents files.now))
-        (map as_words settings.now) (R.remaining reader.old.reader) (R.remaining reader.new.reader)
-        (reported E.contents report.old) (reported E.contents report.new) texts.items) }
+    ensures read { IfOk result (λ texts. ReadsEach ReadsSetting (map as_words settings.now)
+        (state streams.old) (state streams.new) texts.items) }
+    ensures written { (state streams.new).written ≡ (state streams.old).written }
 {
     let mut texts = Vec::new(alloc);
     for setting in settings {
-        texts.push(read_setting(alloc, setting, files, reader, report)?)?;
+        texts.push(read_setting(alloc, setting, streams)?)?;
     }
     Ok(texts)
 }
 
-fn read_setting<'a, F: Files, R: Read, E: Write>(
+fn read_setting<'a, H: Host>(
     alloc: Global,
     setting: &'a Setting<'a>,
-    files: &F,
-    reader: &mut WatchedReader<R>,
-    report: &mut Report<E>,
+    streams: &mut Streams<H>,
 ) -> Result<SettingText<'a>, AllocError>
-    ensures { IfOk result (ReadsSetting (F.contents files.now) (as_words setting.now)
-        (R.remaining reader.old.reader) (R.remaining reader.new.reader)
-        (reported E.contents report.old) (reported E.contents report.new)) }
+    ensures read { IfOk result (ReadsSetting (as_words setting.now)
+        (state streams.old) (state streams.new)) }
+    ensures written { (state streams.new).written ≡ (state streams.old).written }
 {
     let text = match setting.kind {
         SettingKind::Metrics => Some(Vec::from_slice(alloc, setting.word)?),
-        SettingKind::Profile => read_input(alloc, setting.word, files, reader, report)?,
+        SettingKind::Profile => read_input(alloc, setting.word, streams)?,
     };
     Ok(SettingText { setting, text })
 }

@@ -1,23 +1,29 @@
 //! The whole of triage.
 
-ghost use Rattle.std.specs.Prelude.{◌≡◌, IfOk, is_none, map};
+ghost use Rattle.std.specs.Prelude.{◌≡◌, ◌↔◌, [], All, IfOk, IsSome, IsTrue, List, MatchOption, if◌then◌else◌, is_none};
 ghost use Rattle.std.specs.List.{list_any};
-ghost use Rattle.cvss_program.specs.Reports.{reported};
-ghost use Rattle.cvss_triage.specs.Settings.{as_words};
-ghost use Rattle.cvss_triage.specs.Triage.{IsOutcome, IsRanked, Triages, WritesOutcome, served_of, shown};
+ghost use Rattle.cvss_frame.specs.Reports.{reported};
+ghost use Rattle.cvss_frame.specs.Streams.{state};
+ghost use Rattle.cvss_triage.specs.Settings.{AreUnderstood};
+ghost use Rattle.cvss_triage.specs.declared.overrides.Override.{Override};
+ghost use Rattle.cvss_triage.specs.private.Steps.{AreOwnMetrics};
+ghost use Rattle.cvss_triage.specs.Triage.{IsOutcome, IsRanked, Triages, WritesOutcome, asked_of, served_of, shows};
 
 use crate::inputs::read_inputs;
 use crate::lines::lines_of;
-use crate::overrides::{are_understood, overrides_of};
+use crate::overrides::{Override, overrides_of};
+use crate::own_metrics::OwnMetrics;
+use crate::places::Places;
+use crate::ranking::{BadLine, Ranking, Rules};
 use crate::report::{report_bad, report_unknown};
+use crate::row::Row;
 use crate::rows::rows_text;
-use crate::settings::{Setting, read_settings};
+use crate::settings::{Setting, SettingText, read_settings};
+use cvss_frame::{Host, Report, Served, Streams, WatchedWriter, are_many};
 use cvss_lines::{RunFault, write_whole};
-use cvss_program::{Files, Report, Served, WatchedReader, are_many};
-use cvss_rank::{BadLine, Override, Row, rank};
 use cvss_vector::Scoring;
 use std::alloc::{AllocError, Global};
-use std::io::{Read, Write};
+use std::io::Write;
 
 /// What triage is asked for.
 #[derive(Drop)]
@@ -30,6 +36,8 @@ pub struct Triage<'a> {
     pub allow_incomplete: bool,
     /// By which score of each vector lines are ranked.
     pub scoring: Scoring,
+    /// Rows are written as JSON objects.
+    pub json: bool,
 }
 
 /// What is written, and what triage comes to once it is.
@@ -42,30 +50,24 @@ struct Outcome {
 /// Ranks the lines of the operands, or of standard input where there is none, and writes their rows.
 /// Nothing is written before all is read. Metrics that hold for no version, inputs that cannot be read
 /// and lines without a row are reported.
-pub fn rank_operands<F: Files, R: Read, W: Write, E: Write>(
+pub fn rank_operands<H: Host>(
     alloc: Global,
     asked: &Triage<'_>,
     operands: &[Vec<u8>],
-    files: &F,
-    reader: &mut WatchedReader<R>,
-    writer: &mut W,
-    report: &mut Report<E>,
+    streams: &mut Streams<H>,
 ) -> Served
-    ensures { Triages (map as_words asked.now.settings.now) asked.now.keep_going
-        asked.now.scoring asked.now.allow_incomplete (F.contents files.now) operands.now
-        (R.remaining reader.old.reader) (R.remaining reader.new.reader)
-        (W.contents writer.old) (W.contents writer.new)
-        (reported E.contents report.old) (reported E.contents report.new) result }
+    ensures { Triages (asked_of asked.now) operands.now
+        (state streams.old) (state streams.new) result }
 {
-    match outcome_of(alloc, asked, operands, files, reader, report) {
-        Ok(outcome) => write_outcome(outcome, writer),
+    match outcome_of(alloc, asked, operands, streams) {
+        Ok(outcome) => write_outcome(outcome, &mut streams.output),
         Err(_) => Served::nothing().after(Err(RunFault::Memory)),
     }
 }
 
-fn write_outcome<W: Write>(outcome: Outcome, writer: &mut W) -> Served
+fn write_outcome<W: Write>(outcome: Outcome, writer: &mut WatchedWriter<W>) -> Served
     ensures { WritesOutcome outcome.text.items outcome.served
-        (W.contents writer.old) (W.contents writer.new) result }
+        (W.contents writer.old.writer) (W.contents writer.new.writer) result }
 {
     match write_whole(writer, &outcome.text) {
         Ok(()) => outcome.served,
@@ -73,61 +75,78 @@ fn write_outcome<W: Write>(outcome: Outcome, writer: &mut W) -> Served
     }
 }
 
-/// What triage comes to, once all is read.
-fn outcome_of<F: Files, R: Read, E: Write>(
+/// What triage comes to, once all is read. Nothing is written.
+fn outcome_of<H: Host>(
     alloc: Global,
     asked: &Triage<'_>,
     operands: &[Vec<u8>],
-    files: &F,
-    reader: &mut WatchedReader<R>,
-    report: &mut Report<E>,
+    streams: &mut Streams<H>,
 ) -> Result<Outcome, AllocError>
-    ensures { IfOk result (λ outcome. IsOutcome (map as_words asked.now.settings.now)
-        asked.now.keep_going asked.now.scoring asked.now.allow_incomplete
-        (F.contents files.now) operands.now
-        (R.remaining reader.old.reader) (R.remaining reader.new.reader)
-        (reported E.contents report.old) (reported E.contents report.new)
-        outcome.text.items outcome.served) }
+    ensures outcome { IfOk result (λ outcome. IsOutcome (asked_of asked.now) operands.now
+        (state streams.old) (state streams.new) outcome.text.items outcome.served) }
+    ensures written { (state streams.new).written ≡ (state streams.old).written }
 {
-    let texts = read_settings(alloc, asked.settings, files, reader, report)?;
+    let texts = read_settings(alloc, asked.settings, streams)?;
     let overrides = overrides_of(alloc, &texts)?;
-    if !are_understood(&texts, &overrides) {
-        report_unknown(alloc, &texts, report)?;
+    let Some(own) = understood(&texts, &overrides) else {
+        report_unknown(alloc, &texts, &mut streams.errors)?;
         return Ok(Outcome {
             text: Vec::new(alloc),
             served: Served::nothing().after(Err(RunFault::Read)),
         });
+    };
+    let inputs = read_inputs(alloc, operands, streams)?;
+    ranked(alloc, asked, own, operands, &inputs, &mut streams.errors)
+}
+
+/// The metrics that overrides set, if all texts are read and each override holds for some vector.
+fn understood(texts: &[SettingText<'_>], overrides: &[Override<'_>]) -> Option<OwnMetrics>
+    ensures { MatchOption result (¬ (AreUnderstood texts.now overrides.now))
+        (λ own. AreUnderstood texts.now overrides.now × AreOwnMetrics overrides.now own) }
+{
+    if !are_read(texts) {
+        return None;
     }
-    let inputs = read_inputs(alloc, operands, files, reader, report)?;
-    ranked(alloc, asked, &overrides, operands, &inputs, report)
+    OwnMetrics::of(overrides)
+}
+
+fn are_read(texts: &[SettingText<'_>]) -> bool
+    ensures { IsTrue result ↔ All (λ it. IsSome it.text) texts.now }
+{
+    texts.iter().all(|it| it.text.is_some())
 }
 
 /// The rows of the lines of inputs.
+#[tactic(auto, using(crate::proofs::RowLemmas::to_ten_shown))]
 fn ranked<E: Write>(
     alloc: Global,
     asked: &Triage<'_>,
-    overrides: &[Override<'_>],
+    own: OwnMetrics,
     operands: &[Vec<u8>],
     inputs: &[Option<Vec<u8>>],
     report: &mut Report<E>,
 ) -> Result<Outcome, AllocError>
-    ensures { IfOk result (λ outcome. IsRanked asked.now.keep_going asked.now.scoring
-        asked.now.allow_incomplete overrides.now operands.now inputs.now
+    ensures { (overrides : List Override) → AreOwnMetrics overrides own → IfOk result (λ outcome.
+        IsRanked (asked_of asked.now) overrides operands.now inputs.now
         (reported E.contents report.old) (reported E.contents report.new)
         outcome.text.items outcome.served) }
 {
     let lines = lines_of(alloc, inputs)?;
-    let ranking = rank(
-        alloc,
-        &lines.lines,
-        overrides,
-        asked.allow_incomplete,
-        asked.scoring,
-    )?;
-    let many = are_many(operands);
-    report_bad(alloc, &ranking.bad, &lines.starts, many, operands, report)?;
+    let rules = Rules {
+        own,
+        scoring: asked.scoring,
+        allow_incomplete: asked.allow_incomplete,
+    };
+    let ranking = Ranking::of(alloc, &lines.lines, &rules)?;
+    let places = Places {
+        starts: &lines.starts,
+        many: are_many(operands),
+        operands,
+    };
+    report_bad(alloc, &ranking.bad, &places, report)?;
     let served = served_of(&ranking.bad, inputs);
-    let text = shown(alloc, asked.keep_going, &served, &ranking.rows)?;
+    let rows = shown(asked.keep_going, &served, &ranking.rows);
+    let text = rows_text(alloc, asked, rows, &places)?;
     Ok(Outcome { text, served })
 }
 
@@ -148,18 +167,13 @@ fn is_any_unread(inputs: &[Option<Vec<u8>>]) -> bool
     inputs.iter().any(|input| input.is_none())
 }
 
-/// The text of the rows, unless a line has none or an input is unread and triage is not to go on then.
-fn shown(
-    alloc: Global,
-    keep_going: bool,
-    served: &Served,
-    rows: &[Row<'_>],
-) -> Result<Vec<u8>, AllocError>
-    ensures { IfOk result (λ text. text.items ≡ shown keep_going served.now rows.now) }
+/// The rows, unless a line has none or an input is unread and triage is not to go on then.
+fn shown<'r, 'a>(keep_going: bool, served: &Served, rows: &'r [Row<'a>]) -> &'r [Row<'a>]
+    ensures { result.now ≡ (if shows keep_going served.now then rows.now else []) }
 {
     if keep_going || !(served.rejected || served.unread) {
-        rows_text(alloc, rows)
+        rows
     } else {
-        Ok(Vec::new(alloc))
+        &[]
     }
 }

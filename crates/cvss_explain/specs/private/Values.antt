@@ -7,16 +7,15 @@ use Rattle.cvss_vector.specs.Answers.{severity_by, score_of_tenths, text_of}
 use Rattle.cvss_vector.specs.declared.vector.Cvss.{Cvss}
 use Rattle.cvss_base.specs.SeverityText.{text_of as severity_text}
 use Rattle.cvss_explain.specs.LettersV4.{effective_members}
-use Rattle.cvss_explain.specs.V2 as v2
-use Rattle.cvss_explain.specs.V3 as v3
+use Rattle.cvss_explain.specs.Steps.{entry_member}
+use Rattle.cvss_explain.specs.V2.{weights_members}
 use Rattle.cvss_explain.specs.V4.{class_text, groups_text}
 use Rattle.cvss_explain.specs.declared.parts.Value.{Value}
-use Rattle.cvss_explain.specs.declared.parts.Value.TheVariants.{Scalar, Class, Line, Severity, Text, Version, BaseV2, TemporalV2, EnvironmentalV2, WeightsV2, BaseV3, TemporalV3, EnvironmentalV3, WeightsV3, Letters, Groups}
+use Rattle.cvss_explain.specs.declared.parts.Value.TheVariants.{Scalar, Class, Line, Severity, Text, Version, Steps, Scalars, WeightsV2, Letters, Groups}
 use Rattle.cvss_vector.specs.Evaluation.{version_of, version_text}
 use Rattle.cvss_json.specs.Json.{Member, object_text, string_text}
-use Rattle.cvss_json.specs.Scalars.{member_view, scalar_room, scalar_text}
+use Rattle.cvss_json.specs.Scalars.{member_room, member_view, rooms, scalar_room, scalar_text}
 use Rattle.cvss_json.specs.declared.member.Scalar as scalar
-use Rattle.cvss_vector.specs.v3.VectorWeights.{weights_of}
 
 -- the members of an object of scalars
 abbrev pub members_view : List (Bor (List ℕ) × scalar.Scalar) → List Member
@@ -30,14 +29,9 @@ value_text cvss (Line line) = option_map decimal line
 value_text cvss (Severity tenths) = Some (string_text (severity_text (severity_by cvss (score_of_tenths tenths))))
 value_text cvss Text = Some (string_text (text_of cvss))
 value_text cvss Version = Some (string_text (version_text (version_of cvss)))
-value_text cvss (BaseV2 numbers) = Some (object_text (v2.base_members numbers))
-value_text cvss (TemporalV2 numbers) = Some (object_text (v2.temporal_members numbers))
-value_text cvss (EnvironmentalV2 numbers) = Some (object_text (v2.environmental_members numbers))
-value_text cvss (WeightsV2 vector) = Some (object_text (v2.weights_members vector.now))
-value_text cvss (BaseV3 numbers) = Some (object_text (v3.base_members cvss numbers))
-value_text cvss (TemporalV3 scored) = Some (object_text (v3.scored_members cvss scored))
-value_text cvss (EnvironmentalV3 numbers) = Some (object_text (v3.environmental_members cvss numbers))
-value_text cvss (WeightsV3 vector) = Some (object_text (v3.weights_members (weights_of vector.now)))
+value_text cvss (Steps steps entries) = Some (object_text (filter_map (entry_member steps.now) entries.now))
+value_text cvss (Scalars members) = Some (object_text (members_view members.now))
+value_text cvss (WeightsV2 vector) = Some (object_text (weights_members vector))
 value_text cvss (Letters effective) = Some (object_text (effective_members effective))
 value_text cvss (Groups explanation) = Some (groups_text explanation.now.class explanation.now.value explanation.now.groups)
 
@@ -53,12 +47,11 @@ value_room (Line _) = 20
 value_room (Severity _) = 10
 value_room Text = 352
 value_room Version = 30
+value_room (Steps _ entries) = rooms (λ _. 58) entries.now + 2
+value_room (Scalars members) = rooms member_room members.now + 2
 value_room (WeightsV2 _) = 618
-value_room (WeightsV3 _) = 970
 value_room (Letters _) = 662
 value_room (Groups _) = 2300
-value_room (EnvironmentalV3 _) = 502
-value_room _ = 302
 
 -- and for a member
 abbrev pub part_room : Bor (List ℕ) × Value → ℕ

@@ -5,7 +5,7 @@ use Rattle.cvss_subcommands.proofs.score.serve_table.Goals as goal
 
 pub returns-in-Ok : goal.returns-in-Ok
 returns-in-Ok g c =
-    let before = g.W.Write.contents c.args.writer.now in
-    let after = g.W.Write.contents c.write_whole.new.writer in
+    let before = g.H.Output.Write.contents c.args.streams.now.output.writer in
+    let after = g.H.Output.Write.contents c.write_whole.new.writer.writer in
     let is = c.as_bytes.ensures.value ∙ c.header-names.ensures ∙ ap header_text c.are_many-many.ensures in
     inl (after, subst (λ text. Appends before after text) is c.in-Ok.ensures.ok, rw c.are_many-many.ensures at c.serve_operands.ensures)

@@ -1,6 +1,6 @@
 use Rattle.std.proofs.Common.{◌∙◌, subst}
-use Rattle.cvss_program.proofs.ReportsLemmas.{Reports-then}
-use Rattle.cvss_program.specs.Reports.{Reports, reported}
+use Rattle.cvss_frame.proofs.ReportsLemmas.{Reports-then}
+use Rattle.cvss_frame.specs.Reports.{Reports, reported}
 use Rattle.cvss_subcommands.proofs.usage_error.report_about.Goals as goal
 
 pub returns : goal.returns

@@ -1,7 +1,8 @@
 use Rattle.std.proofs.Common.{◌∙◌, None, Some, codes, subst, sym}
-use Rattle.cvss_program.specs.Reports.{Reports, reported}
+use Rattle.cvss_frame.specs.Reports.{Reports, reported}
 use Rattle.cvss_subcommands.specs.UsageErrors.{line_about, usage_report}
 use Rattle.cvss_subcommands.specs.declared.help.TheConstants.{USAGE}
+use Rattle.cvss_subcommands.specs.declared.subcommand.Subcommand.TheVariants.{Set}
 use Rattle.cvss_subcommands.proofs.usage_error.report_usage.Goals as goal
 
 pub returns-in-UnknownCommand : goal.returns-in-UnknownCommand
@@ -31,6 +32,20 @@ returns-in-NoValue g c =
     let new = reported g.E.Write.contents c.report_about-in-NoValue.new.report in
     subst (λ error. Reports old new (usage_report USAGE.now error c.args.arguments.now)) (sym c.in-NoValue.is)
     (subst (λ word. Reports old new (line_about (codes "cvss: option '") word (codes "' needs a value; see '") (Some c.in-NoValue.subcommand))) c.word_at-word-in-NoValue.ensures c.report_about-in-NoValue.ensures)
+
+pub returns-in-UnknownVersion : goal.returns-in-UnknownVersion
+returns-in-UnknownVersion g c =
+    let old = reported g.E.Write.contents c.args.report.now in
+    let new = reported g.E.Write.contents c.report_about-in-UnknownVersion.new.report in
+    subst (λ error. Reports old new (usage_report USAGE.now error c.args.arguments.now)) (sym c.in-UnknownVersion.is)
+    (subst (λ word. Reports old new (line_about (codes "cvss: unknown version '") word (codes "'; see '") (Some c.in-UnknownVersion.subcommand))) c.word_at-word-in-UnknownVersion.ensures c.report_about-in-UnknownVersion.ensures)
+
+pub returns-in-NotMetric : goal.returns-in-NotMetric
+returns-in-NotMetric g c =
+    let old = reported g.E.Write.contents c.args.report.now in
+    let new = reported g.E.Write.contents c.report_about-in-NotMetric.new.report in
+    subst (λ error. Reports old new (usage_report USAGE.now error c.args.arguments.now)) (sym c.in-NotMetric.is)
+    (subst (λ word. Reports old new (line_about (codes "cvss: '") word (codes "' is not METRIC:VALUE; see '") (Some Set))) c.word_at-word-in-NotMetric.ensures c.report_about-in-NotMetric.ensures)
 
 pub returns-in-NoMetric : goal.returns-in-NoMetric
 returns-in-NoMetric g c =

@@ -1,6 +1,6 @@
 use Rattle.std.proofs.Common.{◌≡◌, ◌++◌, drop, length, map, take}
 use Rattle.cvss_triage.specs.Inputs.{lines_in}
-use Rattle.cvss_triage.specs.Reports.{starts_after, starts_of}
+use Rattle.cvss_triage.specs.Places.{starts_after, starts_of}
 use Rattle.cvss_triage.proofs.lines.lines_of.Given as goal
 
 abbrev pub invariant-loop-input : goal.invariant-loop-input

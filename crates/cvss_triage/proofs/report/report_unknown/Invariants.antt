@@ -1,5 +1,5 @@
 use Rattle.std.proofs.Common.{drop}
-use Rattle.cvss_program.specs.Reports.{Reported, reported}
+use Rattle.cvss_frame.specs.Reports.{Reported, reported}
 use Rattle.cvss_triage.specs.Reports.{ReportsEach, ReportsSetting}
 use Rattle.cvss_triage.proofs.report.report_unknown.Given as goal
 

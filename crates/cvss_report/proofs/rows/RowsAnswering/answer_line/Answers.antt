@@ -1,7 +1,7 @@
 use Rattle.std.proofs.Common.{◌++◌}
 use Rattle.std.proofs.lemmas.Result.{IfOk-weaker}
 use Rattle.cvss_lines.specs.Prefixed.{is_one_text}
-use Rattle.cvss_program.proofs.PrefixedLemmas.{WritesAnswer-prefixed}
+use Rattle.cvss_lines.proofs.PrefixedLemmas.{WritesAnswer-prefixed}
 use Rattle.cvss_report.specs.Cells.{given_text, opening}
 use Rattle.cvss_report.specs.Rows.{IsRow, cells_rule}
 use Rattle.cvss_report.proofs.rows.RowsAnswering.answer_line.Goals as goal

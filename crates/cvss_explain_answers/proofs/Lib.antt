@@ -1,3 +1,0 @@
-mod GivenLemmas
-mod JoinLemmas
-mod PartLemmas

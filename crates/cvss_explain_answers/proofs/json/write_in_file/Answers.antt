@@ -1,7 +1,0 @@
-use Rattle.std.proofs.lemmas.Result.{on_ok_weaker}
-use Rattle.cvss_json.proofs.AddsLemmas.{join2}
-use Rattle.cvss_explain_answers.proofs.json.write_in_file.Goals as goal
-
-pub returns : goal.returns
-returns c =
-    on_ok_weaker c.end_into.result (λ all. all _ ((join2 c.put_in_file.ensures c.push.ensures).held _ c.begin_after-sink.ensures)) c.end_into.ensures

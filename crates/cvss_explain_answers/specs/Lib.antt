@@ -1,9 +1,0 @@
-pub mod Explanation
-pub mod Json
-pub mod Lines
-pub mod Text
-pub mod V2
-pub mod V3
-pub mod V4
-pub mod WhatIf
-pub mod private

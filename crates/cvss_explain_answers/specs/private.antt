@@ -1,2 +1,0 @@
-pub mod Amounts
-pub mod Writing

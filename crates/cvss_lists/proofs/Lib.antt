@@ -1,0 +1,5 @@
+pub mod CuttingLemmas
+pub mod DifferenceLemmas
+pub mod GatedLemmas
+mod ListFacts
+pub mod ThresholdLemmas

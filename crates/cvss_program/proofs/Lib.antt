@@ -1,2 +1,0 @@
-pub mod PrefixedLemmas
-pub mod ReportsLemmas

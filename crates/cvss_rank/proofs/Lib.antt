@@ -1,2 +1,0 @@
-mod OverrideLemmas
-mod RankLemmas

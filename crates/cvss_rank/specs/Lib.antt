@@ -1,4 +1,0 @@
-pub mod Overrides
-pub mod Ranking
-pub mod Reading
-pub mod private

@@ -1,0 +1,83 @@
+-- Lines whose rows are made one after another.
+use Rattle.std.proofs.Common.{◌≡◌, inl, inr, ℕ, suc, ◌+◌, Bool, List, [], ◌∷◌, ◌++◌, All, length, None, Some, ◌≤◌, IsPermutation, refl, ap, subst, arith}
+use Rattle.std.proofs.lemmas.List.Elements.{All-push}
+use Rattle.std.proofs.lemmas.List.Sorted.{All-permutation}
+use Rattle.cvss_vector.specs.Answers.{score_of_tenths}
+use Rattle.cvss_vector.specs.Complete.{missing_by}
+use Rattle.cvss_vector.specs.Evaluation.{IsScoreAs}
+use Rattle.cvss_vector.specs.declared.metric_type.MetricType.{MetricType}
+use Rattle.cvss_vector.specs.declared.rejection.ReadError.TheVariants.{Invalid}
+use Rattle.cvss_vector.specs.declared.rejection.Rejection.TheVariants.{Missing}
+use Rattle.cvss_vector.specs.declared.scoring.Scoring.{Scoring}
+use Rattle.cvss_vector.specs.declared.vector.Cvss.{Cvss}
+use Rattle.cvss_triage.specs.Overrides.{IsWithOwn}
+use Rattle.cvss_triage.specs.Reading.{IsReason, IsVectorOf}
+use Rattle.cvss_triage.specs.declared.reading.Reason.TheVariants.{Rejected}
+use Rattle.cvss_triage.specs.Ranking.{AreRead, IsBad, IsRow}
+use Rattle.cvss_triage.specs.declared.overrides.Override.{Override}
+use Rattle.cvss_triage.specs.declared.ranking.BadLine.{BadLine}
+use Rattle.cvss_triage.specs.declared.ranking.Rules.{Rules}
+use Rattle.cvss_triage.specs.declared.row.Row.{Row}
+use Rattle.cvss_triage.specs.private.Steps.{AreOwnMetrics, IsReadBy, IsToTen}
+
+module _ (overrides : List Override) (scoring : Scoring) (allow_incomplete : Bool) (line : List ℕ) where
+  -- one line more that has a row
+  AreRead_row : (number : ℕ) (lines : List (List ℕ)) (rows : List Row) (bad : List BadLine) (row : Row) → AreRead overrides scoring allow_incomplete number lines rows bad → IsRow overrides scoring allow_incomplete (number + length lines) line row
+      → AreRead overrides scoring allow_incomplete number (lines ++ line ∷ []) (rows ++ row ∷ []) bad
+  AreRead_row number [] rows bad row are is =
+      inl (row, [], ap (λ each. each ++ row ∷ []) are.0, subst (λ each. IsRow overrides scoring allow_incomplete each line row) (omega arith) is, (refl, are.1))
+  AreRead_row number (first ∷ lines) rows bad row (inl (it, more, same, own, are)) is =
+      inl (it, more ++ row ∷ [], ap (λ each. each ++ row ∷ []) same, own, AreRead_row (suc number) lines more bad row are (subst (λ each. IsRow overrides scoring allow_incomplete each line row) (omega arith) is))
+  AreRead_row number (first ∷ lines) rows bad row (inr (it, more, same, own, are)) is =
+      inr (it, more, same, own, AreRead_row (suc number) lines rows more row are (subst (λ each. IsRow overrides scoring allow_incomplete each line row) (omega arith) is))
+
+  -- one line more that is bad
+  AreRead_bad : (number : ℕ) (lines : List (List ℕ)) (rows : List Row) (bad : List BadLine) (it : BadLine) → AreRead overrides scoring allow_incomplete number lines rows bad → IsBad overrides allow_incomplete (number + length lines) line it
+      → AreRead overrides scoring allow_incomplete number (lines ++ line ∷ []) rows (bad ++ it ∷ [])
+  AreRead_bad number [] rows bad it are is =
+      inr (it, [], ap (λ each. each ++ it ∷ []) are.1, subst (λ each. IsBad overrides allow_incomplete each line it) (omega arith) is, (are.0, refl))
+  AreRead_bad number (first ∷ lines) rows bad it (inl (row, more, same, own, are)) is =
+      inl (row, more, same, own, AreRead_bad (suc number) lines more bad it are (subst (λ each. IsBad overrides allow_incomplete each line it) (omega arith) is))
+  AreRead_bad number (first ∷ lines) rows bad it (inr (other, more, same, own, are)) is =
+      inr (other, more ++ it ∷ [], ap (λ each. each ++ it ∷ []) same, own, AreRead_bad (suc number) lines rows more it are (subst (λ each. IsBad overrides allow_incomplete each line it) (omega arith) is))
+
+module _ (rules : Rules) (number : ℕ) (line : List ℕ) (lines : List (List ℕ)) (count : length lines + 1 ≡ number) (rows : List Row) (bad : List BadLine) (read : IsReadBy rules lines rows bad) where
+  -- the line of the next number, which has a row
+  pub reads_row : (row : Row) → ((overrides : List Override) → AreOwnMetrics overrides rules.own → IsRow overrides rules.scoring rules.allow_incomplete number line row) → IsToTen row → IsReadBy rules (lines ++ line ∷ []) (rows ++ row ∷ []) bad
+  reads_row row is to_ten = record {
+    read = λ overrides own.
+        AreRead_row overrides rules.scoring rules.allow_incomplete line 1 lines rows bad row (read.read overrides own)
+        (subst (λ each. IsRow overrides rules.scoring rules.allow_incomplete each line row) (omega (arith, count)) (is overrides own));
+    to_ten = All-push IsToTen rows row read.to_ten to_ten;
+  }
+
+  -- or is bad
+  pub reads_bad : (it : BadLine) → ((overrides : List Override) → AreOwnMetrics overrides rules.own → IsBad overrides rules.allow_incomplete number line it) → IsReadBy rules (lines ++ line ∷ []) rows (bad ++ it ∷ [])
+  reads_bad it is = record {
+    read = λ overrides own.
+        AreRead_bad overrides rules.scoring rules.allow_incomplete line 1 lines rows bad it (read.read overrides own)
+        (subst (λ each. IsBad overrides rules.allow_incomplete each line it) (omega (arith, count)) (is overrides own));
+    to_ten = read.to_ten;
+  }
+
+module _ (overrides : List Override) (scoring : Scoring) (allow_incomplete : Bool) (line : List ℕ) (cvss : Cvss) (is_vector : IsVectorOf line cvss) where
+  -- the row of a line whose vector after the overrides is complete
+  pub row_by : (number : ℕ) (row : Row) → row.number ≡ number → row.line.now ≡ line → IsWithOwn overrides cvss row.vector → missing_by allow_incomplete row.vector ≡ None → IsScoreAs scoring row.vector (score_of_tenths row.tenths) → row.tenths ≤ 100 → IsRow overrides scoring allow_incomplete number line row
+  row_by number row number_is line_is with_own complete scored bound = record {
+    number_is = number_is;
+    line_is = line_is;
+    cvss = cvss;
+    is_vector = is_vector;
+    with_own = with_own;
+    complete = complete;
+    scored = scored;
+    bound = bound;
+  }
+
+  -- why it has none where the vector is not
+  pub reason_by : (new : Cvss) (metric : MetricType) → IsWithOwn overrides cvss new → missing_by allow_incomplete new ≡ Some metric → IsReason overrides allow_incomplete line (Rejected (Invalid (Missing metric)))
+  reason_by new metric with_own missing = inr (record { cvss = cvss; is_vector = is_vector; new = new; with_own = with_own; metric = metric; missing = missing; is = refl })
+
+-- rows in another order
+pub to_ten_ranked : (rows ranked : List Row) → IsPermutation rows ranked → All IsToTen rows → All IsToTen ranked
+to_ten_ranked = All-permutation IsToTen

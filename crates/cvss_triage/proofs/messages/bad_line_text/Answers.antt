@@ -1,0 +1,5 @@
+use Rattle.std.proofs.lemmas.Result.{IfOk-weaker}
+use Rattle.cvss_triage.proofs.messages.bad_line_text.Goals as goal
+
+pub returns : goal.returns
+returns c = IfOk-weaker c.end.result _ _ (λ text all. all _ (c.put_bad_line.ensures.held _ c.new-text.ensures)) c.end.ensures

@@ -1,0 +1,60 @@
+-- The vector of a line, or why it has no row.
+use Rattle.std.specs.Prelude.{◌≡◌, ◌⊎◌, Bool, ℕ, List, [], ◌∷◌, ◌++◌, Some}
+use Rattle.cvss_vector.specs.Complete.{missing_by}
+use Rattle.cvss_vector.specs.Dispatch.{DenotesCvss}
+use Rattle.cvss_vector.specs.Rejections.{IsReadError}
+use Rattle.cvss_vector.specs.declared.metric_type.MetricType.{MetricType}
+use Rattle.cvss_vector.specs.declared.rejection.ReadError.{ReadError}
+use Rattle.cvss_vector.specs.declared.rejection.ReadError.TheVariants.{Invalid}
+use Rattle.cvss_vector.specs.declared.rejection.Rejection.TheVariants.{Missing}
+use Rattle.cvss_vector.specs.declared.vector.Cvss.{Cvss}
+use Rattle.cvss_matches.specs.Matches.{AreFound, IsFound, Placed, candidates_of}
+use Rattle.cvss_triage.specs.Overrides.{IsWithOwn}
+use Rattle.cvss_triage.specs.declared.overrides.Override.{Override}
+use Rattle.cvss_triage.specs.declared.reading.Reason.{Reason}
+use Rattle.cvss_triage.specs.declared.reading.Reason.TheVariants.{NoVector, SeveralVectors, Rejected}
+
+-- the line has this match and no other
+pub record IsOnlyMatch (line text : List ℕ) : Type 0 where
+  pub match : Placed
+  pub only : AreFound (candidates_of line) (match ∷ [])
+  pub is : text ≡ match.text
+
+-- two of the line's matches are found
+pub record HasSeveral (line : List ℕ) : Type 0 where
+  pub first : Placed
+  pub second : Placed
+  pub before : List Placed
+  pub between : List Placed
+  pub after : List Placed
+  pub are : candidates_of line ≡ before ++ first ∷ (between ++ second ∷ after)
+  pub first_found : IsFound first.text
+  pub second_found : IsFound second.text
+
+-- the line's only match denotes the vector
+pub record IsVectorOf (line : List ℕ) (cvss : Cvss) : Type 0 where
+  pub text : List ℕ
+  pub only : IsOnlyMatch line text
+  pub denoted : DenotesCvss text cvss
+
+-- the line's only match is the text of no vector
+pub record IsRejected (line : List ℕ) (error : ReadError) : Type 0 where
+  pub text : List ℕ
+  pub only : IsOnlyMatch line text
+  pub is_right : IsReadError text error
+
+-- the line's vector lacks base metrics after the overrides, and may not; the error says the first of them
+pub record IsIncomplete (overrides : List Override) (allow_incomplete : Bool) (line : List ℕ) (error : ReadError) : Type 0 where
+  pub cvss : Cvss
+  pub is_vector : IsVectorOf line cvss
+  pub new : Cvss
+  pub with_own : IsWithOwn overrides cvss new
+  pub metric : MetricType
+  pub missing : missing_by allow_incomplete new ≡ Some metric
+  pub is : error ≡ Invalid (Missing metric)
+
+-- why the line has no row
+abbrev pub IsReason : List Override → Bool → List ℕ → Reason → Type 0
+IsReason overrides allow_incomplete line NoVector = AreFound (candidates_of line) []
+IsReason overrides allow_incomplete line SeveralVectors = HasSeveral line
+IsReason overrides allow_incomplete line (Rejected error) = IsRejected line error ⊎ IsIncomplete overrides allow_incomplete line error

@@ -1,0 +1,114 @@
+//! Lines, ranked.
+
+ghost use Rattle.std.specs.Prelude.{All, IfErr, IfOk, List, OnOk, map};
+ghost use Rattle.cvss_triage.specs.Ranking.{IsRanking, IsRow};
+ghost use Rattle.cvss_triage.specs.Reading.{IsReason};
+ghost use Rattle.cvss_triage.specs.declared.overrides.Override.{Override};
+ghost use Rattle.cvss_triage.specs.private.Steps.{Adds, AreOwnMetrics, IsReadBy, IsToTen};
+
+use crate::own_metrics::OwnMetrics;
+use crate::reading::{Reason, vector_of};
+use crate::row::Row;
+use cvss_score::ranking;
+use cvss_vector::{ReadError, Rejection, Scoring};
+use std::alloc::{AllocError, Global};
+
+/// By what lines are ranked.
+#[derive(Drop)]
+pub(crate) struct Rules {
+    /// The metrics that are set in each vector.
+    pub(crate) own: OwnMetrics,
+    /// By which score of each vector.
+    pub(crate) scoring: Scoring,
+    /// Vectors of CVSS v3 may lack base metrics.
+    pub(crate) allow_incomplete: bool,
+}
+
+/// A line that has no row.
+#[derive(Drop)]
+pub(crate) struct BadLine<'a> {
+    /// The line's number among those of all inputs, counted from 1.
+    pub(crate) number: usize,
+    pub(crate) reason: Reason<'a>,
+}
+
+/// The rows of lines, and the lines that have none.
+#[derive(Drop)]
+pub(crate) struct Ranking<'a> {
+    /// One row for each line that has a vector, in falling order of score; rows of one score are in the
+    /// order of their lines' bytes.
+    pub(crate) rows: Vec<Row<'a>>,
+    /// The other lines, in their order.
+    pub(crate) bad: Vec<BadLine<'a>>,
+}
+
+impl<'a> Ranking<'a> {
+    /// Ranks lines.
+    ///
+    /// # Errors
+    ///
+    /// Out of memory.
+    #[tactic(auto, using(crate::proofs::RankLemmas::to_ten_ranked))]
+    pub(crate) fn of(
+        alloc: Global,
+        lines: &[&'a [u8]],
+        rules: &Rules,
+    ) -> Result<Ranking<'a>, AllocError>
+        ensures ranking { (overrides : List Override) → AreOwnMetrics overrides rules.now.own
+            → IfOk result (IsRanking overrides rules.now.scoring rules.now.allow_incomplete
+            (map (λ line. line.now) lines.now)) }
+        ensures to_ten { IfOk result (λ ranking. All IsToTen ranking.rows.items) }
+    {
+        let mut ranking = Ranking::in_turn(alloc, lines, rules)?;
+        ranking::rank(&mut ranking.rows);
+        Ok(ranking)
+    }
+
+    /// The rows of lines, in the order of the lines, and the lines that have none.
+    fn in_turn(alloc: Global, lines: &[&'a [u8]], rules: &Rules) -> Result<Ranking<'a>, AllocError>
+        ensures { IfOk result (λ ranking. IsReadBy rules.now (map (λ line. line.now) lines.now)
+            ranking.rows.items ranking.bad.items) }
+    {
+        let mut ranking = Ranking {
+            rows: Vec::new(alloc),
+            bad: Vec::new(alloc),
+        };
+        for (index, line) in lines.iter().enumerate() {
+            ranking.add(index + 1, line, rules)?;
+        }
+        Ok(ranking)
+    }
+
+    /// Adds the row of the line of this number, or the line as a bad one.
+    #[tactic(auto, using(crate::proofs::RankLemmas::reads_row, crate::proofs::RankLemmas::reads_bad))]
+    fn add(&mut self, number: usize, line: &'a [u8], rules: &Rules) -> Result<(), AllocError>
+        ensures { OnOk result (Adds rules.now number line.now self.old self.new) }
+    {
+        match row_of(number, line, rules) {
+            Ok(row) => self.rows.push(row)?,
+            Err(reason) => self.bad.push(BadLine { number, reason })?,
+        }
+        Ok(())
+    }
+}
+
+/// The row of the line of this number, or why it has none.
+#[tactic(auto, using(crate::proofs::RankLemmas::row_by, crate::proofs::RankLemmas::reason_by))]
+fn row_of<'a>(number: usize, line: &'a [u8], rules: &Rules) -> Result<Row<'a>, Reason<'a>>
+    ensures row { (overrides : List Override) → AreOwnMetrics overrides rules.now.own
+        → IfOk result (IsRow overrides rules.now.scoring rules.now.allow_incomplete number line.now) }
+    ensures to_ten { IfOk result IsToTen }
+    ensures reason { (overrides : List Override) → AreOwnMetrics overrides rules.now.own
+        → IfErr result (IsReason overrides rules.now.allow_incomplete line.now) }
+{
+    let vector = rules.own.in_vector(vector_of(line)?);
+    match vector.missing_by(rules.allow_incomplete) {
+        None => Ok(Row {
+            number,
+            line,
+            vector,
+            tenths: vector.tenths_as(rules.scoring),
+        }),
+        Some(metric) => Err(Reason::Rejected(ReadError::Invalid(Rejection::Missing(metric)))),
+    }
+}
