@@ -53,6 +53,8 @@ TEXTS = {
     "slashes": (22.3, lambda size: b"/" * size),
 }
 
+# An input has one document per line if its first line is one by itself, so that line is read twice.
+FIRST_LINE = b"{}\n"
 # The documents of `cvss audit`: the same bound, and by the size in bytes of what kind it is, and of
 # how many places.
 DOCUMENTS = {
@@ -74,9 +76,10 @@ def made(told):
 def audited(data):
     """The answer to a document of `deep_documents.py`: one object for each of its places. Where no
     metric of a group is given, its score is the base score."""
+    data = data.removeprefix(FIRST_LINE)
     text, score, severity = answer(VECTOR.encode()).split()
     scores = ",".join(f'"{group}":{score}' for group in ("base", "environmental", "score", "temporal"))
-    members = (f'"given":"{VECTOR}","line":1,"scores":{{{scores}}},"severity":"{severity}",'
+    members = (f'"given":"{VECTOR}","line":2,"scores":{{{scores}}},"severity":"{severity}",'
                f'"vector":"{text}"}}\n')
     return "".join(f'{{"at":"{place}",{members}' for place in places(json.loads(data), "")).encode()
 
@@ -153,9 +156,9 @@ def main():
     wrong = measure("cvss_tool", INPUTS, expected, sizes)
     wrong += measure("cvss_command find", TEXTS, lambda data: "".join(finding.answers(data)).encode(),
                      sizes)
-    documents = {name: (most, lambda size, kind=kind: made(kind(size)))
+    documents = {name: (most, lambda size, kind=kind: FIRST_LINE + made(kind(size)))
                  for name, (most, kind) in DOCUMENTS.items()}
-    wrong += measure("cvss_command audit", documents, audited, [size // 5 for size in sizes])
+    wrong += measure("cvss_command audit --json", documents, audited, [size // 5 for size in sizes])
     sys.exit("\n".join(wrong) or None)
 
 

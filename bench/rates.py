@@ -81,7 +81,7 @@ def main():
     measure("`cvss triage --set MSI:S --set CR:H`, v4 base vectors",
             [program("cvss_command"), "triage", "--set", "MSI:S", "--set", "CR:H"],
             drawn("v4", "base", 200_000))
-    measure("`cvss audit`, documents", [program("cvss_command"), "audit"], documents(20_000))
+    measure("`cvss audit`, documents", [program("cvss_command"), "audit", "--json"], documents(20_000))
     text, vectors = prose(100_000)
     found = measure("`cvss find`, prose", [program("cvss_command"), "find"], text)
     for locale in "C", "C.UTF-8":

@@ -30,9 +30,9 @@ def counts():
     kit = {name: (lines(f"conformance/{name}") - 1, (ROOT / f"conformance/{name}").stat().st_size)
            for name in ("scores.tsv", "rejected.tsv")}
     yield "README.md", r"`examples/vectors` has (\S+) lines", [lines("examples/vectors")]
-    yield ("README.md", r"(\S+) tests and (\S+) stored lines of `test_vectors` and `test_json`",
+    yield ("README.md", r"(\S+) tests and (\S+) stored lines of `test_vectors`",
            [found("crates/*/src/**/*.rt", r"^ *#\[test\]$"),
-            lines("crates/test_vectors/stdin") + lines("crates/test_json/stdin")])
+            lines("crates/test_vectors/stdin")])
     yield "README.md", r"(\S+) stored lines of `test_capi`", [lines("crates/test_capi/stdin")]
     yield "CONTRIBUTING.md", r"Few are kept, (\S+) in (\S+) crates", [len(edits), len(set(edits))]
     yield "docs/ARCHITECTURE.md", r"these (\S+) functions as a static library", [functions]

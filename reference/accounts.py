@@ -178,7 +178,7 @@ def written(told):
 
 
 def main():
-    for number, line in enumerate(reference.lines_of(sys.stdin.buffer.read()), 1):
+    for number, line in enumerate(reference.lines_of_file(sys.stdin.buffer.read()), 1):
         sys.stdout.buffer.write(written(answer(number, line)).encode("utf-8") + b"\n")
 
 

@@ -346,6 +346,61 @@ def answer(source, text, allow_incomplete=False):
     return [members for members, _ in answers], all(agree for _, agree in answers)
 
 
+def is_document(source, text):
+    """Whether a text counts as a document: it is JSON, and no line that is passed over."""
+    if "line" in source and not text.strip(b" \t\r\n"):
+        return False
+    try:
+        parsed(text.decode("utf-8"))
+    except ValueError:
+        return False
+    return True
+
+
+def lines_about(members, allow_incomplete=False):
+    """How many lines for people there are about a vector, whose object has these members."""
+    if "error" in members:
+        return 1
+    return len(members.get("differs", ())) + (not allow_incomplete and "missing" in members)
+
+
+def score_in(members, allow_incomplete=False):
+    """The score by which a gate sees a vector, whose object has these members: none if it is rejected, or lacks base metrics
+    that it may not lack."""
+    if "error" in members or "missing" in members and not allow_incomplete:
+        return None
+    return members["scores"]["score"]
+
+
+def through(answers, minimum=0, fail_on=None, allow_incomplete=False):
+    """The objects that a gate does not pass over, and whether one of them is found, or fails."""
+    shown, fails = [], False
+    for members in answers:
+        score = score_in(members, allow_incomplete)
+        if score is None or score >= minimum:
+            shown.append(members)
+            is_high = None not in (score, fail_on) and score >= fail_on
+            fails |= is_high or lines_about(members, allow_incomplete) > 0
+    return shown, fails
+
+
+def severities(answers, allow_incomplete=False):
+    """How many of these objects are of vectors of each severity, and how many are of what is rejected."""
+    names = ["rejected" if score_in(members, allow_incomplete) is None else members["severity"] for members in answers]
+    return "".join(f"{name} {names.count(name)}\n" for name in ("critical", "high", "medium", "low", "none", "rejected"))
+
+
+def counted(number, word):
+    return f"{number} {word}" if number == 1 else f"{number} {word}s"
+
+
+def last_line(documents, vectors, allow_incomplete=False):
+    """What is counted of so many documents, whose vectors have these objects."""
+    disagreements = sum(lines_about(members, allow_incomplete) for members in vectors)
+    return (f"cvss: {counted(documents, 'document')}, {counted(len(vectors), 'vector')},"
+            f" {counted(disagreements, 'disagreement')}\n")
+
+
 def is_by_line(text):
     """Whether a file has one document a line: its first line that is not blank is one, or there is no such line."""
     first = text.lstrip(b" \t\r\n").split(b"\n")[0]

@@ -186,7 +186,7 @@ def explanation(line):
 def answer(line, allow_incomplete=True):
     """The lines of the answer, each a list of texts and exact numbers."""
     scored = complete.answer(line, allow_incomplete=allow_incomplete)
-    return [[scored]] if scored.startswith("error: ") else explanation(line)
+    return [[complete.shown(scored)]] if scored.startswith("error: ") else explanation(line)
 
 
 def decimal(number):
@@ -201,7 +201,7 @@ def written(lines):
 
 
 def main():
-    for line in reference.lines_of(sys.stdin.buffer.read()):
+    for line in reference.lines_of_file(sys.stdin.buffer.read()):
         sys.stdout.buffer.write(written(answer(line)).encode("utf-8") + b"\n")
 
 

@@ -11,6 +11,7 @@ import re
 import sys
 
 import complete
+import lists
 import reference
 import rows
 
@@ -105,6 +106,21 @@ def reported(line, allow_incomplete=False, base=False, assumed=None):
         yield place, complete.answer(text, allow_incomplete=allow_incomplete, base=base)
 
 
+def gated(line, minimum=0, fail_on=None, quiet=False, allow_incomplete=False, base=False, assumed=None):
+    """The offset of each match in a line, what is printed of it through a gate, if something is, and whether the match counts
+    as rejected."""
+    for place, answer in reported(line, allow_incomplete, base, assumed):
+        yield place, *lists.gated(answer, minimum, fail_on, quiet)
+
+
+def gated_objects(number, line, file=None, allow_incomplete=False, assumed=None, **gate):
+    """The members of the object for each match that is printed through a gate, and whether the match counts as rejected."""
+    found = objects(number, line, allow_incomplete, file, assumed)
+    passed = gated(line, allow_incomplete=allow_incomplete, assumed=assumed, **gate)
+    for members, (_, printed, fails) in zip(found, passed, strict=True):
+        yield None if printed is None else members, fails
+
+
 def annotated(line, is_all=False, allow_incomplete=False, base=False, assumed=None):
     """A line with a tab and the score line of its first match after it, or of each."""
     fields = [answer.encode("utf-8") for _, answer in reported(line, allow_incomplete, base, assumed)]
@@ -137,7 +153,7 @@ def hint(lines, allow_incomplete=False, assumed=None, only_first=False):
 
 def answers(data, allow_incomplete=False, base=False, assumed=None):
     """What is written for these lines."""
-    for number, line in enumerate(reference.lines_of(data), 1):
+    for number, line in enumerate(reference.lines_of_file(data), 1):
         for place, answer in reported(line, allow_incomplete, base, assumed):
             yield f"{number}:{place + 1} {answer}\n"
 

@@ -1,23 +1,13 @@
 #!/usr/bin/env python3
 """A second implementation of what lists of vectors are filtered and compared by, written from the public standards alone:
-thresholds, gates, the difference of two vectors, and what a version's standard does not allow.
-
-Reads lines on standard input, a mark and its arguments with tabs between them, and writes the answer to each, as
-`crates/test_lists` does:
-
-    threshold TEXT                     the tenths for which a text stands, or `none`
-    gate MINIMUM FAIL_ON QUIET LINE    what is printed of a line through a gate, whose thresholds are texts; a quiet one
-                                       is `quiet`
-    diff FIRST SECOND                  in what two vectors differ
-    standard LINE                      what is printed of a line where its standard is kept to
-
-After each but the first comes a line `accepted` or `rejected`.
+thresholds, gates, the difference of two vectors, what a version's standard does not allow, and with these what `cvss score`
+prints of a line.
 """
 import re
-import sys
 
 import complete
 import reference
+import rows
 import scores
 import setting
 from reference import Refused
@@ -75,7 +65,7 @@ def difference(first, second, allow_incomplete=False, base=False):
         try:
             vectors.append(vector_of(line, allow_incomplete))
         except Refused as reason:
-            return [f"{which} vector: error: {reason}"], False
+            return [f"{which} vector: {complete.shown(f'error: {reason}')}"], False
     (version, before), (other, after) = vectors
     if version != other:
         names = (f"{number // 10}.{number % 10}" for number in (version, other))
@@ -115,30 +105,17 @@ def strict(line, **options):
     return complete.answer(line, **options) if found is None else f"error: {found}"
 
 
-def ended(lines, accepted):
-    return [*lines, "accepted" if accepted else "rejected"]
-
-
-def answer(mark, *arguments):
-    """The lines that answer what a mark asks for."""
-    if mark == b"threshold":
-        found = threshold(arguments[0].decode("utf-8", "surrogateescape"))
-        return ["none" if found is None else f"{found:03}"]
-    if mark == b"gate":
-        minimum, fail_on = (threshold(text.decode("utf-8", "surrogateescape")) for text in arguments[:2])
-        printed, fails = gated(complete.answer(arguments[3]), minimum or 0, fail_on, arguments[2] == b"quiet")
-        return ended([] if printed is None else [printed], not fails)
-    if mark == b"diff":
-        return ended(*difference(*arguments))
-    printed = strict(*arguments)
-    return ended([printed], not printed.startswith("error: "))
-
-
-def main():
-    for line in reference.lines_of(sys.stdin.buffer.read()):
-        for text in answer(*line.split(b"\t")):
-            sys.stdout.buffer.write(text.encode("utf-8", "surrogateescape") + b"\n")
-
-
-if __name__ == "__main__":
-    main()
+def scored(line, form=None, file=None, minimum=0, fail_on=None, quiet=False, standard=False, **options):
+    """What `cvss score` prints of a line, if it prints something, and whether the line counts as rejected. The form is that of
+    rows, if there is one, and the file is named where there are several."""
+    text = complete.scored_text(line)
+    prefix = b"" if file is None else complete.shown_name(file).encode() + b":"
+    if not text:
+        return None if quiet else (b"" if form else prefix), False
+    answer = strict(text, **options) if standard else complete.answer(text, **options)
+    printed, fails = gated(answer, minimum, fail_on, quiet)
+    if printed is None:
+        return None, fails
+    if form:
+        return rows.row(form, text, options.get("allow_incomplete", False), file), fails
+    return prefix + complete.shown(printed).encode("utf-8"), fails

@@ -1,12 +1,14 @@
 #!/usr/bin/env python3
 """A second implementation of what `cvss triage` prints, written from the public standards alone.
 
-usage: reference/ranking.py [--set METRIC:VALUE].. [--profile FILE].. [--keep-going] [--base] [--allow-incomplete] [FILE]..
+usage: reference/ranking.py [--set METRIC:VALUE].. [--profile FILE].. [--keep-going] [--header] [--base] [--min SCORE]
+                            [--fail-on SCORE] [--count] [--quiet] [--allow-incomplete] [FILE]..
 """
 import sys
 
 import complete
 import finding
+import lists
 import reference
 import setting
 from reference import Refused
@@ -40,17 +42,32 @@ def holds(given, metrics, text):
         return None
 
 
-def vector_of(line, allow_incomplete):
-    """The canonical text of the line's only match, or the reason why there is none."""
+def canonical(text):
+    """The canonical text of a vector, or none if the text is rejected."""
+    try:
+        return reference.read(reference.text_of(text))[0]
+    except Refused:
+        return None
+
+
+def vector_of(line):
+    """The canonical text of the vector that each match in the line is, or the reason why there is none."""
     found = list(finding.found(line))
     if not found:
         raise Refused("none", "no vector")
-    if len(found) > 1:
+    texts = {canonical(text) for _, text, *_ in found}
+    if len(found) > 1 and (len(texts) > 1 or None in texts):
         raise Refused("several", "more than one vector on this line")
-    canonical = reference.read(reference.text_of(found[0][1]))[0]
+    return reference.read(reference.text_of(found[0][1]))[0]
+
+
+def with_overrides(text, overrides, allow_incomplete):
+    """The vector with the metrics set, or the first base metric that it still lacks."""
+    for given, metrics in overrides:
+        text = holds(given, metrics, text) or text
     if not allow_incomplete:
-        complete.find_missing(canonical)
-    return canonical
+        complete.find_missing(text)
+    return text
 
 
 def rank(lines, overrides, allow_incomplete, base=False):
@@ -58,12 +75,10 @@ def rank(lines, overrides, allow_incomplete, base=False):
     rows, bad = [], []
     for index, line in enumerate(lines):
         try:
-            text = vector_of(line, allow_incomplete)
+            text = with_overrides(vector_of(line), overrides, allow_incomplete)
         except Refused as reason:
             bad.append((index, str(reason)))
             continue
-        for given, metrics in overrides:
-            text = holds(given, metrics, text) or text
         score, severity = (base_score if base else overall)(*setting.read(text))
         rows.append((-score, line, severity, text))
     return sorted(rows), bad
@@ -74,21 +89,30 @@ def is_known(override):
     return any(holds(*override, text.decode()) is not None for text in EXAMPLES.values())
 
 
+def count_text(rows, bad):
+    """How many rows there are of each severity, and how many lines have none."""
+    severities = [severity for _, _, severity, _ in rows]
+    counts = [(name, severities.count(name)) for name in ("critical", "high", "medium", "low", "none")]
+    return b"".join(b"%s %d\n" % (name.encode(), count) for name, count in [*counts, ("rejected", len(bad))])
+
+
 def row_text(row):
     score, line, severity, text = row
     return f"{-score // 10}.{-score % 10} {severity} {text}\t".encode("utf-8") + line + b"\n"
 
 
 def options(words):
-    """The settings in their order, the flags, and the operands."""
-    words, settings, flags = list(words), [], set()
+    """The settings in their order, the other options with their values if they have any, and the operands."""
+    words, settings, given = list(words), [], {}
     while words and words[0].startswith(b"-") and words[0] not in (b"-", b"--"):
         word = words.pop(0)
         if word in (b"--set", b"--profile"):
             settings.append((word, words.pop(0)))
+        elif word in (b"--min", b"--fail-on"):
+            given[word] = lists.threshold(words.pop(0).decode())
         else:
-            flags.add(word)
-    return settings, flags, words[words[:1] == [b"--"]:]
+            given[word] = True
+    return settings, given, words[words[:1] == [b"--"]:]
 
 
 def overrides_of(settings, read):
@@ -97,28 +121,39 @@ def overrides_of(settings, read):
         if kind == b"--set":
             yield b"no CVSS version has " + word, (None, word)
             continue
-        for number, line in enumerate(reference.lines_of(read(word)), 1):
+        for number, line in enumerate(reference.lines_of_file(read(word)), 1):
             if line.strip(b" \t"):
                 yield word + b": line %d: no CVSS version has " % number + line, override(line)
 
 
+def shown(rows, bad, top, given):
+    """What is printed of ranked rows after a header, and whether one that is shown scores as much as triage fails on."""
+    kept = [row for row in rows if -row[0] >= given.get(b"--min", 0)]
+    fails = any(-row[0] >= given.get(b"--fail-on", 101) for row in kept)
+    if b"--quiet" in given:
+        return b"", fails
+    return count_text(kept, bad) if b"--count" in given else top + b"".join(map(row_text, kept)), fails
+
+
 def run(words, read):
     """The status, standard output and standard error for these arguments, where a call reads an operand."""
-    settings, flags, operands = options(words)
+    settings, given, operands = options(words)
     overrides = list(overrides_of(settings, read))
     unknown = [report for report, override in overrides if not is_known(override)]
     if unknown:
         return 2, b"", b"".join(b"cvss: " + report + b"\n" for report in unknown)
-    places, lines = [], []
-    for name in operands or [b"-"]:
-        own = reference.lines_of(read(name))
+    places, lines, top, headers = [], [], b"", int(b"--header" in given)
+    for index, name in enumerate(operands or [b"-"]):
+        own = reference.lines_of_file(read(name))
+        if index == 0 and headers and own:
+            top = b"score severity vector\t" + own[0] + b"\n"
         front = name + b": " if len(operands) > 1 else b""
-        places += [front + b"line %d: " % number for number in range(1, len(own) + 1)]
-        lines += own
-    rows, bad = rank(lines, [override for _, override in overrides], b"--allow-incomplete" in flags, b"--base" in flags)
+        places += [front + b"line %d: " % number for number in range(1 + headers, len(own) + 1)]
+        lines += own[headers:]
+    rows, bad = rank(lines, [override for _, override in overrides], b"--allow-incomplete" in given, b"--base" in given)
     reports = b"".join(b"cvss: " + places[index] + reason.encode("utf-8") + b"\n" for index, reason in bad)
-    shown = rows if not bad or b"--keep-going" in flags else []
-    return int(bool(bad)), b"".join(map(row_text, shown)), reports
+    written, fails = shown(rows, bad, top, given) if not bad or b"--keep-going" in given else (b"", False)
+    return int(bool(bad) or fails), written, reports
 
 
 def read(name):

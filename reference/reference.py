@@ -160,6 +160,11 @@ def lines_of(data):
     return [line.removesuffix(b"\r") for line in lines]
 
 
+def lines_of_file(data):
+    """The lines of a file or of standard input, without a byte-order mark of UTF-8."""
+    return lines_of(data.removeprefix(b"\xef\xbb\xbf"))
+
+
 def main():
     for line in lines_of(sys.stdin.buffer.read()):
         sys.stdout.buffer.write(answer(line).encode("utf-8") + b"\n")

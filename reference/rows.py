@@ -44,11 +44,20 @@ def members(line, allow_incomplete=False):
     return row
 
 
-def tsv_cell(value):
+# What a spreadsheet takes for a formula begins with one of these.
+FORMULA = b"=+-@"
+
+
+def guarded(text):
+    """A cell that no spreadsheet takes for a formula."""
+    return b"'" + text if text[:1] and text[:1] in FORMULA else text
+
+
+def tsv_cell(value, guard=False):
     if isinstance(value, int):
         value = f"{value // 10}.{value % 10}"
     if isinstance(value, bytes):
-        return value.decode("utf-8", "surrogateescape").translate(ESCAPES)
+        return (guarded(value) if guard else value).decode("utf-8", "surrogateescape").translate(ESCAPES)
     return (value or "").translate(ESCAPES)
 
 
@@ -61,19 +70,19 @@ def json_value(value):
     return value / 10 if isinstance(value, int) else value
 
 
-def row(form, line, allow_incomplete=False, file=None):
-    """The bytes of a row. Where several files are read, it names the file first."""
+def row(form, line, allow_incomplete=False, file=None, guard=False):
+    """The bytes of a row. Where several files are read, it names the file first. Columns may be guarded."""
     of_file = {} if file is None else {"file": file}
     values = of_file | members(line, allow_incomplete)
     if form == "tsv":
-        return "\t".join(map(tsv_cell, values.values())).encode("utf-8", "surrogateescape")
+        return "\t".join(tsv_cell(value, guard) for value in values.values()).encode("utf-8", "surrogateescape")
     return json.dumps({name: json_value(value) for name, value in values.items()}, ensure_ascii=False,
                       separators=(",", ":")).encode("utf-8")
 
 
 def main():
     form, allow_incomplete = sys.argv[1], sys.argv[2:] == ["--allow-incomplete"]
-    for line in reference.lines_of(sys.stdin.buffer.read()):
+    for line in reference.lines_of_file(sys.stdin.buffer.read()):
         sys.stdout.buffer.write(row(form, line, allow_incomplete) + b"\n")
 
 

@@ -33,7 +33,7 @@ def scores_with(line):
 
 
 def main():
-    for line in reference.lines_of(sys.stdin.buffer.read()):
+    for line in reference.lines_of_file(sys.stdin.buffer.read()):
         changed, own = scores_with(line)
         print(json.dumps({"scores": changed, "own": own}))
 

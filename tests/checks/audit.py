@@ -4,6 +4,7 @@
 - Each document of tests/samples, in the shape that its tool writes, has planted errors: all are found, and nothing
   else.
 - Files with one document a line and files that are one document are distinguished.
+- Of a text that is no JSON the line and the column of the error are reported.
 - Documents that are drawn in the form of each tool have planted errors: all are found, and nothing else.
 - Drawn documents of all forms, and lines that are almost documents, are answered as by reference/auditing.py, one per
   line, in files or printed over many lines.
@@ -12,6 +13,7 @@ usage: tests/checks/audit.py [COUNT [SEED]]
 """
 import json
 import random
+import re
 import subprocess
 import sys
 import tempfile
@@ -51,11 +53,18 @@ PLANTED = {
 
 
 def audit(*arguments, given=b"", cwd=None):
-    done = subprocess.run([PROGRAM, "audit", *arguments], input=given, cwd=cwd, capture_output=True, check=False)
+    done = subprocess.run([PROGRAM, "audit", "--json", *arguments], input=given, cwd=cwd, capture_output=True, check=False)
     note = b"" if done.stdout else b"cvss: no vector was found\n"
     if done.returncode == 2 or done.stderr != note:
         sys.exit(f"cvss audit {arguments}: status {done.returncode}, {done.stderr}")
-    return done.returncode, [json.loads(line) for line in done.stdout.splitlines()]
+    return done.returncode, [without_place(json.loads(line)) for line in done.stdout.splitlines()]
+
+
+def without_place(answer):
+    """An answer without the line and the column of an error in a text that is no JSON, which `try_errors` tries."""
+    if re.fullmatch(r"not JSON: line \d+, column \d+", answer.get("error", "")):
+        answer["error"] = "not JSON"
+    return answer
 
 
 def finding(answer):
@@ -99,8 +108,18 @@ def try_layouts():
             path.write_bytes(data)
             expect(auditing.is_by_line(data), by_line, f"layout {number}")
             expect(audit(path), answer_file(data), f"layout {number}")
+            expect(audit(given=data), answer_file(data), f"layout {number} on standard input")
             expect(audit("--document", path), answer_file(data, by_line=False), f"document {number}")
     print(f"{len(cases)} files with one document a line, or with one")
+
+
+def try_errors():
+    """The line and the column, in bytes, of the first byte that is not JSON: no contract promises them."""
+    cases = [(b"x", 1, 1), (b'{"a":1,\n"b":}', 2, 5), (b'{"a":1,\n\n "b" 2}', 3, 6), ('["é", }]'.encode(), 1, 8)]
+    for text, line, column in cases:
+        done = subprocess.run([PROGRAM, "audit", "--document"], input=text, capture_output=True, check=False)
+        expect((done.returncode, done.stdout.decode()), (1, f"error: not JSON: line {line}, column {column}\n"), f"the error in {text}")
+    print(f"{len(cases)} texts that are no JSON: the line and the column of the error")
 
 
 def answer_file(data, allow_incomplete=False, of_file=None, by_line=None):
@@ -171,7 +190,7 @@ def try_layout(draw, room, lines, allow_incomplete):
             data = b"".join(text + draw.choice((b"\n", b"\n", b"\r\n")) for text, _ in own)
         (room / name).write_bytes(data)
         of_file = name if len(files) > 1 else None
-        is_read_by_line = True if layout == "standard input" else auditing.is_by_line(data)
+        is_read_by_line = auditing.is_by_line(data)
         own_status, answers = answer_file(data, allow_incomplete, of_file, is_read_by_line)
         wanted += answers
         status |= own_status
@@ -332,6 +351,7 @@ def main():
     seed = int(sys.argv[2]) if len(sys.argv) > 2 else random.randrange(10**6)
     try_stored()
     try_layouts()
+    try_errors()
     compare_planted(count, seed)
     compare_drawn(count, seed)
 

@@ -20,10 +20,13 @@ sys.path.insert(0, str(ROOT / "tests/inputs"))
 
 from deep_documents import document
 
-PROGRAM = [ROOT / "crates/cvss_command/out/cvss_command", "audit"]
+PROGRAM = [ROOT / "crates/cvss_command/out/cvss_command", "audit", "--json"]
 MOST = 20
 # What answers are kept before they are written, and the pages that the system gives in advance.
 START = 1 << 20
+# That an input has one document per line is seen from its first line, of which more may be read than the line; so that
+# the program does not wait for more than is given, it is a short one.
+FIRST = "{}\n"
 LAST = '{"vectorString":"AV:N/AC:L/Au:N/C:N/I:N/A:C"}\n'
 COUNT = 2_000
 
@@ -47,9 +50,9 @@ def run(line, check, status=0):
     """The most memory in bytes that the program has held when it has answered the line, and one more
     by which this is seen; the answers to the line go through `check`."""
     with subprocess.Popen(PROGRAM, stdin=subprocess.PIPE, stdout=subprocess.PIPE) as program:
-        feeding = threading.Thread(target=feed, args=(program.stdin, (line + LAST).encode()))
+        feeding = threading.Thread(target=feed, args=(program.stdin, (FIRST + line + LAST).encode()))
         feeding.start()
-        check(itertools.takewhile(lambda answer: b'"line":2,' not in answer[-200:], program.stdout))
+        check(itertools.takewhile(lambda answer: b'"line":3,' not in answer[-200:], program.stdout))
         held = re.search(r"VmHWM:\s*(\d+) kB", Path(f"/proc/{program.pid}/status").read_text())
         feeding.join()
         program.stdin.close()

@@ -69,20 +69,36 @@ def try_usage_errors():
             (["version", "-V"], "unexpected argument '-V'", None), (["-h", "-h"], "unexpected argument '-h'", None),
             (["--help", "score"], "unexpected argument 'score'", None), (["help", "x"], "unknown command 'x'", None),
             (["help", "set", "y", "z"], "unexpected argument 'y'", None),
-            (["score", "--min", "x"], "unknown option '--min'", "score"),
+            (["score", "--max", "x"], "unknown option '--max'", "score"),
+            (["score", "--min", "x"], "'x' is not a score or a severity", "score"),
+            (["score", "--fail-on=10.1"], "'10.1' is not a score or a severity", "score"),
+            (["score", V2, "--min", "--max"], "'--max' is not a score or a severity", "score"),
+            (["score", V2, "--min"], "option '--min' needs a value", "score"),
+            (["score", "--standard", "--json"], "option '--standard' does not go with --json", "score"),
+            (["score", "--standard", "--tsv", "--base"], "option '--standard' does not go with --tsv", "score"),
+            (["score", "--json", "--count"], "option '--count' does not go with --json", "score"),
+            (["diff"], "two vectors are compared", "diff"), (["diff", V2], "two vectors are compared", "diff"),
+            (["diff", V2, V2, "-"], "two vectors are compared", "diff"),
+            (["diff", "--json", V2, V2], "unknown option '--json'", "diff"),
             (["find", "--tsv"], "unknown option '--tsv'", "find"), (["explain", "--base"], "unknown option '--base'", "explain"),
-            (["audit", "--json"], "unknown option '--json'", "audit"),
+            (["audit", "--tsv"], "unknown option '--tsv'", "audit"),
+            (["audit", "--differing", "gone"], "option '--differing' needs --json", "audit"),
             (["set", "E:A", "-x", "--"], "unknown option '-x'", "set"),
-            (["triage", "--base", "--min", "x"], "unknown option '--min'", "triage"),
+            (["triage", "--base", "--min", "x"], "'x' is not a score or a severity", "triage"),
+            (["triage", V2, "--fail-on"], "option '--fail-on' needs a value", "triage"),
+            (["triage", "--count", "--json", V2], "option '--count' does not go with --json", "triage"),
             (["triage", "--set"], "option '--set' needs a value", "triage"),
             (["triage", "--keep-going", "--profile"], "option '--profile' needs a value", "triage"),
             (["triage", V2, "--set"], "option '--set' needs a value", "triage"),
             (["find", "gone", "--assume"], "option '--assume' needs a value", "find"),
             (["find", "gone", "--assume", "3.2"], "unknown version '3.2'", "find"),
             (["find", "--assume=", "gone"], "unknown version ''", "find"),
-            (["score", V2, "--min", "--max"], "unknown option '--min'", "score"),
+            (["find", "--annotate", "--min", "7"], "option '--min' does not go with --annotate", "find"),
+            (["find", "--quiet", "--annotate"], "option '--quiet' does not go with --annotate", "find"),
+            (["find", "--count", "--json"], "option '--count' does not go with --json", "find"),
+            (["find", "--fail-on=worse"], "'worse' is not a score or a severity", "find"),
             (["score", "--json=x", V2], "unknown option '--json=x'", "score"),
-            (["score", V2, "--min=--json"], "unknown option '--min=--json'", "score"),
+            (["score", V2, "--min=--json"], "'--json' is not a score or a severity", "score"),
             (["set"], "no metric to set", "set"), (["set", "--", "x"], "no metric to set", "set"),
             (["set", BASE], "no metric to set", "set"), (["set", "--", "E:A"], "no metric to set", "set"),
             (["set", "E:", BASE], "'E:' is not METRIC:VALUE", "set"), (["set", ":A"], "':A' is not METRIC:VALUE", "set"),
@@ -131,9 +147,74 @@ def try_order(room):
     for arguments in ([BASE, "--set", "E:P"], ["--set=E:P", BASE], [BASE, "--set=E:P"], [BASE, "--set=E:U", "--set", "E:P"]):
         expect(0, ranked, b"", "triage", *arguments)
     expect(2, b"", b"cvss: no CVSS version has --\n", "triage", BASE, "--set", "--")
+    headed = b"vector\n" + BASE + b"/E:P\n"
+    top = b"score severity vector\tvector\n"
+    expect(0, top + ranked.replace(b"\t" + BASE, b"\t" + BASE + b"/E:P"), b"", "triage", "--header", given=headed)
+    expect(0, b'{"line":2,"text":"' + BASE + b'/E:P","vector":"' + BASE + b'/E:P","version":"3.1","base":9.8,"temporal":9.3,'
+           b'"environmental":9.3,"score":9.3,"severity":"critical","nomenclature":null,"error":null}\n', b"",
+           "triage", "--header", "--json", given=headed)
     bare = BASE.partition(b"/")[2]
     for arguments in (["--assume", "3.1"], ["--assume=3.1"], ["--assume=3.0", "-", "--assume", "3.1"]):
         expect(0, b"1:1 " + scored, b"", "find", *arguments, given=bare)
+
+
+def try_lists(room):
+    """Blanks and blank lines, gates, standards and differences."""
+    blank = b" " + V2 + b"\t \n\n \t\n" + BASE
+    expect(0, V2_ANSWER + b"\n\n" + BASE + b" 9.8 critical\n", b"", "score", given=blank)
+    expect(0, V2_ANSWER, b"", "score", b"\t" + V2 + b" ")
+    expect(0, b"\n\n" + BASE + b" 9.8 critical\n", b"", "score", "--min", "9", given=blank)
+    expect(1, V2_ANSWER + b"\n\n" + BASE + b" 9.8 critical\n", b"", "score", "--fail-on=critical", given=blank)
+    for arguments, status in ((["--quiet"], 0), (["--quiet", "--fail-on", "9.8"], 1), (["--quiet", "--fail-on", "9.9"], 0),
+                              (["--tsv", "--quiet", "--min", "10"], 0), (["--json", "--quiet", "--fail-on", "low"], 1)):
+        expect(status, b"", b"", "score", *arguments, given=blank)
+    expect(0, HEADER, b"", "score", "--tsv", "--min", "10", V2)
+    counts = b"critical %d\nhigh %d\nmedium %d\nlow %d\nnone %d\nrejected %d\n"
+    expect(0, counts % (1, 1, 0, 0, 0, 0), b"", "score", "--count", given=blank)
+    expect(1, counts % (1, 0, 0, 0, 0, 1), b"", "score", "--count", "--min=9.0", "--fail-on=9.8", BASE, V2, CUT, "-", given=b"\n")
+    expect(0, b"", b"", "score", "--count", "--quiet", BASE)
+    expect(2, counts % (0, 1, 0, 0, 0, 0), b"cvss: gone" + NO_FILE, "score", "--count", "gone", V2)
+    (room / "one").write_bytes(V2)
+    (room / "two").write_bytes(b"\n" + BASE)
+    expect(0, b"two:\ntwo:" + BASE + b" 9.8 critical\n", b"", "score", "--min", "HIGH", "--min", "8.0", "one", "two", cwd=room)
+    expect(1, b"error: lower case: av:N\n", b"", "score", "--standard", BASE.replace(b"AV", b"av"))
+    expect(0, BASE + b"/E:X 9.8 critical\n", b"", "score", "--standard", "--base", BASE + b"/E:X")
+    unlike = BASE.replace(b"AC:L", b"AC:H") + b"/E:P"
+    expect(0, b"AC: L -> H\nE: - -> P\nscore: 9.8 critical -> 7.7 high\n", b"", "diff", BASE, unlike)
+    expect(0, b"AC: L -> H\nE: - -> P\nscore: 9.8 critical -> 8.1 high\n", b"", "diff", "--base", BASE, unlike)
+    expect(0, b"score: 7.8 high -> 7.8 high\n" * 2, b"", "diff", V2, "-", given=V2 + b"\n" + V2)
+    expect(1, b"error: different versions: 3.1 and 2.0\n", b"", "diff", BASE, V2)
+    expect(1, b"second vector: " + CUT_ANSWER, b"", "diff", BASE, CUT)
+    expect(0, b"I: H -> -\nA: H -> -\nscore: 9.8 critical -> 7.5 high\n", b"", "diff", "--allow-incomplete", BASE, CUT)
+    expect(2, b"", b"cvss: gone" + NO_FILE, "diff", BASE, "gone")
+
+
+def try_found(room):
+    """Gates of `cvss find`: each match by itself, and the line by all of its matches."""
+    line, scored, scored_v2 = BASE + b" (" + V2 + b") " + CUT + b".", b"1:1 " + BASE + b" 9.8 critical\n", b"1:47 " + V2_ANSWER
+    rejected = b"1:75 " + CUT_ANSWER
+    expect(1, scored + scored_v2 + rejected, b"", "find", given=line)
+    expect(1, scored + rejected, b"", "find", "--min", "7.9", given=line)
+    expect(0, scored, b"", "find", "--min=9", "--allow-incomplete", given=line)
+    expect(0, b"", b"", "find", "--min=9.9", "--fail-on", "low", given=BASE)
+    for arguments, status in ((["--fail-on", "7.8"], 1), (["--fail-on", "7.9"], 0), (["--fail-on", "low", "--min", "high"], 1)):
+        expect(status, b"1:1 " + V2_ANSWER, b"", "find", *arguments, given=V2)
+        expect(status, b"", b"", "find", "--quiet", *arguments, given=V2)
+        expect(status, b"", b"", "find", "--quiet", "--json", *arguments, given=V2)
+    expect(1, b"", b"", "find", "--quiet", "--min", "9", given=line)
+    expect(0, b"1:1 " + BASE + b"/E:P 9.8 critical\n", b"", "find", "--base", "--min", "9.8", given=BASE + b"/E:P")
+    expect(0, b"", b"", "find", "--json", "--min", "9.4", given=BASE + b"/E:P")
+    counts = b"critical %d\nhigh %d\nmedium %d\nlow %d\nnone %d\nrejected %d\n"
+    expect(1, counts % (1, 1, 0, 0, 0, 1), b"", "find", "--count", given=line)
+    expect(1, counts % (1, 0, 0, 0, 0, 0), b"", "find", "--count", "--min=9", "--fail-on=9.8", "--allow-incomplete", given=line)
+    expect(0, counts % (0, 0, 0, 0, 0, 0), b"", "find", "--count", given=b"none")
+    expect(0, b"", b"", "find", "--count", "--quiet", given=BASE)
+    expect(2, counts % (0, 0, 0, 0, 0, 0), b"cvss: gone" + NO_FILE, "find", "--count", "gone", cwd=room)
+    for name in ("one", "x\n\x1b[2J"):
+        (room / name).write_bytes(line)
+    for arguments, found in (([], [scored, scored_v2, rejected]), (["--min=9.0"], [scored, rejected])):
+        expect(1, b"".join(name + each for name in (b"one:", b"x\\n\\u001b[2J:") for each in found), b"",
+               "find", *arguments, "one", "x\n\x1b[2J", cwd=room)
 
 
 def try_incomplete():
@@ -146,7 +227,7 @@ def try_incomplete():
     expect(0, b"7.5 high " + CUT + b"\t" + CUT + b"\n", b"", "triage", "--allow-incomplete", CUT)
 
 
-def try_hints():
+def try_hints(room):
     """A rejected word that is nearly a vector has a hint, once a run."""
     rejected = b"error: unknown CVSS metric name: `PR`\n"
     bare = b"AV:N/AC:L/PR:N/UI:N/S:U/C:H/I:H/A:H"
@@ -159,29 +240,39 @@ def try_hints():
     expect(1, b"error: unknown CVSS metric name: `AT`\n", b"cvss: hint: write `CVSS:4.0/` before it\n", "score", v4)
     for prefix, metrics in ((b"cvss:3.1/", bare), (b"Cvss:3.0/", bare), (b"cvSS:4.0/", v4)):
         expect(1, b"error: invalid CVSS string prefix: `" + prefix[:4] + b"`\n", capitals, "score", prefix + metrics)
-    for text in (b"(" + V2 + b").", b'"' + V2 + b'"', b" " + V2):
+    for text in (b"(" + V2 + b").", b'"' + V2 + b'"', b"* " + V2):
         done = subprocess.run([PROGRAM, "score", text], capture_output=True, check=False)
         assert (done.returncode, done.stderr) == (1, b"cvss: hint: `cvss find` finds vectors among other text\n"), done
     for word, answer in ((CUT, CUT_ANSWER), (b"x:y", b"error: invalid CVSS metric group component: `x:y`\n")):
         expect(1, answer, b"", "score", word)
     expect(0, V2_ANSWER, b"", "score", V2)
-    expect(1, rejected, b"", "score", given=bare)
+    # lines have one too, where no argument is a vector
+    (room / "bare").write_bytes(V2 + b"\n\n" + bare + b"\n" + bare + b"\n")
+    expect(1, V2_ANSWER + b"\n" + rejected * 2, version, "score", "bare", cwd=room)
+    expect(1, rejected, version, "score", given=bare)
+    expect(1, b"", version, "score", "--quiet", given=bare)
+    expect(1, V2_ANSWER + rejected, b"", "score", V2, "-", given=bare)
+    expect(1, b"error: invalid CVSS metric group component: `x:y`\n", b"", "score", given=b"x:y")
 
 
 def try_notes():
-    """An audit that finds no vector says so; one that is rejected, or whose reader is gone, does not."""
+    """An audit that prints each vector, and finds none, says so; one that is rejected, or whose reader is gone, does not."""
     note = b"cvss: no vector was found\n"
     for given in (b"", b"{}\n", b'[1,"x"]\n{}\n'):
-        expect(0, b"", note, "audit", given=given)
-    expect(0, b"", note, "audit", "--document", given=b"{}")
-    expect(2, b"", b"cvss: gone" + NO_FILE, "audit", "gone")
-    expect(1, b'{"error":"not JSON","line":1}\n', b"", "audit", given=b"x\n")
+        expect(0, b"", note, "audit", "--json", given=given)
+        expect(0, b"", b"", "audit", "--json", "--differing", given=given)
+        documents = b"0 documents" if not given else b"2 documents" if b"x" in given else b"1 document"
+        expect(0, b"", b"cvss: " + documents + b", 0 vectors, 0 disagreements\n", "audit", given=given)
+    expect(0, b"", note, "audit", "--document", "--json", given=b"{}")
+    expect(2, b"", b"cvss: gone" + NO_FILE + b"cvss: 0 documents, 0 vectors, 0 disagreements\n", "audit", "gone")
+    expect(2, b"", b"cvss: gone" + NO_FILE, "audit", "--json", "gone")
+    expect(1, b'{"error":"not JSON: line 1, column 1"}\n', b"", "audit", "--json", given=b"x\n")
     found = b'{"vectorString":"' + V2 + b'"}\n'
-    done = subprocess.run([PROGRAM, "audit"], input=found, capture_output=True, check=True)
+    done = subprocess.run([PROGRAM, "audit", "--json"], input=found, capture_output=True, check=True)
     assert done.stdout and not done.stderr, done
     for subcommand in ("score", "find", "explain"):
         expect(0, b"", b"", subcommand)
-    closed = '"$0" audit < <(sleep 0.2; echo "$1") | true; exit ${PIPESTATUS[0]}'
+    closed = '"$0" audit --json < <(sleep 0.2; echo "$1") | true; exit ${PIPESTATUS[0]}'
     done = subprocess.run(["bash", "-c", closed, PROGRAM, found.decode()], capture_output=True, check=False)
     assert (done.returncode, done.stderr) == (0, b""), done
 
@@ -191,7 +282,7 @@ def try_operands(room):
     (room / "list").write_bytes(V2 + b"\r\n" + CUT)
     expect(1, V2_ANSWER + CUT_ANSWER, b"", "score", "--", "list", cwd=room)
     expect(2, V2_ANSWER, b"cvss: gone" + NO_FILE, "score", V2, "gone", cwd=room)
-    expect(2, V2_ANSWER, b"cvss: \xff\xfe: invalid filename\n", "score", b"\xff\xfe", V2, cwd=room)
+    expect(2, V2_ANSWER, b"cvss: \\xff\\xfe: invalid filename\n", "score", b"\xff\xfe", V2, cwd=room)
     expect(2, b"", b"cvss: --json" + NO_FILE, "score", "--", "--json", cwd=room)
     (room / "empty").touch()
     expect(0, V2_ANSWER, b"", "score", V2, "empty", cwd=room)
@@ -256,6 +347,8 @@ def try_completion():
     assert complete_words("score", "VERS") == ["VERSION"] and set(complete_words("-")) == {"-h", "-V", "--help", "--version"}
     for words in (["--assume", ""], ["--assume", "="], ["--assume", "=", "3"]):
         assert complete_words("find", *words) == ["3.0", "3.1"], words
+    for words in (["--min", "h"], ["--fail-on", "=", "hi"]):
+        assert complete_words("score", *words) == ["high"], words
     usage = subprocess.run([PROGRAM, "help"], stdout=subprocess.PIPE, text=True, check=True).stdout
     commands = re.findall(r"^  ([a-z]+)  ", usage, re.MULTILINE)
     zsh, fish = ((ROOT / "bindings/completion" / name).read_text() for name in ("_cvss", "cvss.fish"))
@@ -279,7 +372,9 @@ def main():
         try_usage_errors()
         try_base()
         try_incomplete()
-        try_hints()
+        try_hints(room)
+        try_lists(room)
+        try_found(room)
         try_notes()
         try_order(room)
         try_operands(room)

@@ -81,7 +81,7 @@ def run(given, end, *options, room=None):
     own, named = ("{", '{{"file":{},'.format) if "--json" in options else ("", "{}:".format)
     names = {name: json.dumps(name, ensure_ascii=False) if own else name for name in given}
     read = [(named(names[name]) if len(given) > 1 else own, number, line) for name, content in given.items()
-            for number, line in enumerate(reference.lines_of(content), 1)]
+            for number, line in enumerate(reference.lines_of_file(content), 1)]
     answers = done.stdout.decode("utf-8").split(end)
     if answers.pop() != "" or len(answers) != len(read):
         sys.exit(f"cvss explain {options} answers {len(answers)} of {len(read)} lines")
@@ -149,7 +149,7 @@ def compare_what_if(given, *options, room=None):
     rejected = False
     for _, line, answer in answers:
         heading, *rows = answer.split("\n")
-        expected = complete.answer(line, allow_incomplete=ALLOW in options)
+        expected = complete.shown_answer(line, allow_incomplete=ALLOW in options)
         is_rejected = expected.startswith("error: ")
         scores = ({}, {}) if is_rejected else what_if.scores_with(line)
         if heading != expected or scores_in(rows) != scores:
@@ -177,7 +177,7 @@ def compare_files(draw, count, *compare):
             options = [ALLOW] if draw.random() < 0.5 else []
             for each in compare:
                 each(given, *options, room=room)
-            tried += sum(len(reference.lines_of(data)) for data in given.values())
+            tried += sum(len(reference.lines_of_file(data)) for data in given.values())
     return tried
 
 

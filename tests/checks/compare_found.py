@@ -1,10 +1,11 @@
 #!/usr/bin/env python3
 """Compares what the built `cvss find` writes with finding.py, over random texts and lines that are almost vectors, in
-files and on standard input: lines, annotated lines and objects.
+files and on standard input: lines, annotated lines and objects, and these through gates and counted.
 
 usage: tests/checks/compare_found.py [COUNT [SEED]]
 """
 import json
+import os
 import random
 import subprocess
 import sys
@@ -14,8 +15,10 @@ from pathlib import Path
 ROOT = Path(__file__).resolve().parents[2]
 sys.path[:0] = [str(ROOT / "reference"), str(ROOT / "tests/inputs")]
 
+import complete
 import finding
 import hostile
+import lists
 import reference
 import texts
 
@@ -105,7 +108,7 @@ def run_over(room, written, *arguments):
 def lines_of(written):
     """Each line of the files with its number, and with the name of its file if there are several."""
     return [(name if len(written) > 1 else None, number, line) for name, content in written.items()
-            for number, line in enumerate(reference.lines_of(content), 1)]
+            for number, line in enumerate(reference.lines_of_file(content), 1)]
 
 
 def assumed_by(arguments):
@@ -114,7 +117,7 @@ def assumed_by(arguments):
 
 
 def fronted(name, answer):
-    return (b"" if name is None else name.encode() + b":") + answer
+    return (b"" if name is None else complete.shown_name(os.fsencode(name)).encode() + b":") + answer
 
 
 def try_stored():
@@ -185,6 +188,68 @@ def try_objects(room, written):
         assert is_hint(done.stderr), done.stderr
 
 
+def gate_options(draw):
+    """Arguments that choose among the matches, what they say of a gate, and what they say of the answers."""
+    arguments, gate, of_answers = [], {}, {}
+    for flag, name in (("--min", "minimum"), ("--fail-on", "fail_on")):
+        if draw.random() < 0.6:
+            text = draw.choice((f"{draw.randrange(10)}.{draw.randrange(10)}", "10", "Low", "medium", "high", "CRITICAL"))
+            arguments.append(f"{flag}={text}")
+            gate[name] = lists.threshold(text)
+    if draw.random() < 0.5:
+        arguments.append("--allow-incomplete")
+        of_answers["allow_incomplete"] = True
+    if draw.random() < 0.5:
+        of_answers["assumed"] = draw.choice(("3.0", "3.1"))
+        arguments.append(f"--assume={of_answers['assumed']}")
+    return arguments, gate, of_answers
+
+
+def try_gated(draw, room, written):
+    """The matches that a gate lets through, by lines or objects, or nothing, and the status."""
+    arguments, gate, of_answers = gate_options(draw)
+    if draw.random() < 0.2:
+        arguments.append("--quiet")
+        gate["quiet"] = True
+    if is_json := draw.random() < 0.4:
+        answers = [found for file, number, line in lines_of(written)
+                   for found in finding.gated_objects(number, line, file, **of_answers, **gate)]
+        expected = [(members["line"], members["column"], members.get("file"), members["score"])
+                    for members, _ in answers if members]
+        done = run_over(room, written, "--json", *arguments)
+        actual = [json.loads(line) for line in done.stdout.splitlines()]
+        actual = [(each["line"], each["column"], each.get("file"), each["score"] and round(each["score"] * 10)) for each in actual]
+    else:
+        base = draw.random() < 0.4
+        answers = [(printed and fronted(name, f"{number}:{place + 1} {printed}".encode()), fails)
+                   for name, number, line in lines_of(written)
+                   for place, printed, fails in finding.gated(line, base=base, **of_answers, **gate)]
+        expected = [printed for printed, _ in answers if printed]
+        arguments += ["--base"] * base
+        done = run_over(room, written, *arguments)
+        actual = done.stdout.split(b"\n")[:-1]
+    assert actual == expected, f"cvss find {arguments} {'--json' * is_json} writes {actual}, and not {expected}"
+    assert done.returncode == int(any(fails for _, fails in answers)), (arguments, done.returncode)
+    assert is_hint(done.stderr), done.stderr
+
+
+def try_counted(draw, room, written):
+    """How many matches of each severity a gate lets through, and how many are rejected."""
+    arguments, gate, of_answers = gate_options(draw)
+    base = draw.random() < 0.4
+    tally = dict.fromkeys(("critical", "high", "medium", "low", "none", "rejected"), 0)
+    failed = False
+    for *_, line in lines_of(written):
+        for _, printed, fails in finding.gated(line, base=base, **of_answers, **gate):
+            failed |= fails
+            if printed:
+                tally["rejected" if printed.startswith("error: ") else printed.split(" ")[2]] += 1
+    done = run_over(room, written, "--count", *arguments, *["--base"] * base)
+    expected = "".join(f"{name} {number}\n" for name, number in tally.items()).encode()
+    assert done.stdout == expected, f"cvss find --count {arguments} writes {done.stdout}, and not {expected}"
+    assert done.returncode == int(failed) and is_hint(done.stderr), done
+
+
 def line(draw):
     return draw.choice((texts.text, hostile.line))(draw).replace(b"\n", b" ")
 
@@ -208,15 +273,19 @@ def try_files():
     """The file of each line and of each object, where there are several, and lines of any bytes."""
     with tempfile.TemporaryDirectory() as room:
         line = b"\xff\t" + V2 + b"\t"
-        for name in ("a", 'b"'):
+        names = ["a", 'b"', "c\n\x1b[1m", "\u00e9\u202e\x9b", "d\\n"]
+        shown = [b"a:", b'b":', b"c\\n\\u001b[1m:", b"\xc3\xa9\\u202e\\u009b:", b"d\\n:"]
+        for name in names:
             (Path(room) / name).write_bytes(line + b"\r\nnone")
-        done = subprocess.run([PROGRAM, "find", "--annotate", "a", 'b"'], cwd=room, capture_output=True, check=True)
-        expected = [name + rest for name in (b"a:", b'b":') for rest in (line + b"\t" + V2_ANSWER.encode(), b"none")]
-        assert done.stdout.splitlines() == expected, done
-        done = subprocess.run([PROGRAM, "find", "--json", "a", 'b"'], cwd=room, capture_output=True, check=True)
+        answer = V2_ANSWER.encode()
+        for arguments, answers in (([], [b"1:3 " + answer]), (["--min=5.0", "--fail-on", "5.1"], [b"1:3 " + answer]),
+                                   (["--annotate"], [line + b"\t" + answer, b"none"])):
+            done = subprocess.run([PROGRAM, "find", *arguments, *names], cwd=room, capture_output=True, check=True)
+            assert done.stdout.split(b"\n") == [*(name + rest for name in shown for rest in answers), b""], done
+        done = subprocess.run([PROGRAM, "find", "--json", *names], cwd=room, capture_output=True, check=True)
         found = [json.loads(line) for line in done.stdout.splitlines()]
         places = [[each[name] for name in ("file", "line", "column", "text", "score")] for each in found]
-        assert places == [[name, 1, 3, V2.decode(), 5.0] for name in ("a", 'b"')], done
+        assert places == [[name, 1, 3, V2.decode(), 5.0] for name in names], done
 
 
 def main():
@@ -235,6 +304,10 @@ def main():
             try_annotated(room, written)
             try_objects(room, written)
             drawn += len(lines_of(written))
+        for _ in range(count // 50):
+            written = hostile.files(draw, room, 40, line)
+            try_gated(draw, room, written)
+            try_counted(draw, room, written)
     assert answered > drawn / 4, f"the drawn lines have {answered} vectors: that tries too little"
     try_hints()
     try_files()

@@ -3,7 +3,8 @@
 
 A list has lines of all versions with ids before or after the vector, and some lines without a vector, with several,
 with a rejected one or of any bytes; it is split over files, or comes from standard input. Metrics are set by words and
-by profiles in any order, some of which no version has.
+by profiles in any order, some of which no version has. Some rows are passed over for their scores, some fail, and some
+are counted; files may have a header each.
 
 usage: tests/checks/compare_ranked.py [COUNT [SEED]]
 """
@@ -34,6 +35,8 @@ V3 = b"CVSS:3.1/AV:N/AC:L/PR:N/UI:N/S:U/C:H/I:H/A:H"
 V4 = b"CVSS:4.0/AV:N/AC:L/AT:N/PR:N/UI:N/VC:L/VI:H/VA:N/SC:N/SI:N/SA:N"
 CUT = b"CVSS:3.1/AV:N/AC:L/PR:N/UI:N/S:U/C:H"
 ROW_V2, ROW_V3, ROW_V4 = b"7.8 high " + V2, b"9.8 critical " + V3, b"8.8 high " + V4
+COUNTS = b"critical %d\nhigh %d\nmedium %d\nlow %d\nnone %d\nrejected %d\n"
+TOP = b"score severity vector\t"
 UNKNOWN = b"no CVSS version has "
 # Arguments, standard input, and the status, standard output and standard error, by hand.
 CASES = [
@@ -52,6 +55,32 @@ CASES = [
     ([b"--set", b"E:Q", b"--keep-going", b"--set", b"x"], V2, (2, b"", b"cvss: " + UNKNOWN + b"E:Q\ncvss: " + UNKNOWN + b"x\n")),
     ([b"--set", b"e:u"], b"b " + V4 + b"\na " + V2,
      (0, ROW_V2 + b"\ta " + V2 + b"\n6.7 medium " + V4 + b"/E:U\tb " + V4 + b"\n", b"")),
+    ([b"--min", b"8.8"], V2 + b"\n" + V3 + b"\n" + V4, (0, ROW_V3 + b"\t" + V3 + b"\n" + ROW_V4 + b"\t" + V4 + b"\n", b"")),
+    ([b"--min", b"8.9", b"--fail-on", b"8.8"], V2 + b"\n" + V4, (0, b"", b"")),
+    ([b"--fail-on", b"8.8"], V2 + b"\n" + V4, (1, ROW_V4 + b"\t" + V4 + b"\n" + ROW_V2 + b"\t" + V2 + b"\n", b"")),
+    ([b"--fail-on", b"8.9"], V4, (0, ROW_V4 + b"\t" + V4 + b"\n", b"")),
+    ([b"--fail-on", b"medium", b"--set", b"E:U", b"--quiet"], V4, (1, b"", b"")),
+    ([b"--min", b"high", b"--set", b"E:U"], V4, (0, b"", b"")),
+    ([b"--count"], b"", (0, COUNTS % (0, 0, 0, 0, 0, 0), b"")),
+    ([b"--count"], V2 + b"\n" + V3 + b"\n" + V4 + b"\n" + V4, (0, COUNTS % (1, 3, 0, 0, 0, 0), b"")),
+    ([b"--count", b"--min", b"7.9", b"--fail-on", b"critical"], V2 + b"\n" + V3 + b"\n" + V4, (1, COUNTS % (1, 1, 0, 0, 0, 0), b"")),
+    ([b"--count", b"--keep-going"], V4 + b"\nx\n\n", (1, COUNTS % (0, 1, 0, 0, 0, 2), b"cvss: line 2: no vector\ncvss: line 3: no vector\n")),
+    ([b"--count"], V4 + b"\nx", (1, b"", b"cvss: line 2: no vector\n")),
+    ([b"--count", b"--quiet", b"--fail-on", b"low"], V4, (1, b"", b"")),
+    ([b"--header"], b"", (0, b"", b"")),
+    ([b"--header"], b"\n", (0, TOP + b"\n", b"")),
+    ([b"--header"], b"id," + V3 + b"\r\n" + V2 + b"\n" + V4,
+     (0, TOP + b"id," + V3 + b"\n" + ROW_V4 + b"\t" + V4 + b"\n" + ROW_V2 + b"\t" + V2 + b"\n", b"")),
+    ([b"--header", b"--min", b"10"], b"id\n" + V2, (0, TOP + b"id\n", b"")),
+    ([b"--header"], b"id\n" + V2 + b"\nx", (1, b"", b"cvss: line 3: no vector\n")),
+    ([b"--header", b"--keep-going"], b"id\nx\n" + V2, (1, TOP + b"id\n" + ROW_V2 + b"\t" + V2 + b"\n", b"cvss: line 2: no vector\n")),
+    ([b"--header", b"--count"], b"id\n" + V2, (0, COUNTS % (0, 1, 0, 0, 0, 0), b"")),
+    ([b"--header", b"--quiet"], b"id\n" + V2, (0, b"", b"")),
+    ([b"--header", b"--keep-going", b"-", V2], b"id\n" + V4 + b"\nx",
+     (1, TOP + b"id\n" + ROW_V4 + b"\t" + V4 + b"\n", b"cvss: line 3: no vector\n")),
+    ([b"--header", b"--keep-going", b"no such file", b"-"], b"id\n" + V4,
+     (2, ROW_V4 + b"\t" + V4 + b"\n", b"cvss: no such file: No such file or directory (os error 2)\n")),
+    ([b"--quiet", b"--keep-going"], V4 + b"\nx", (1, b"", b"cvss: line 2: no vector\n")),
     ([b"--profile", b"-"], b"\n \t\r\nCVSS:4.0/E:U\nCVSS:2.0/E:U\n",
      (2, b"", b"cvss: -: line 4: " + UNKNOWN + b"CVSS:2.0/E:U\n")),
     ([b"--profile", b"CVSS:4.0/E:U", V4], b"", (0, b"6.7 medium " + V4 + b"/E:U\t" + V4 + b"\n", b"")),
@@ -76,13 +105,21 @@ def expect(arguments, given, wanted):
         sys.exit(f"cvss triage {arguments} over {given[:500]!r}:\n{str(actual)[:3000]}\nand not\n{str(wanted)[:3000]}")
 
 
+def gates(draw):
+    """Options that choose rows by their scores, or print their numbers or nothing."""
+    scores = "%d.%d" % divmod(draw.randrange(100), 10), draw.choice(("none", "low", "Medium", "high", "critical", "10", "7"))
+    given = [(flag, draw.choice(scores).encode()) for flag in (b"--min", b"--fail-on") if draw.random() < 0.4]
+    return [word for option in given for word in option] + [flag for flag in (b"--quiet", b"--count") if draw.random() < 0.1]
+
+
 def line(draw, rejected):
     """A line with an id, of which some have no row."""
     if draw.random() < rejected:
         return draw.choice((texts.text, hostile.line))(draw).replace(b"\n", b"")
     text = lines.line(draw, "all", draw.choice(("base", "full", "any")))
     name = draw.choice(IDS) % draw.randrange(100_000)
-    return draw.choice((f"{name} {text}", f"{text} {name}", f"{name} ({text}).", text)).encode()
+    link = f"{name} {text} https://www.first.org/cvss/calculator/3.1#{text}"
+    return draw.choice((f"{name} {text}", f"{text} {name}", f"{name} ({text}).", text, link)).encode()
 
 
 def metrics(draw, known):
@@ -119,7 +156,8 @@ def try_list(draw, room):
             arguments += [b"--set", word.encode()]
         else:
             arguments += [b"--profile", file(profile(draw, wrong))]
-    arguments += [flag for flag in (b"--keep-going", b"--allow-incomplete", b"--base") if draw.random() < 0.4]
+    arguments += [flag for flag in (b"--keep-going", b"--allow-incomplete", b"--base", b"--header") if draw.random() < 0.4]
+    arguments += gates(draw)
     rejected = draw.choice((0, 0.02, 0.3))
     parts = [[line(draw, rejected) for _ in range(draw.randrange(80))] for _ in range(draw.choice((1, 1, 2, 3)))]
     given = None

@@ -25,7 +25,7 @@ import rows
 PROGRAM = ROOT / "crates/cvss_command/out/cvss_command"
 HEADER = "\t".join(rows.COLUMNS).encode() + b"\n"
 CUT = b"CVSS:3.1/AV:N/AC:L/PR:N/UI:N/S:U/C:H"
-ODD = [b"", b"a\tb\\c\rd:e/f", b'x:"\x01\x1f\x7f/AV:N', b"\xff\t\\", "AV:\u00e9/AC:L".encode(), CUT]
+ODD = [b"", b"=1+1", b"+AV:N", b"-x", b"@x", b"'=1", b"a\tb\\c\rd:e/f", b'x:"\x01\x1f\x7f/AV:N', b"\xff\t\\", "AV:\u00e9/AC:L".encode(), CUT]
 # Metrics by hand, and how drawn ones are made wrong.
 METRICS = (["E:U"], ["E:A", "MAV:L"], ["c:h", "i:H", "A:N"], ["RL:OF"], ["MSI:S", "CR:H", "CR:L"], ["Q:Q"],
            ["S:C", "PR:L"])
@@ -38,13 +38,13 @@ def run(room, words, written):
     """What the program writes about these files, or about standard input."""
     done = subprocess.run([PROGRAM, *words, *written], input=written.get("-", b""), cwd=room, capture_output=True,
                           check=False)
-    if done.stderr:
+    if not all(line.startswith(b"cvss: hint: ") for line in done.stderr.splitlines()):
         sys.exit(f"cvss {words}: {done.stderr[:300]}")
     return done
 
 
 def parsed(text):
-    return [json.loads(line, object_pairs_hook=list) for line in text.splitlines()]
+    return [json.loads(line, object_pairs_hook=list) if line else line for line in text.splitlines()]
 
 
 def expect(words, done, expected, rejected):
@@ -65,24 +65,33 @@ def answers_of(written, answer):
     """The answers to each line of the files, after the name where there are several, and whether one is rejected."""
     answers, rejected = [], False
     for name, data in written.items():
-        front = f"{name}:".encode() if len(written) > 1 else b""
-        for line in reference.lines_of(data):
+        front = f"{complete.shown_name(name.encode())}:".encode() if len(written) > 1 else b""
+        for line in reference.lines_of_file(data):
             text = answer(line)
             rejected |= text.startswith("error: ")
             answers.append(front + text.encode() + b"\n")
     return b"".join(answers), rejected
 
 
+def row(form, line, allow, file, guard=False):
+    text = complete.scored_text(line)
+    return rows.row(form, text, allow, file, guard) if text else b""
+
+
 def compare_score(room, written):
     """The forms of `cvss score` over files."""
     for allow, form in product((False, True), (None, "base", "tsv", "json")):
         words = ["score", *(["--allow-incomplete"] if allow else []), *([f"--{form}"] if form else [])]
-        expected, rejected = answers_of(written, lambda line: complete.answer(line, None, allow, form == "base"))
+        expected, rejected = answers_of(written, lambda line: complete.scored(line, None, allow, form == "base"))
         if form in ("tsv", "json"):
             several = len(written) > 1
             header = (b"file\t" if several else b"") + HEADER if form == "tsv" else b""
-            expected = header + b"".join(rows.row(form, line, allow, name.encode() if several else None) + b"\n"
-                                         for name, data in written.items() for line in reference.lines_of(data))
+            expected = header + b"".join(row(form, line, allow, name.encode() if several else None) + b"\n"
+                                         for name, data in written.items() for line in reference.lines_of_file(data))
+            if form == "tsv":
+                guarded = header + b"".join(row(form, line, allow, name.encode() if several else None, True) + b"\n"
+                                            for name, data in written.items() for line in reference.lines_of_file(data))
+                expect([*words, "--guard"], run(room, [*words, "--guard"], written), guarded, rejected)
         expect(words, run(room, words, written), expected, rejected)
 
 
@@ -102,7 +111,7 @@ def metrics(draw):
 def compare_set(room, written, own, flags=()):
     """Metrics are set, with flags before the first and after it."""
     words = ["set", *flags[:1], *own[:1], *flags[1:], *own[1:], "--"]
-    expected, rejected = answers_of(written, lambda line: complete.answer(
+    expected, rejected = answers_of(written, lambda line: complete.shown_answer(
         line, "/".join(own).encode(), "--allow-incomplete" in flags, "--base" in flags))
     expect(words, run(room, words, written), expected, rejected)
 
@@ -111,7 +120,7 @@ def try_files(draw, room, count, compare):
     """Compares over so many lines in files or on standard input."""
     written = hostile.files(draw, room, count)
     compare(room, written)
-    return sum(len(reference.lines_of(data)) for data in written.values())
+    return sum(len(reference.lines_of_file(data)) for data in written.values())
 
 
 def try_odd(room):
@@ -132,7 +141,7 @@ def try_words(draw, count):
     """Vectors as words, which are read like files of one line; a rejected one can have a hint."""
     words = list(filter(is_word, (hostile.line(draw) for _ in range(count))))
     done = subprocess.run([PROGRAM, "score", *words], capture_output=True, check=False)
-    answers = [complete.answer(line) for word in words for line in reference.lines_of(word)]
+    answers = [complete.scored(line) for word in words for line in reference.lines_of(word)]
     expect(["score", "WORDS"], done, "".join(answer + "\n" for answer in answers).encode(),
            any(answer.startswith("error: ") for answer in answers))
     if not all(line.startswith(b"cvss: hint: ") for line in done.stderr.splitlines()):

@@ -175,13 +175,13 @@ def printed_for_list(*command):
 
 
 def try_dask():
-    """The dask bag prints what `cvss score` does, or the program over the C library where that is not built."""
+    """The dask bag prints what the program over the C library does: of odd lines too, in which `cvss score` drops blanks and
+    shows control characters by escapes."""
     python = python_with("dask.bag", "the example of dask")
     if python is None:
         return
     (FOLDER / "recipe.py").write_text(block_with("from dask", "python"))
-    command = ROOT / "crates/cvss_command/out/cvss_command"
-    wanted = printed_for_list(command, "score") if command.exists() else printed_for_list(OUT / "lines")
+    wanted = printed_for_list(OUT / "lines")
     printed = run([python, "recipe.py"], env=python_environment())
     assert printed == wanted, "the lines of the dask bag are not those of the program"
     print("dask: the lines are those of the program alone")
@@ -242,7 +242,7 @@ def try_programs():
     environment = {**os.environ, "PATH": f"{folder}:{os.environ['PATH']}"}
     pages = ((ROOT / "README.md").read_text(), PROGRAMS)
     found = [block for page in pages for block in blocks(page, "") if block.startswith("$ ")]
-    examples = [example for block in found if "> findings" not in block for example in re.split(r"(?m)^\$ ", block)[1:]]
+    examples = [example for block in found if "audit csaf.json" not in block for example in re.split(r"(?m)^\$ ", block)[1:]]
     for name in ("cvss", "cvss find", "cvss audit", "cvss triage"):
         assert any(re.search(rf"\| {name}\b", example) for example in examples), f"no example of {name}"
     for example in examples:
@@ -277,7 +277,7 @@ def audit_environment():
 
 def try_job(environment):
     """The recipe of a job, with a document that disagrees, one that is rejected and one that is right."""
-    block = block_with("> findings", page=PROGRAMS)
+    block = block_with("audit csaf.json", page=PROGRAMS)
     recipe = block.splitlines()[0].removeprefix("$ ")
     for score, status, wanted in (
         (DIFFERING, 1, "".join(block.splitlines(keepends=True)[1:])),
@@ -288,7 +288,7 @@ def try_job(environment):
         done = subprocess.run(["bash", "-c", recipe], cwd=FOLDER, env=environment, stdout=subprocess.PIPE)
         assert done.returncode == status, f"status {done.returncode}, and not {status}, over {score}: {recipe}"
         if wanted is None:
-            assert b'"error":' in done.stdout, f"{done.stdout} has no error: {recipe}"
+            assert b" error: " in done.stdout, f"{done.stdout} rejects nothing: {recipe}"
         else:
             check(done.stdout, wanted, recipe)
 
@@ -297,7 +297,7 @@ def try_nulls(environment):
     """A vector of null, as GitHub's GraphQL has it where there is none, is passed over; another value is not."""
     for score, status in (('{"score":0,"vectorString":null}', 0), ('{"score":0,"vectorString":7}', 1), (AGREEING, 0)):
         given = f'{{"nodes":[{{"cvss":{score}}},{{"cvss":{AGREEING}}}]}}'.encode()
-        done = subprocess.run(["cvss", "audit"], input=given, stdout=subprocess.PIPE, env=environment)
+        done = subprocess.run(["cvss", "audit", "--json"], input=given, stdout=subprocess.PIPE, env=environment)
         assert done.returncode == status, f"status {done.returncode}, and not {status}, over {score}"
 
 
@@ -310,7 +310,7 @@ def try_base_scores(environment):
         done = subprocess.run(block, shell=True, cwd=FOLDER, env=environment, stdout=subprocess.PIPE)
         assert done.returncode == status, f"status {done.returncode}, and not {status}, over {record}: {block}"
         given = json.dumps(record).encode()
-        alone = subprocess.run(["cvss", "audit"], input=given, stdout=subprocess.PIPE, env=environment)
+        alone = subprocess.run(["cvss", "audit", "--json"], input=given, stdout=subprocess.PIPE, env=environment)
         assert alone.returncode == 1, f"{record} does not differ"
 
 

@@ -9,6 +9,7 @@ usage: tests/checks/operands.py [SEED]
 """
 import json
 import os
+import re
 import random
 import shutil
 import subprocess
@@ -61,7 +62,9 @@ class Subcommand:
             streams["input"] = given
         streams.setdefault("stdout", subprocess.PIPE)
         done = subprocess.run([PROGRAM, *self.arguments, *operands], stderr=subprocess.PIPE, check=False, **streams)
-        outcome = (done.returncode, done.stdout or b"", done.stderr)
+        # what the reference says of a text that is no JSON has no line and column
+        written = re.sub(rb'"not JSON: line \d+, column \d+"', b'"not JSON"', done.stdout or b"")
+        outcome = (done.returncode, written, done.stderr)
         if outcome != (status, out, error):
             sys.exit(f"cvss {self.arguments} {operands[:3]}: {outcome}, and not {(status, out, error)}"[:3000])
         self.tried += 1
@@ -71,25 +74,29 @@ def prefixed(operand, answer):
     return (operand + b":" if operand else b"") + answer
 
 
+def shown(operand, answer):
+    return prefixed(complete.shown_name(operand).encode(), answer)
+
+
 def score(line, number, operand):
-    return prefixed(operand, complete.answer(line).encode() + b"\n")
+    return shown(operand, complete.scored(line).encode() + b"\n")
 
 
 def score_base(line, number, operand):
-    return prefixed(operand, complete.answer(line, base=True).encode() + b"\n")
+    return shown(operand, complete.scored(line, base=True).encode() + b"\n")
 
 
 def set_metrics(line, number, operand):
-    return prefixed(operand, complete.answer(line, metrics=b"E:U").encode() + b"\n")
+    return shown(operand, complete.shown_answer(line, metrics=b"E:U").encode() + b"\n")
 
 
 def find(line, number, operand):
-    return b"".join(prefixed(operand, f"{number}:{place + 1} {answer}\n".encode())
+    return b"".join(shown(operand, f"{number}:{place + 1} {answer}\n".encode())
                     for place, answer in finding.reported(line))
 
 
 def explain(line, number, operand):
-    return prefixed(operand, explained.written(explained.answer(line, allow_incomplete=False)).encode() + b"\n")
+    return shown(operand, explained.written(explained.answer(line, allow_incomplete=False)).encode() + b"\n")
 
 
 def json_text(value):
@@ -124,7 +131,7 @@ SUBCOMMANDS = [
     Subcommand(["find"], b"(" + ACCEPTED + b")", b'"' + REJECTED + b'"', find),
     Subcommand(["explain"], ACCEPTED, REJECTED, explain),
     Subcommand(["explain", "--json"], ACCEPTED, REJECTED, explain_object),
-    Subcommand(["audit"], b'{"vectorString":"' + ACCEPTED + b'"}', b'{"vectorString":"' + REJECTED + b'"}', audit,
+    Subcommand(["audit", "--json"], b'{"vectorString":"' + ACCEPTED + b'"}', b'{"vectorString":"' + REJECTED + b'"}', audit,
                b"cvss: no vector was found\n"),
 ]
 
@@ -147,7 +154,7 @@ def try_files(command, room):
     command.expect(2, b"", b"cvss: " + NO_FILE, "", cwd=room)
     # the toolchain opens files by text alone
     (room / os.fsdecode(b"\xff\xfe")).touch()
-    command.expect(2, b"", b"cvss: \xff\xfe: invalid filename\n", b"\xff\xfe", cwd=room)
+    command.expect(2, b"", b"cvss: \\xff\\xfe: invalid filename\n", b"\xff\xfe", cwd=room)
     long = b"x" * 5000
     command.expect(2, b"", b"cvss: " + long + b": File name too long (os error 36)\n", long, cwd=room)
     (room / "empty").touch()

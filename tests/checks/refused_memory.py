@@ -3,18 +3,18 @@
 
 The input, and the answers with ample memory, come from stored lines:
 
-- `test_vectors` answers all of its lines except those for many values at once (`each`): they go
-  through the parser of each version and of any version, the parsers of metrics and of their values,
-  triage and overrides.
-- `test_json` reads the text of each vector there as a JSON string, writes the vector as one, and
-  copies the error of a rejected text; its own stored lines do the same for ratings and
-  nomenclatures. It reports each of these steps by its name.
+- `test_vectors` answers all of its lines except those for many values at once (`each`) and those
+  about JSON: they go through the parser of each version and of any version, the parsers of metrics
+  and of their values, triage and overrides.
+- By the mark `json` it reads the text of each vector there as a JSON string, writes the vector as
+  one, and copies the error of a rejected text; its stored lines with that mark do the same for
+  ratings and nomenclatures. It reports each of these steps by its name.
 - `cvss_tool` answers the texts of any version, one per line, and `cvss find` the same texts in
   sentences, where the expected answers are those of reference/finding.py.
 - `cvss audit` answers the stored documents of tests/samples/lines.jsonl.
 
 Only these answers may be `out of memory`: in `test_vectors` those to a rejected text whose error
-quotes the text, and rows of triage; and the steps of `test_json` that build a string or copy such an
+quotes the text, and rows of triage; and the steps of `json` lines that build a string or copy such an
 error. So a valid text is accepted whichever request is refused, and `cvss_tool` and `cvss find`
 answer each text as always. If a line can't be read or a buffer can't grow, the run ends early, and
 what it has written are the whole answers to the first lines. Then the programs report it on standard
@@ -100,6 +100,7 @@ void *realloc(void *old, size_t size)
 # How many lines a run answers, where a program makes a request for each.
 BATCH = 25
 # A mark of a stored line, and what it asks for.
+NO_JSON_AT = re.compile(rb"not JSON: line \d+, column \d+")
 MARKED = re.compile(rb"([a-z]+[2-4]?) (.*)", re.DOTALL)
 # The kinds of `fault` whose error quotes a part of the text.
 CARRYING = ("component", "prefix", "version", "metric", "value")
@@ -167,7 +168,7 @@ def expected(mark, answer):
 
 
 def converted(text, answer):
-    """What `test_json` answers to a text, and which of its steps may run out of memory instead."""
+    """What a `json` line answers to a text, and which of its steps may run out of memory instead."""
     reason = answer.removeprefix("from_value: ")
     if reason == answer:
         steps = ["to_value"]
@@ -179,16 +180,17 @@ def converted(text, answer):
 
 
 def strings():
-    """The lines of `test_json` that convert texts, with what is expected of each."""
+    """The lines that convert texts to and from JSON, with what is expected of each."""
     for mark, asked, answer in stored("test_vectors"):
         # A JSON string is UTF-8.
         if mark in ("", "v2", "v3", "v4") and answer != "error: not UTF-8":
             rejected = answer.startswith("error: ")
             said = f"from_value: {answer[7:]}" if rejected else answer.split(" ")[0]
-            yield (mark or "cvss").encode() + b" " + asked, converted(asked, said)
-    for mark, asked, answer in stored("test_json"):
-        if mark in ("cvss", "v2", "v3", "v4", "severity", "nomenclature"):
-            yield mark.encode() + b" " + asked, converted(asked, answer)
+            yield b"json " + (mark or "cvss").encode() + b" " + asked, converted(asked, said)
+        elif mark == "json":
+            kind, space, text = asked.partition(b" ")
+            if space and kind in (b"cvss", b"v2", b"v3", b"v4", b"severity", b"nomenclature"):
+                yield b"json " + asked, converted(text, answer)
 
 
 def found(text):
@@ -272,7 +274,9 @@ def refuse_in_turn_over_documents(shim):
         place += len(line)
         if now != following:
             ends.add(place)
-    ample, *others = runs(shim, "cvss_command", given, "audit")
+    # Of a text that is no JSON the stored answers do not have the line and the column of the error.
+    ample, *others = ((status, NO_JSON_AT.sub(b"not JSON", written), message)
+                      for status, written, message in runs(shim, "cvss_command", given, "audit", "--json"))
     program = "cvss_command audit"
     if ample[:2] != (1, whole) or not is_reported(program, False, ample[2]):
         sys.exit("cvss audit: the run with ample memory is not the stored one")
@@ -295,8 +299,9 @@ def main():
         shim = build(room)
         refuse_in_turn(shim, "test_vectors", in_batches(
             [(f"{mark} ".encode() * bool(mark) + line, expected(mark, answer))
-             for mark, line, answer in asked if mark != "each"]), (0, 1), "lines")
-        refuse_in_turn(shim, "test_json", in_batches(list(strings())), (0, 1), "strings")
+             for mark, line, answer in asked if mark not in ("each", "json", "record", "differ", "places")]),
+             (0, 1), "lines")
+        refuse_in_turn(shim, "test_vectors", in_batches(list(strings())), (0, 1), "strings")
         lines, wanted = zip(*texts)
         refuse_in_turn(shim, "cvss_tool", [(b"\n".join(lines) + b"\n", wanted)], (1, 2))
         LACKING["cvss_command find"] = finding.hint(text.split(b"\n")).encode(), b"cvss: out of memory\n"

@@ -108,8 +108,8 @@ def try_rejections(runs):
                         for version, text, _ in cases)
         runs.expect("test_vectors", given.encode(),
                     (0, "".join(f"error: {words}\n" for _, _, words in cases).encode(), ""))
-        given = "".join(f"{version} {text}\n" for version, text, _ in cases)
-        runs.expect("test_json", given.encode(),
+        given = "".join(f"json {version} {text}\n" for version, text, _ in cases)
+        runs.expect("test_vectors", given.encode(),
                     (0, "".join(f"from_value: {words}\n" for _, _, words in cases).encode(), ""))
         lines = [(text, words) for version, text, words in cases if version == "cvss"]
         runs.expect("cvss_tool", "".join(f"{text}\n" for text, _ in lines).encode(),
@@ -139,7 +139,7 @@ def try_unknown(runs, word):
     """A word that is no rating, and no nomenclature."""
     answer = (f"from_value: invalid CVSS Qualitative Severity Rating: `{word}`\n"
             f"from_value: invalid CVSSv4 nomenclature: `{word}`\n")
-    runs.expect("test_json", f"severity {word}\nnomenclature {word}\n".encode(),
+    runs.expect("test_vectors", f"json severity {word}\njson nomenclature {word}\n".encode(),
                 (0, answer.encode(), ""))
 
 
@@ -149,7 +149,7 @@ def try_whole(runs):
         answer = f"{reference.answer(text.encode())}\n"
         runs.expect("test_vectors", f"{text}\n".encode(), (0, answer.encode(), ""))
         for mark in (version, "cvss"):
-            runs.expect("test_json", f"{mark} {text}\n".encode(), (0, f"{text}\n".encode(), ""))
+            runs.expect("test_vectors", f"json {mark} {text}\n".encode(), (0, f"{text}\n".encode(), ""))
         runs.expect("cvss_command", text.encode(), (0, row(text, []), ""), ["triage"])
 
 
@@ -183,7 +183,7 @@ def try_much(runs):
                     (1, f"error: {reason}\n{FIRST}".encode(), ""))
         runs.expect("cvss_command", part.encode(), (1, b"", "cvss: line 1: no vector\n"), ["triage"])
         runs.expect("cvss_command", f'{{"vectorString":"{part}"}}'.encode(),
-                    (1, f'{{"at":"","error":"{reason}","given":"{part}","line":1}}\n'.encode(), ""), ["audit"])
+                    (1, f'{{"at":"","error":"{reason}","given":"{part}","line":1}}\n'.encode(), ""), ["audit", "--json"])
     count = ALL // len(LINE)
     runs.expect("cvss_tool", LINE * count, (0, FIRST.encode() * count, ""))
     count = ONE_BY_ONE // len(LINE)
@@ -195,7 +195,7 @@ def try_much(runs):
     reason = b"error: invalid CVSS metric group component: `\0`\n"
     runs.expect("cvss_tool", b"\0\n" + LINE + b"\0\n", (1, reason + FIRST.encode() + reason, ""))
     runs.expect("cvss_tool", LINE + b"\0\n", (1, FIRST.encode() + reason, ""), READ_STEP=len(LINE))
-    runs.expect("cvss_command", b"\0", (1, b'{"error":"not JSON","line":1}\n', ""), ["audit"])
+    runs.expect("cvss_command", b"\0", (1, b'{"error":"not JSON: line 1, column 1"}\n', ""), ["audit", "--json"])
 
 
 def try_many(runs):
@@ -207,9 +207,9 @@ def try_many(runs):
         runs.expect("cvss_command", given.encode(), (0, found.encode(), ""), ["find"])
     holder, answer = f'{{"vectorString":"{V2}"}}', agreed()
     found = "".join(answer.replace('"at":""', f'"at":"/{number}"') for number in range(MANY))
-    runs.expect("cvss_command", f"[{','.join([holder] * MANY)}]".encode(), (0, found.encode(), ""), ["audit"])
+    runs.expect("cvss_command", f"[{','.join([holder] * MANY)}]".encode(), (0, found.encode(), ""), ["audit", "--json"])
     found = "".join(answer.replace('"line":1', f'"line":{number + 1}') for number in range(MANY))
-    runs.expect("cvss_command", f"{holder}\n".encode() * MANY, (0, found.encode(), ""), ["audit"])
+    runs.expect("cvss_command", f"{holder}\n".encode() * MANY, (0, found.encode(), ""), ["audit", "--json"])
     before, after = accounts.written(accounts.answer(1, LINE.strip())).split('"line":1,')
     found = "".join(f'{before}"line":{number + 1},{after}\n' for number in range(MANY // 10))
     runs.expect("cvss_command", LINE * (MANY // 10), (0, found.encode(), ""), ["explain", "--json"])

@@ -13,6 +13,7 @@ usage: tests/checks/streams.py
 import errno
 import json
 import os
+import select
 import subprocess
 import sys
 import tempfile
@@ -142,8 +143,10 @@ def agreed():
     return json.dumps(answer, separators=(",", ":")) + "\n"
 
 
-def no_json(line):
-    return f'{{"error":"not JSON","line":{line}}}\n'
+def no_json(line, column, of_file=0):
+    """What it answers to a text that is no JSON, which is a line of the input or, with 0, all of it."""
+    place = f',"line":{of_file}' if of_file else ""
+    return f'{{"error":"not JSON: line {line}, column {column}"{place}}}\n'
 
 
 def nested(depth, text=""):
@@ -156,10 +159,12 @@ DOCUMENTS = [
     (b'{}\n[]\n1\n"CVSS:3.1/AV:N"', "", 0),
     (b" \t\r\n\n ", "", 0),
     (DOCUMENT.encode(), audited(), 1),
-    (b"\n{\n{}\r\n{}{}", no_json(2) + no_json(4), 1),
+    (b"\n{}\n{\n{}\r\n{}{}", no_json(1, 1, 3) + no_json(1, 3, 5), 1),
+    (b"\n{\n{}\r\n{}{}", no_json(3, 2), 1),
     (b"{}\n\xff\n", '{"error":"not UTF-8","line":2}\n', 1),
-    (b"\xef\xbb\xbf{}", no_json(1), 1),
-    (b" \t[\n1\n]\n", no_json(1) + no_json(3), 1),
+    (b"\xef\xbb\xbf{}", "", 0),
+    (b"\xef\xbb\xbf\xef\xbb\xbf{}", no_json(1, 1), 1),
+    (b" \t[\n1\n]\n", "", 0),
     (b'[{"vectorString":""},{"vectorString":"CVSS:3.0/S:U"}]',
      '{"at":"/0","error":"invalid CVSS metric group component: ``","given":"","line":1}\n'
      '{"at":"/1","given":"CVSS:3.0/S:U","line":1,"missing":["AV","AC","PR","UI","C","I","A"],'
@@ -170,8 +175,8 @@ DOCUMENTS = [
      '"scores":{"base":6.1,"environmental":6.1,"score":6.1,"temporal":6.1},"severity":"medium",'
      '"vector":"CVSS:3.1/AV:N/AC:L/PR:N/UI:R/S:C/C:L/I:L/A:N"}\n', 0),
     # A number beyond the doubles, half of a pair of escapes, and scores that are read as doubles.
-    (b'{"vectorString":"AV:N","says":1e400}', no_json(1), 1),
-    (b'{"vectorString":"AV:N","says":"\\ud83d"}', no_json(1), 1),
+    (b'{"vectorString":"AV:N","says":1e400}', no_json(1, 36), 1),
+    (b'{"vectorString":"AV:N","says":"\\ud83d"}', no_json(1, 31), 1),
     (DOCUMENT.replace(":7}", ":7.8000000000000000001}").encode(), agreed(), 0),
     (DOCUMENT.replace(":7}", ":7.0000000000000000001}").encode(), audited("7.0"), 1),
     # A repeated member counts by its last.
@@ -180,7 +185,7 @@ DOCUMENTS = [
     # A document that nests 127 deep is read, and one that nests deeper is not.
     (f'{{"vectorString":"CVSS:2","says":{nested(126)}}}'.encode(),
      '{"at":"","error":"invalid CVSS metric group component: `CVSS:2`","given":"CVSS:2","line":1}\n', 1),
-    (nested(1, f'{{"vectorString":"CVSS:2","says":{nested(126)}}}').encode(), no_json(1), 1),
+    (nested(1, f'{{"vectorString":"CVSS:2","says":{nested(126)}}}').encode(), no_json(1, 160), 1),
     (f'{{"vectorString":"{V2}","baseScore":{nested(126)}}}'.encode(), audited(nested(126)), 1),
 ]
 
@@ -273,16 +278,50 @@ def try_audit(runs):
     for given, answers, status in DOCUMENTS:
         note = "" if answers else "cvss: no vector was found\n"
         for step in (1, 7, 100_000):
-            runs.expect("cvss_command", given, (status, answers.encode(), note), ["audit"], READ_STEP=step,
+            runs.expect("cvss_command", given, (status, answers.encode(), note), ["audit", "--json"], READ_STEP=step,
                         WRITE_SLOWLY=1)
     given = f"{DOCUMENT}\n{DOCUMENT}".encode()
     for fault in FAULTS:
-        runs.expect_error(given, (2, audited().encode()), ["audit"], READ_STEP=50, READ_LIMIT=len(given), READ_FAULT=fault)
-        runs.expect_error(given, (2, b""), ["audit", "--document"], READ_STEP=50, READ_LIMIT=len(given), READ_FAULT=fault)
+        runs.expect_error(given, (2, audited().encode()), ["audit", "--json"], READ_STEP=50, READ_LIMIT=len(given), READ_FAULT=fault)
+        runs.expect_error(given, (2, b""), ["audit", "--json", "--document"], READ_STEP=50, READ_LIMIT=len(given), READ_FAULT=fault)
     for fault in [0] + FAULTS:
         for room in (0, 3, 10):
-            runs.expect_error(given, (0 if fault == errno.EPIPE else 2, audited().encode()[:room]), ["audit"],
+            runs.expect_error(given, (0 if fault == errno.EPIPE else 2, audited().encode()[:room]), ["audit", "--json"],
                               WRITE_ROOM=room, WRITE_FAULT=fault)
+
+
+def try_waiting(runs):
+    """A writer that waits for the answer to its first line, however long that is, before it writes the next one."""
+    for size in (10, 65_400, 65_536, 70_000, 131_072, 300_000):
+        line = f'{" " * (size // 2)}{{"a":"{"x" * (size // 2)}","vectorString":"{V2}","baseScore":7}}\n'.encode()
+        with subprocess.Popen([ROOT / "crates/cvss_command/out/cvss_command", "audit", "--json"], stdin=subprocess.PIPE,
+                              stdout=subprocess.PIPE) as program:
+            program.stdin.write(line)
+            program.stdin.flush()
+            if not select.select([program.stdout], [], [], 20)[0]:
+                program.kill()
+                sys.exit(f"cvss audit does not answer a first line of {len(line)} bytes before the next one")
+            if program.stdout.readline().decode() != audited():
+                sys.exit(f"cvss audit answers a first line of {len(line)} bytes otherwise")
+            program.stdin.close()
+        runs.count += 1
+
+
+def try_marks(runs):
+    """Byte-order marks that reads cut."""
+    ranked = f"7.8 high {V2}\t{V2}\n"
+    for subcommand, answer in (("score", FIRST), ("find", f"1:1 {FIRST}"), ("triage", ranked)):
+        for step in (1, 2, 3, 100_000):
+            runs.expect("cvss_command", b"\xef\xbb\xbf" + V2.encode(), (0, answer.encode(), ""), [subcommand], READ_STEP=step)
+            for mark in (b"\xff\xfe", b"\xfe\xff"):
+                runs.expect("cvss_command", mark + V2.encode("utf-16-le"),
+                            (2, b"", "cvss: -: UTF-16; convert it to UTF-8\n"), [subcommand], READ_STEP=step)
+    for cut in (b"\xef", b"\xef\xbb", b"\xff", b"\xfe"):
+        runs.expect("cvss_command", cut, (1, b"error: not UTF-8\n", ""), ["score"], READ_STEP=1)
+    other = b"\xef\xbb\xbe"
+    runs.expect("cvss_command", other, (1, b"error: invalid CVSS metric group component: `" + other + b"`\n", ""), ["score"],
+                READ_STEP=1)
+    runs.expect("cvss_command", b"\xef\xbb\xbf", (0, b"", ""), ["score"], READ_STEP=1)
 
 
 def try_long(runs):
@@ -321,7 +360,7 @@ def try_long_names(runs, name):
                  ""))
     reasons = {"severity": "invalid CVSS Qualitative Severity Rating",
                "nomenclature": "invalid CVSSv4 nomenclature"}
-    runs.expect("test_json", "".join(f"{kind} {name}\n" for kind in reasons).encode(),
+    runs.expect("test_vectors", "".join(f"json {kind} {name}\n" for kind in reasons).encode(),
                 (0, "".join(f"from_value: {reason}: `{name}`\n"
                             for reason in reasons.values()).encode(), ""))
 
@@ -333,7 +372,7 @@ def main():
             file.write(SHIM)
         subprocess.run(["cc", "-shared", "-fPIC", "-O1", "-o", shim, source, "-ldl"], check=True)
         runs = Runs(shim)
-        for tried in (try_tool, try_find, try_triage, try_audit, try_long):
+        for tried in (try_tool, try_find, try_triage, try_audit, try_waiting, try_marks, try_long):
             tried(runs)
     print(f"{runs.count} runs over streams that give or take little, or fail, ended as they should")
 

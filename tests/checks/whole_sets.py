@@ -162,7 +162,7 @@ def compare_effective():
 
 def compare_records(name, texts):
     """A vector's record has its text, and nothing in it differs from the vector."""
-    for text, answer in zip(texts, answers("test_json", [f"record {text}" for text in texts])):
+    for text, answer in zip(texts, answers("test_vectors", [f"record {text}" for text in texts])):
         try:
             record = json.loads(answer)
         except ValueError:

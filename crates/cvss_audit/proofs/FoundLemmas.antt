@@ -3,7 +3,8 @@ use Rattle.std.proofs.Common.{◌≡◌, ℕ, ◌+◌, Bool, true, false, ◌&&�
 use Rattle.std.proofs.KnownBytes.{Appends-kept, Appends-nil, Appends-trans}
 use Rattle.std.proofs.Math.Bool.{and-true}
 use Rattle.std.proofs.Math.Seq.{take-append-add}
-use Rattle.std.proofs.lemmas.List.{flat_map_more, map-append}
+use Rattle.std.proofs.lemmas.Grind.{flat_map-append}
+use Rattle.std.proofs.lemmas.List.{flat_map_more}
 use Rattle.std.proofs.lemmas.List.Folds.{list_all-append}
 use Rattle.std.specs.Io.KnownBytes.{Appends}
 use Rattle.std.specs.Str.{IsUtf8}
@@ -11,7 +12,7 @@ use Rattle.cvss_lines.specs.Answers.{Answer, Accepted, Rejected, is_accepted, wr
 use Rattle.cvss_lines.specs.Streaming.{IsPassed, WritesWaiting}
 use Rattle.cvss_lines.specs.declared.fault.RunFault.{RunFault}
 use Rattle.cvss_lines.specs.declared.fault.RunFault.TheVariants.{Memory, Write}
-use Rattle.cvss_document.specs.Places.{Place, places_in}
+use Rattle.cvss_audit.specs.Places.{Place, places_in}
 use Rattle.cvss_audit.specs.Answers.{AreFound, Begins, BeginsFound, Found, IsAnswer, IsFound, all_agree, answer_of, texts_of, written_found}
 use Rattle.cvss_audit.specs.Inputs.{Input}
 use Rattle.cvss_audit.specs.private.Writing.{Answers, PassFound, StopsAnswering, StopsFound, StreamsFound, WritesPlace}
@@ -29,12 +30,17 @@ all_agree-push : (found : List Found) (last : Found) → all_agree (found ++ las
 all_agree-push found last =
     list_all-append (λ (each : Found). each.agrees) found (last ∷ []) ∙ ap (λ b. all_agree found && b) (and-true last.agrees)
 
+texts_of-push : (found : List Found) (last : Found) → texts_of (found ++ last ∷ []) ≡ texts_of found ++ last.texts
+texts_of-push found last = sym (flat_map_more (λ (each : Found). each.texts) [] found last)
+
 written-push : (found : List Found) (last : Found) (old middle new : List ℕ)
-    → middle ≡ old ++ flat_map written_text (texts_of found) → new ≡ middle ++ written_text last.text
+    → middle ≡ old ++ flat_map written_text (texts_of found) → new ≡ middle ++ flat_map written_text last.texts
     → new ≡ old ++ flat_map written_text (texts_of (found ++ last ∷ []))
 written-push found last old middle new before next =
-    next ∙ ap (λ bytes. bytes ++ written_text last.text) before ∙ flat_map_more written_text old (texts_of found) last.text
-    ∙ ap (λ texts. old ++ flat_map written_text texts) (sym (map-append (λ (each : Found). each.text) found (last ∷ [])))
+    next ∙ ap (λ bytes. bytes ++ flat_map written_text last.texts) before
+    ∙ append_assoc old (flat_map written_text (texts_of found)) (flat_map written_text last.texts)
+    ∙ ap (λ bytes. old ++ bytes) (sym (flat_map-append written_text (texts_of found) last.texts))
+    ∙ ap (λ texts. old ++ flat_map written_text texts) (sym (texts_of-push found last))
 
 module _ (input : Input) (places : List Place) where
   -- before the first place
@@ -72,10 +78,10 @@ module _ (input : Input) (places : List Place) where
   }
 
   together_push : (passed waits old middle : List ℕ) (found : List Found) (last : Found) → passed ++ waits ≡ old ++ written_found found
-      → middle ≡ waits ++ written_text last.text → passed ++ middle ≡ old ++ written_found (found ++ last ∷ [])
+      → middle ≡ waits ++ flat_map written_text last.texts → passed ++ middle ≡ old ++ written_found (found ++ last ∷ [])
   together_push passed waits old middle found last together written =
-      ap (λ bytes. passed ++ bytes) written ∙ sym (append_assoc passed waits (written_text last.text))
-      ∙ written-push found last old (passed ++ waits) ((passed ++ waits) ++ written_text last.text) together refl
+      ap (λ bytes. passed ++ bytes) written ∙ sym (append_assoc passed waits (flat_map written_text last.texts))
+      ∙ written-push found last old (passed ++ waits) ((passed ++ waits) ++ flat_map written_text last.texts) together refl
 
   -- after one more place, of which what waited may be written
   pub StreamsFound-next : (place : Place) (left left' : List Place) (old waits middle new : List ℕ) (w w' w'' : Option (List ℕ)) (agree agrees : Bool)

@@ -1,76 +1,85 @@
 -- The answers to JSON documents.
-use Rattle.std.specs.Prelude.{◌≡◌, ◌≢◌, ℕ, ◌==◌, ◌||◌, ◌&&◌, not, ◌⊎◌, Bool, true, false, List, [], ◌∷◌, ◌++◌, codes, flat_map, map, if◌then◌else◌, is_some, Option, Some, None, ⊤}
+use Rattle.std.specs.Prelude.{◌≡◌, ℕ, ◌==◌, ◌||◌, ◌&&◌, ◌⊎◌, not, Bool, true, false, Option, List, [], ◌∷◌, ◌++◌, codes, flat_map, if◌then◌else◌, is_some, Some, None, ⊤}
+use Rattle.std.specs.Fmt.{decimal}
 use Rattle.std.specs.List.{list_all}
 use Rattle.std.specs.Str.{IsUtf8}
-use Rattle.cvss_vector.specs.Complete.{first_missing}
-use Rattle.cvss_vector.specs.Dispatch.{DenotesCvss, IsFirstRejectionCvss, cvss_reason}
-use Rattle.cvss_base.specs.ErrorText.{error_text}
-use Rattle.cvss_base.specs.declared.error.Error.{Error}
-use Rattle.cvss_base.specs.declared.error.Error.TheVariants.{OutOfMemory}
-use Rattle.cvss_base.specs.Reported.{ReportsFirst}
 use Rattle.cvss_vector.specs.Evaluation.{IsEvaluation}
 use Rattle.cvss_vector.specs.declared.evaluation.Evaluation.{Evaluation}
+use Rattle.cvss_vector.specs.declared.evaluation.Rated.{Rated}
 use Rattle.cvss_vector.specs.declared.vector.Cvss.{Cvss}
 use Rattle.cvss_lines.specs.Answers.{Answer, Accepted, Rejected, Rule, written_text}
 use Rattle.cvss_lines.specs.Streaming.{Beginning}
-use Rattle.cvss_json_tree.specs.Texts.{IsTextOf}
-use Rattle.cvss_document.specs.Differences.{AreDifferencesAt, Difference}
-use Rattle.cvss_json_tree.specs.Objects.{object_of}
-use Rattle.cvss_document.specs.Places.{Place, places_in}
+use Rattle.cvss_audit.specs.Texts.{IsTextOf}
+use Rattle.cvss_audit.specs.Members.{object_of}
 use Rattle.serde_json.specs.Data.{Data}
 use Rattle.serde_json.specs.Read.{read}
-use Rattle.cvss_audit.specs.Objects.{accepted_members, place_members, error_member, error_value}
+use Rattle.cvss_audit.specs.Differences.{Difference}
+use Rattle.cvss_audit.specs.Findings.{Finding, IsFinding, IsRatedIn, agrees, rejected, tenths_of, vector}
 use Rattle.cvss_audit.specs.Inputs.{Input, line_of}
+use Rattle.cvss_audit.specs.Lines.{AreLines, error_line}
+use Rattle.cvss_audit.specs.Objects.{accepted_members, place_members, error_member, error_value}
+use Rattle.cvss_audit.specs.Places.{Place, places_in}
+use Rattle.cvss_report.specs.Gates.{is_failing, is_passed_over as is_below}
+use Rattle.cvss_report.specs.declared.gate.Gate.{Gate}
+use Rattle.cvss_audit.specs.declared.documents.input.AuditForm.{AuditForm}
+use Rattle.cvss_audit.specs.declared.documents.input.AuditForm.TheVariants.{Disagreements, Objects, DifferingObjects}
 
--- nothing differs
-abbrev pub nothing_differs : List Difference → Bool
-nothing_differs [] = true
-nothing_differs (difference ∷ differences) = false
-
--- the vector may be as it is: it lacks no base metric, or may lack some
-abbrev pub is_allowed : Input → Cvss → Bool
-is_allowed input cvss = input.2 || not (is_some (first_missing cvss))
-
--- the text denotes a vector, and the object says what it is and where the document says otherwise
-pub record IsAcceptedPlace (input : Input) (place : Place) (text : List ℕ) (value : Data) (agrees : Bool) : Type 0 where
-  pub cvss : Cvss
+-- the facts of a vector that an object reports, and the differences from them in the document
+pub record IsVectorObject (input : Input) (place : Place) (cvss : Cvss) (differences : List Difference) (value : Data) : Type 0 where
   pub scores : Evaluation
-  pub differences : List Difference
-  pub denoted : DenotesCvss text cvss
   pub are_scores : IsEvaluation cvss scores
-  pub are_differences : AreDifferencesAt cvss place differences
   pub is : value ≡ object_of (place_members input place ++ accepted_members cvss scores differences)
-  pub reported : agrees ≡ (nothing_differs differences && is_allowed input cvss)
 
--- the text denotes no vector, and the object says the first reason
-pub record IsRejectedPlace (input : Input) (place : Place) (text : List ℕ) (value : Data) (agrees : Bool) : Type 0 where
-  pub error : Error
-  pub first : ReportsFirst cvss_reason (IsFirstRejectionCvss text) error
-  pub no_want : error ≢ OutOfMemory
-  pub is : value ≡ object_of (place_members input place ++ error_member (error_text error) ∷ [])
-  pub reported : agrees ≡ false
+-- the object says of what is found at the place
+abbrev pub IsObjectOf : Input → Place → Finding → Data → Type 0
+IsObjectOf input place (vector cvss differences) value = IsVectorObject input place cvss differences value
+IsObjectOf input place (rejected reason) value = value ≡ object_of (place_members input place ++ error_member reason ∷ [])
 
--- where a vector should be there is no string, and the object says so
-pub record IsNoString (input : Input) (place : Place) (value : Data) (agrees : Bool) : Type 0 where
-  pub is : value ≡ object_of (place_members input place ++ error_member (codes "not a string") ∷ [])
-  pub reported : agrees ≡ false
-
--- what is written for a place, and whether its vector is accepted and allowed and nothing differs
-pub record Found : Type 0 where
+-- the one text is that object
+pub record AreObjects (input : Input) (place : Place) (finding : Finding) (texts : List (List ℕ)) : Type 0 where
+  pub value : Data
+  pub is_object : IsObjectOf input place finding value
   pub text : List ℕ
-  pub agrees : Bool
+  pub is_text : IsTextOf value text
+  pub are : texts ≡ text ∷ []
 
--- the object says of what is at the place
-abbrev pub IsObjectOf : Input → Place → Option (List ℕ) → Data → Bool → Type 0
-IsObjectOf input place (Some text) value agrees =
-    IsAcceptedPlace input place text value agrees ⊎ IsRejectedPlace input place text value agrees
-IsObjectOf input place None value agrees = IsNoString input place value agrees
+-- there is an object only where something is wrong
+abbrev pub AreObjectsUnless : Bool → Input → Place → Finding → List (List ℕ) → Type 0
+AreObjectsUnless true input place finding texts = texts ≡ []
+AreObjectsUnless false input place finding texts = AreObjects input place finding texts
+
+-- the texts in this form say of what is found at the place
+abbrev pub AreTextsIn : AuditForm → Input → Place → Finding → List (List ℕ) → Type 0
+AreTextsIn Disagreements input place finding texts = AreLines input place finding texts
+AreTextsIn Objects input place finding texts = AreObjects input place finding texts
+AreTextsIn DifferingObjects input place finding texts = AreObjectsUnless (agrees input finding) input place finding texts
+
+-- nothing is written for a vector that is passed over, and nothing where nothing is printed
+abbrev pub is_hidden : Gate → Option ℕ → Bool
+is_hidden gate score = is_below gate score || gate.quiet
+
+abbrev pub AreTextsIf : Bool → Input → Place → Finding → List (List ℕ) → Type 0
+AreTextsIf true input place finding texts = texts ≡ []
+AreTextsIf false input place finding texts = AreTextsIn input.form input place finding texts
+
+-- the vector is passed over; or all agrees, and the gate does not fail on the vector
+abbrev pub is_clean : Gate → Option ℕ → Bool → Bool
+is_clean gate score agrees = is_below gate score || (agrees && not (is_failing gate score))
+
+-- what is written for a place, and whether its vector is passed over, or is accepted and allowed, does not fail and nothing
+-- differs
+pub record Found : Type 0 where
+  pub texts : List (List ℕ)
+  pub agrees : Bool
 
 -- this is found at the place
 pub record IsFound (input : Input) (place : Place) (found : Found) : Type 0 where
-  pub value : Data
-  pub is_object : IsObjectOf input place place.2 value found.agrees
-  pub is_text : IsTextOf value found.text
+  pub finding : Finding
+  pub is_finding : IsFinding place finding
+  pub rated : Option Rated
+  pub is_rated : IsRatedIn input finding rated
+  pub are_texts : AreTextsIf (is_hidden input.gate (tenths_of rated)) input place finding found.texts
+  pub reported : found.agrees ≡ is_clean input.gate (tenths_of rated) (agrees input finding)
 
 -- these are found at the places, in their order
 abbrev pub AreFound : Input → List Place → List Found → Type 0
@@ -85,7 +94,7 @@ all_agree found = list_all (λ each. each.agrees) found
 
 -- the texts for the places
 abbrev pub texts_of : List Found → List (List ℕ)
-texts_of found = map (λ each. each.text) found
+texts_of found = flat_map (λ each. each.texts) found
 
 -- what is written for places, each text with a byte 10
 abbrev pub written_found : List Found → List ℕ
@@ -100,7 +109,7 @@ pub record BeginsFound (input : Input) (places : List Place) (bytes : List ℕ) 
   pub are_found : AreFound input first found
   pub written : bytes ≡ written_found found
 
--- the answer to a document: a line for each place. The document is accepted if all agree.
+-- the answer to a document: what is written for its places. The document is accepted if all agree.
 abbrev pub answer_of : List Found → Answer
 answer_of found = if all_agree found then Accepted (texts_of found) else Rejected (texts_of found)
 
@@ -114,30 +123,47 @@ are_blanks text = list_all is_blank text
 
 -- the text is a line, and has nothing but blanks
 abbrev pub is_passed_over : Input → List ℕ → Bool
-is_passed_over input text = is_some input.1 && are_blanks text
+is_passed_over input text = is_some input.line && are_blanks text
 
 -- the text is passed over, and nothing answers it
 pub record IsPassedOver (input : Input) (text : List ℕ) (answer : Answer) : Type 0 where
   pub blank : is_passed_over input text ≡ true
   pub is : answer ≡ Accepted []
 
--- an object answers the text that says why it is rejected
+-- the text in this form says why a document is rejected
+abbrev pub IsErrorIn : AuditForm → Input → List ℕ → List ℕ → Type 0
+IsErrorIn Disagreements input reason text = text ≡ error_line input reason
+IsErrorIn Objects input reason text = IsTextOf (error_value input reason) text
+IsErrorIn DifferingObjects input reason text = IsTextOf (error_value input reason) text
+
+-- there is one such text, or none where nothing is printed
+abbrev pub AreErrorTexts : Bool → Input → List ℕ → List (List ℕ) → Type 0
+AreErrorTexts true input reason texts = texts ≡ []
+AreErrorTexts false input reason texts = (text : List ℕ) × IsErrorIn input.form input reason text × (texts ≡ text ∷ [])
+
+-- the answer says why the text is rejected
 pub record IsRejectedText (input : Input) (reason : List ℕ) (answer : Answer) : Type 0 where
-  pub text : List ℕ
-  pub is_text : IsTextOf (error_value input reason) text
-  pub is : answer ≡ Rejected (text ∷ [])
+  pub texts : List (List ℕ)
+  pub are_texts : AreErrorTexts input.gate.quiet input reason texts
+  pub is : answer ≡ Rejected texts
 
 -- the bytes are no text
 pub record IsNoText (input : Input) (text : List ℕ) (answer : Answer) : Type 0 where
   pub not_utf8 : ¬ (IsUtf8 text)
   pub rejected : IsRejectedText input (codes "not UTF-8") answer
 
+-- why a text is no JSON, with the line and the column of an error; of these numbers nothing is promised
+abbrev pub not_json : ℕ → ℕ → List ℕ
+not_json line column = codes "not JSON: line " ++ (decimal line ++ (codes ", column " ++ decimal column))
+
 -- the text is no JSON, and is not passed over
 pub record IsNoJson (input : Input) (text : List ℕ) (answer : Answer) : Type 0 where
   pub utf8 : IsUtf8 text
   pub not_blank : is_passed_over input text ≡ false
-  pub not_json : read text ≡ None
-  pub rejected : IsRejectedText input (codes "not JSON") answer
+  pub unread : read text ≡ None
+  pub line : ℕ
+  pub column : ℕ
+  pub rejected : IsRejectedText input (not_json line column) answer
 
 -- the text is a JSON document, and the answer says of each location of a vector in it
 pub record IsDocument (input : Input) (text : List ℕ) (answer : Answer) : Type 0 where
@@ -148,18 +174,18 @@ pub record IsDocument (input : Input) (text : List ℕ) (answer : Answer) : Type
   pub are_found : AreFound input (places_in document) found
   pub is : answer ≡ answer_of found
 
+-- this is an answer to the text of a document
+unfoldable pub IsAnswer : Input → List ℕ → Answer → Type 0
+IsAnswer input text answer =
+    IsPassedOver input text answer ⊎ (IsNoText input text answer ⊎ (IsNoJson input text answer ⊎ IsDocument input text answer))
+
 -- whole lines of the answer to a document, which may be written before the rest of it is known
 pub record Begins (input : Input) (text bytes : List ℕ) : Type 0 where
   pub document : Data
   pub reads : read text ≡ Some document
   pub begins : BeginsFound input (places_in document) bytes
 
--- this is an answer to the text
-unfoldable pub IsAnswer : Input → List ℕ → Answer → Type 0
-IsAnswer input text answer =
-    IsPassedOver input text answer ⊎ (IsNoText input text answer ⊎ (IsNoJson input text answer ⊎ IsDocument input text answer))
-
--- and to the line of this number, where each line is a document
+-- an answer to the line of this number, where each line is a document
 abbrev pub IsLineAnswer : Input → Rule
 IsLineAnswer input number line answer = IsAnswer (line_of input number) line answer
 

@@ -16,10 +16,10 @@ use Rattle.cvss_vector.specs.declared.v4.vector.Vector as type_v4
 use Rattle.cvss_vector.specs.v3.Vector.{value_at}
 use Rattle.cvss_vector.specs.declared.vector.Cvss.{Cvss}
 use Rattle.cvss_vector.specs.declared.vector.Cvss.TheVariants.{CvssV20, CvssV30, CvssV31, CvssV40}
-use Rattle.cvss_document.specs.Differences.{Difference}
-use Rattle.cvss_json_tree.specs.Objects.{Member, object_of}
-use Rattle.cvss_document.specs.Places.{Place}
-use Rattle.cvss_document.specs.Scores.{score_value}
+use Rattle.cvss_audit.specs.Differences.{Difference}
+use Rattle.cvss_audit.specs.Members.{Member, object_of}
+use Rattle.cvss_audit.specs.Places.{Place}
+use Rattle.cvss_audit.specs.Scores.{score_value}
 use Rattle.serde_json.specs.Data.{Data, unsigned, number, string, array}
 use Rattle.serde_json.specs.View.{items_of}
 use Rattle.cvss_audit.specs.Inputs.{Input}
@@ -32,7 +32,7 @@ member_if name (Some value) = (name, value) ∷ []
 -- where the document is from: its file, and its line
 abbrev pub input_members : Input → List Member
 input_members input =
-    member_if (codes "file") (option_map string input.0) ++ member_if (codes "line") (option_map (λ count. number (unsigned count)) input.1)
+    member_if (codes "file") (option_map string input.file) ++ member_if (codes "line") (option_map (λ count. number (unsigned count)) input.line)
 
 -- the reason why the document, or the vector's text, is rejected
 abbrev pub error_member : List ℕ → Member
@@ -81,16 +81,16 @@ reported_members cvss scores =
     ∷ []
 
 -- the metric's name, where it is a base metric and the vector lacks it
-abbrev pub missing_at : type_v3.Vector → MetricType → Option Data
+abbrev pub missing_at : type_v3.Vector → MetricType → Option (List ℕ)
 missing_at vector kind =
-    if same_group (group_of kind) Base && not (is_some (value_at vector kind)) then Some (string (name_of kind)) else None
+    if same_group (group_of kind) Base && not (is_some (value_at vector kind)) then Some (name_of kind) else None
 
 -- the names of the base metrics that a vector of CVSS v3 lacks, in printing order: v3.1 specification, section 2
-abbrev pub missing_v3 : type_v3.Vector → List Data
+abbrev pub missing_v3 : type_v3.Vector → List (List ℕ)
 missing_v3 vector = filter_map (missing_at vector) printed
 
 -- the names of the base metrics that the vector lacks; in CVSS v2 and v4.0 a text without one is rejected
-abbrev pub missing_of : Cvss → List Data
+abbrev pub missing_of : Cvss → List (List ℕ)
 missing_of (CvssV20 _) = []
 missing_of (CvssV30 vector) = missing_v3 vector
 missing_of (CvssV31 vector) = missing_v3 vector
@@ -102,7 +102,7 @@ list_member name [] = []
 list_member name (value ∷ values) = (name, array (items_of (value ∷ values))) ∷ []
 
 abbrev pub missing_members : Cvss → List Member
-missing_members cvss = list_member (codes "missing") (missing_of cvss)
+missing_members cvss = list_member (codes "missing") (map string (missing_of cvss))
 
 -- a difference: the member's name, what it says, and what would agree
 abbrev pub difference_value : Difference → Data
@@ -112,7 +112,7 @@ difference_value difference =
 abbrev pub differs_members : List Difference → List Member
 differs_members differences = list_member (codes "differs") (map difference_value differences)
 
--- what an accepted vector is, and where the document says otherwise
+-- the facts of an accepted vector, and the differences from them in the document
 abbrev pub accepted_members : Cvss → Evaluation → List Difference → List Member
 accepted_members cvss scores differences =
     reported_members cvss scores ++ (missing_members cvss ++ differs_members differences)

@@ -1,36 +1,6 @@
-//! Lines that are JSON documents.
+//! How an input holds its documents.
 
-ghost use Rattle.cvss_audit.specs.Answers.{BeginsLine, IsLineAnswer};
-ghost use Rattle.cvss_audit.specs.Inputs.{input_view};
-
-use crate::answer::answer_text;
-use crate::input::Input;
-use cvss_lines::{OutputBuffer, RunFault, Service};
-use std::alloc::Global;
-use std::io::Write;
-
-/// Lines that are JSON documents, each answered by one line for each location of a vector in it.
-/// Lines of blanks alone are passed over. A line counts as accepted if nothing in it is rejected,
-/// nothing differs, and no vector lacks what it may not lack.
-#[derive(Drop)]
-pub(crate) struct Documents<'a> {
-    /// Where they are from.
-    pub(crate) input: Input<'a>,
-}
-
-impl Service for Documents<'_> {
-    ghost rule = { λ documents. IsLineAnswer (input_view documents.input) };
-
-    ghost beginning = { λ documents. BeginsLine (input_view documents.input) };
-
-    fn serve_line<W: Write>(
-        &self,
-        alloc: Global,
-        number: u64,
-        line: &[u8],
-        answers: &mut OutputBuffer,
-        writer: &mut W,
-    ) -> Result<bool, RunFault> {
-        answer_text(alloc, self.input.at_line(number), line, answers, writer)
-    }
-}
+pub mod files;
+pub mod input;
+pub mod lines;
+pub mod whole;

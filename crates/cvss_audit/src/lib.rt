@@ -1,16 +1,24 @@
-//! Answers to JSON documents: for each location of a CVSS vector an object that says what the vector is,
-//! and where the document disagrees with it.
+//! CVSS vectors in JSON documents: where they are, what is expected of the members beside them, which
+//! members disagree, and the answers that say so.
+//!
+//! [`vectors_in`] finds the objects of a document that hold vectors, [`differences_at`] returns where a
+//! document disagrees with the vector there, and [`Audit`] answers whole inputs.
 #![tactic(auto)]
 
-mod answer;
-mod differs;
+mod counts;
+mod disagreements;
 mod documents;
-mod files;
-mod input;
-mod members;
-mod missing;
-mod place;
+mod expected;
+pub mod laws;
+mod places;
 mod task;
-mod whole;
+mod tree;
+mod written;
 
-pub use task::{Audit, Layout};
+pub use counts::Counts;
+pub use disagreements::difference::{Difference, Said, differences, differences_at};
+pub use documents::input::AuditForm;
+pub use expected::scores::{score_number, score_value};
+pub use places::place::{Around, Context, Form, Place};
+pub use places::walk::{Places, vectors_in};
+pub use task::{Asked, Audit, Layout};

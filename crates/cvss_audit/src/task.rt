@@ -3,20 +3,20 @@
 ghost use Rattle.std.specs.Prelude.{◌≡◌, option_map};
 ghost use Rattle.cvss_audit.specs.Task.{audit_ends, file_of, text_of};
 
-use crate::documents::Documents;
-use crate::files::answer_file;
-use crate::input::Input;
-use crate::whole::answer_whole;
+use crate::counts::Counts;
+use crate::documents::files::answer_file;
+use crate::documents::input::{AuditForm, Input};
+use crate::documents::whole::answer_whole;
 use cvss_frame::Task;
-use cvss_lines::{RunFault, Summary, serve};
+use cvss_lines::{RunFault, Summary};
+use cvss_report::Gate;
 use std::alloc::Global;
+use std::cell::Cell;
 use std::io::{Read, Write};
 
 /// How an input holds its documents.
 #[derive(Drop)]
 pub enum Layout {
-    /// One a line.
-    Lines,
     /// It is one document.
     Whole,
     /// One a line if its first line that is not blank is a document by itself or there is no such line,
@@ -24,16 +24,28 @@ pub enum Layout {
     Either,
 }
 
-/// The task to audit documents.
+/// How documents are audited.
 #[derive(Drop)]
-pub struct Audit {
+pub struct Asked {
     pub layout: Layout,
     /// Whether vectors of CVSS v3 may lack base metrics.
     pub allow_incomplete: bool,
+    /// How answers are written.
+    pub form: AuditForm,
+    /// Which vectors are passed over, and on which the audit fails.
+    pub gate: Gate,
 }
 
-impl Task for Audit {
-    ghost ends = { audit_ends };
+/// The task to audit documents.
+#[derive(Drop)]
+pub struct Audit<'a> {
+    pub asked: Asked,
+    /// What is counted. No contract speaks of it.
+    pub counts: &'a Cell<Counts>,
+}
+
+impl Task for Audit<'_> {
+    ghost ends = { λ audit. audit_ends audit.asked };
 
     fn serve_input<R: Read, W: Write>(
         &self,
@@ -45,10 +57,12 @@ impl Task for Audit {
         let input = Input {
             file: file_of(prefix),
             line: None,
-            allow_incomplete: self.allow_incomplete,
+            allow_incomplete: self.asked.allow_incomplete,
+            form: self.asked.form,
+            gate: self.asked.gate,
+            counts: self.counts,
         };
-        match self.layout {
-            Layout::Lines => serve(&Documents { input }, alloc, reader, writer),
+        match self.asked.layout {
             Layout::Whole => answer_whole(alloc, input, reader, writer),
             Layout::Either => answer_file(alloc, input, reader, writer),
         }

@@ -1,1 +1,4 @@
+pub mod MarksLemmas
+pub mod NamesLemmas
+pub mod OperandsLemmas
 pub mod ReportsLemmas

@@ -1,8 +1,11 @@
 pub mod Arguments
 pub mod Exit
+pub mod Marks
+pub mod Names
 pub mod Operands
 pub mod Reports
 pub mod Sources
 pub mod State
 pub mod Streams
 pub mod Whole
+pub mod private

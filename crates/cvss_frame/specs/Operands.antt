@@ -1,8 +1,10 @@
 -- What a command reads and writes over its operands, where each is a vector, a file or standard input.
 use Rattle.std.specs.Prelude.{◌≡◌, ◌⊎◌, ℕ, ◌&&◌, Bool, false, ltb, List, [], ◌∷◌, ◌++◌, codes, count_by, Option, Some, None, Result, Err, if◌then◌else◌}
 use Rattle.std.specs.Global.{Vec}
+use Rattle.std.specs.Option.{option_map}
 use Rattle.std.specs.Io.KnownBytes.{Keeps}
 use Rattle.cvss_frame.specs.Exit.{after, nothing_served}
+use Rattle.cvss_frame.specs.Marks.{seen}
 use Rattle.cvss_frame.specs.Reports.{ReportsUnread}
 use Rattle.cvss_frame.specs.Sources.{has_name, source_of}
 use Rattle.cvss_frame.specs.State.{State}
@@ -41,12 +43,13 @@ pub record IsUnread (fault : RunFault) (old new : State) (outcome : Result Summa
   pub unread_kept : Keeps old.unread new.unread
   pub written_kept : Keeps old.written new.written
 
--- what is read and written for one operand, by what it names. A file may be one that cannot be opened.
+-- what is read and written for one operand, by what it names. A file may be one that cannot be opened, and begin with a
+-- byte-order mark.
 abbrev pub IsStepOver : Source → Ending → List ℕ → State → State → Result Summary RunFault → Type 0
 IsStepOver Input ends operand old new outcome = ends old.unread new.unread old.written new.written outcome
 IsStepOver Vector ends operand old new outcome = ReadsApart ends (Some operand) old new outcome
 IsStepOver File ends operand old new outcome =
-    ReadsApart ends (old.contents operand) old new outcome ⊎ IsUnread Read old new outcome
+    ReadsApart ends (option_map seen (old.contents operand)) old new outcome ⊎ IsUnread Read old new outcome
 
 -- one operand is answered, or memory runs out before it is read; it is reported if it cannot be read
 pub record IsStep (ends : Endings) (many : Bool) (operand : List ℕ) (old new : State) (outcome : Result Summary RunFault) : Type 0 where

@@ -2,7 +2,7 @@
 use Rattle.std.specs.Prelude.{ℕ, List, Option}
 use Rattle.cvss_frame.specs.Reports.{Reported}
 
--- the bytes of each file, those that standard input still has and those that standard output has, where they are known, and
+-- the bytes of each file, those that standard input still has, without a byte-order mark, and those that standard output has, where they are known, and
 -- what is reported
 pub record State : Type 0 where
   pub contents : List ℕ → Option (List ℕ)

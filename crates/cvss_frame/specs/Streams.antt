@@ -1,4 +1,5 @@
 -- The state of the streams of a command.
+use Rattle.cvss_frame.specs.Marks.{unread}
 use Rattle.cvss_frame.specs.Reports.{reported}
 use Rattle.cvss_frame.specs.State.{State}
 use Rattle.cvss_frame.specs.declared.files.Files as files
@@ -12,7 +13,7 @@ module _ {H F I O E X : Type 0} {files : files.Ghosts F X} {file : read.Ghosts X
   abbrev pub state : Streams H F I O E X files file input output errors → State
   state streams = record {
     contents = files.contents streams.files;
-    unread = input.remaining streams.input.reader;
+    unread = unread input.remaining streams.input;
     written = output.contents streams.output.writer;
     reported = reported errors.contents streams.errors;
   }

@@ -4,6 +4,8 @@
 
 mod command_line;
 mod files;
+mod marks;
+mod names;
 mod operands;
 mod reading;
 mod report;
@@ -16,6 +18,7 @@ mod whole;
 
 pub use command_line::{CommandLine, arguments, arguments_of};
 pub use files::{Files, SystemFiles};
+pub use names::{is_plain, put_shown};
 pub use operands::{are_many, serve_operands};
 pub use reading::read_whole;
 pub use report::{Report, report_error};
@@ -23,5 +26,5 @@ pub use served::{Served, exit_status};
 pub use sources::{Source, has_name, source_of};
 pub use streams::{Host, Streams};
 pub use task::{EachLine, LineAnswer, Prefixed, Task};
-pub use watching::{WatchedReader, WatchedWriter};
+pub use watching::{Start, WatchedReader, WatchedWriter};
 pub use whole::read_operand;

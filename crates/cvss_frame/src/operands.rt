@@ -1,7 +1,8 @@
 //! A task over all operands of a command.
 
-ghost use Rattle.std.specs.Prelude.{◌≡◌, IfOk, None};
+ghost use Rattle.std.specs.Prelude.{◌≡◌, IfOk};
 ghost use Rattle.cvss_frame.specs.Exit.{nothing_served};
+ghost use Rattle.cvss_frame.specs.Marks.{start_error, unread};
 ghost use Rattle.cvss_frame.specs.Operands.{IsStep, IsStepOver, Serves, ServesAll, many_files, prefix_of};
 ghost use Rattle.cvss_frame.specs.Reports.{ReportsError, ReportsUnread, reported};
 ghost use Rattle.cvss_frame.specs.Sources.{source_of};
@@ -13,10 +14,10 @@ use crate::served::Served;
 use crate::sources::{Source, has_name, source_of};
 use crate::streams::{Host, Streams};
 use crate::task::Task;
-use crate::watching::WatchedReader;
+use crate::watching::{Start, WatchedReader};
 use cvss_lines::{RunFault, Summary};
 use std::alloc::{AllocError, Global};
-use std::io::{self, Read, Write};
+use std::io::{Read, Write};
 
 /// Does a task over the operands in turn, or over standard input where there is none. The files that
 /// cannot be read are reported.
@@ -113,7 +114,7 @@ impl<T: Task> Inputs<'_, T> {
                 &mut streams.errors,
             ),
             Source::Vector => {
-                let mut text = WatchedReader::new(operand);
+                let mut text = WatchedReader::of_text(operand);
                 self.serve_reader(
                     prefix,
                     operand,
@@ -151,14 +152,14 @@ impl<T: Task> Inputs<'_, T> {
         report: &mut Report<E>,
     ) -> Result<Summary, RunFault>
         ensures served { T.ends self.now.task.now prefix.now
-            (R.remaining reader.old.reader) (R.remaining reader.new.reader)
+            (unread R.remaining reader.old) (unread R.remaining reader.new)
             (W.contents writer.old) (W.contents writer.new) result }
         ensures unread { ReportsUnread operand.now result
             (reported E.contents report.old) (reported E.contents report.new) }
     {
         let outcome = self.task.serve_input(self.alloc, prefix, reader, writer);
         if let Err(RunFault::Read) = outcome {
-            report_unread(operand, reader.error, report);
+            report_unread(operand, reader, report);
         }
         outcome
     }
@@ -176,18 +177,21 @@ fn prefix_of(alloc: Global, many: bool, operand: &[u8]) -> Result<Vec<u8>, Alloc
     Ok(prefix)
 }
 
-/// Reports why an operand cannot be read, by the error of its reader. There is none where the input had
-/// no end.
-pub(crate) fn report_unread<E: Write>(
+/// Reports why an operand cannot be read, by its reader. There is no error where the input had no end.
+pub(crate) fn report_unread<R, E: Write>(
     operand: &[u8],
-    error: Option<io::Error>,
+    reader: &WatchedReader<R>,
     report: &mut Report<E>,
 )
-    ensures { ReportsError None operand.now
+    ensures { ReportsError (start_error reader.now.start) operand.now
         (reported E.contents report.old) (reported E.contents report.new) }
 {
-    match error {
-        Some(error) => report_error(operand, error, report),
-        None => report_error(operand, RunFault::Read, report),
+    match (&reader.start, reader.error) {
+        (Start::Utf16, _) => report_error(operand, UTF16, report),
+        (_, Some(error)) => report_error(operand, error, report),
+        (_, None) => report_error(operand, RunFault::Read, report),
     }
 }
+
+/// The words for an input that cannot be read because it is UTF-16.
+const UTF16: &str = "UTF-16; convert it to UTF-8";

@@ -2,6 +2,7 @@
 
 ghost use Rattle.std.specs.Prelude.{◌≡◌, None, false};
 ghost use Rattle.cvss_frame.specs.State.{HasState};
+ghost use Rattle.cvss_frame.specs.declared.watching.Start.TheVariants.{Unread};
 
 use crate::files::{Files, SystemFiles};
 use crate::report::Report;
@@ -43,6 +44,7 @@ pub struct Streams<H: Host> {
 impl<'a> Streams<&'a HostRuntime> {
     /// The streams of the system, of which nothing is read or written yet.
     pub fn of_system(runtime: &'a HostRuntime) -> Self
+        ensures start { result.input.start ≡ Unread }
         ensures read { result.input.error ≡ None }
         ensures written { result.output.error ≡ None }
         ensures taken { result.output.has_taken ≡ false }
@@ -52,7 +54,7 @@ impl<'a> Streams<&'a HostRuntime> {
             files: SystemFiles { runtime },
             input: WatchedReader::new(runtime.stdin()),
             output: WatchedWriter::new(runtime.stdout()),
-            errors: Report::new(runtime.stderr()),
+            errors: Report::new(runtime.alloc(), runtime.stderr()),
         }
     }
 }

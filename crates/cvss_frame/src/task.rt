@@ -3,8 +3,11 @@
 ghost use Rattle.std.specs.Prelude.{◌≡◌, ◌++◌, OnOk};
 ghost use Rattle.cvss_lines.specs.Prefixed.{AnswersByOneText, IsPrefixed};
 ghost use Rattle.cvss_lines.specs.Runs.{Ends};
+ghost use Rattle.cvss_frame.specs.Names.{shown_name};
 ghost use Rattle.cvss_frame.specs.Operands.{Endings};
 
+use crate::names::{is_plain, put_shown};
+use cvss_json::Growing;
 use cvss_lines::{Answering, OutputBuffer, RunFault, Summary, run};
 use std::alloc::{AllocError, Global};
 use std::io::{Read, Write};
@@ -42,7 +45,7 @@ pub struct EachLine<A> {
 }
 
 impl<A: LineAnswer> Task for EachLine<A> {
-    ghost ends = { λ task prefix. Ends (IsPrefixed prefix (A.rule task.answer)) };
+    ghost ends = { λ task prefix. Ends (IsPrefixed (shown_name prefix) (A.rule task.answer)) };
 
     fn serve_input<R: Read, W: Write>(
         &self,
@@ -59,7 +62,7 @@ impl<A: LineAnswer> Task for EachLine<A> {
     }
 }
 
-/// Answers that begin with a prefix.
+/// Answers that begin with a prefix, as it is shown.
 #[derive(Drop)]
 pub struct Prefixed<'a, A> {
     pub answer: &'a A,
@@ -67,7 +70,7 @@ pub struct Prefixed<'a, A> {
 }
 
 impl<A: LineAnswer> Answering for Prefixed<'_, A> {
-    ghost rule = { λ prefixed. IsPrefixed prefixed.prefix.now (A.rule prefixed.answer.now) };
+    ghost rule = { λ prefixed. IsPrefixed (shown_name prefixed.prefix.now) (A.rule prefixed.answer.now) };
 
     #[inline(always)]
     fn answer_line(
@@ -77,18 +80,38 @@ impl<A: LineAnswer> Answering for Prefixed<'_, A> {
         line: &[u8],
         answers: &mut OutputBuffer,
     ) -> Result<bool, AllocError> {
-        push_if_any(self.prefix, answers)?;
+        push_prefix(self.prefix, answers)?;
         self.answer.answer_line(alloc, number, line, answers)
     }
 }
 
-/// Appends bytes. Mostly there are none.
+/// Appends what answers begin with, which mostly is nothing.
 #[inline(always)]
-fn push_if_any(bytes: &[u8], answers: &mut OutputBuffer) -> Result<(), AllocError>
-    ensures { OnOk result (answers.new.bytes.items ≡ answers.old.bytes.items ++ bytes.now) }
+fn push_prefix(prefix: &[u8], answers: &mut OutputBuffer) -> Result<(), AllocError>
+    ensures { OnOk result (answers.new.bytes.items ≡ answers.old.bytes.items ++ shown_name prefix.now) }
 {
-    if bytes.is_empty() {
-        return Ok(());
+    match prefix {
+        [] => Ok(()),
+        _ => push_shown(prefix, answers),
     }
-    answers.push(bytes)
+}
+
+/// Appends a name as it is shown.
+#[tactic(auto, using(crate::proofs::NamesLemmas::plain_shown))]
+fn push_shown(name: &[u8], answers: &mut OutputBuffer) -> Result<(), AllocError>
+    ensures { OnOk result (answers.new.bytes.items ≡ answers.old.bytes.items ++ shown_name name.now) }
+{
+    if is_plain(name) {
+        return answers.push(name);
+    }
+    push_escapes(name, answers)
+}
+
+#[inline(never)]
+fn push_escapes(name: &[u8], answers: &mut OutputBuffer) -> Result<(), AllocError>
+    ensures { OnOk result (answers.new.bytes.items ≡ answers.old.bytes.items ++ shown_name name.now) }
+{
+    let mut shown = Growing::begin_after(answers);
+    put_shown(&mut shown, name);
+    shown.end_into(answers)
 }

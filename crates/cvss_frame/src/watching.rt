@@ -2,46 +2,89 @@
 
 ghost use Rattle.std.specs.Io.{ReadsAtMost, WritesAtMost};
 ghost use Rattle.std.specs.Io.KnownBytes.{ReadConsumes, WriteAppends};
-ghost use Rattle.std.specs.Prelude.{◌≡◌, ◌||◌, ◌==◌, MatchResult, None, Some, false, not};
+ghost use Rattle.std.specs.Option.{option_map};
+ghost use Rattle.std.specs.Prelude.{◌≡◌, ◌||◌, ◌==◌, ℕ, List, Option, IfSome, IsErr, MatchResult, None, Some, false, not, true};
+ghost use Rattle.cvss_frame.specs.Marks.{begins_utf16, seen, unread};
+ghost use Rattle.cvss_frame.specs.declared.watching.Start.TheVariants.{Begun as HasBegun, Unread as IsUnread};
 
+use crate::marks::read_start;
 use std::io::{self, Read, Write};
 
-/// A reader, and the error of its last read that failed.
+/// How an input began, whose byte-order mark is left out.
+#[derive(Drop)]
+pub enum Start {
+    /// Nothing is read of it.
+    Unread,
+    /// Its first byte is read, which may be a part of a mark.
+    One(u8),
+    /// Its first two bytes are read, which may be a part of a mark.
+    Two(u8, u8),
+    /// It has begun.
+    Begun,
+    /// With the mark of UTF-16, so that nothing of it is read.
+    Utf16,
+}
+
+/// A reader without the byte-order mark that its input may begin with, and the error of its last read
+/// that failed. An input that begins with the mark of UTF-16 cannot be read.
 #[derive(Drop)]
 pub struct WatchedReader<R> {
     pub reader: R,
+    pub start: Start,
     pub error: Option<io::Error>,
 }
 
 impl<R> WatchedReader<R> {
-    /// A reader whose reads have not failed.
+    /// A reader of an input that nothing is read of.
     pub fn new(reader: R) -> WatchedReader<R>
         ensures reader { result.reader ≡ reader }
+        ensures start { result.start ≡ IsUnread }
         ensures error { result.error ≡ None }
+        ensures unread { (remaining : R → Option (List ℕ))
+            → unread remaining result ≡ option_map seen (remaining reader) }
     {
         WatchedReader {
             reader,
+            start: Start::Unread,
+            error: None,
+        }
+    }
+
+    /// A reader of a text that has no mark.
+    pub fn of_text(reader: R) -> WatchedReader<R>
+        ensures reader { result.reader ≡ reader }
+        ensures start { result.start ≡ HasBegun }
+        ensures error { result.error ≡ None }
+        ensures unread { (remaining : R → Option (List ℕ))
+            → unread remaining result ≡ remaining reader }
+    {
+        WatchedReader {
+            reader,
+            start: Start::Begun,
             error: None,
         }
     }
 }
 
 impl<R: Read> Read for WatchedReader<R> {
-    ghost remaining = { λ watched. R.remaining watched.reader };
+    ghost remaining = { λ watched. unread R.remaining watched };
 
     fn read(&mut self, buf: &mut [u8]) -> io::Result<usize>
         ensures bound { ReadsAtMost result buf.new }
-        ensures bytes { ReadConsumes (R.remaining self.old.reader) (R.remaining self.new.reader) result buf.new }
+        ensures bytes { ReadConsumes (unread R.remaining self.old) (unread R.remaining self.new) result buf.new }
         ensures error { MatchResult result (λ _. self.new.error ≡ self.old.error)
             (λ error. self.new.error ≡ Some error) }
+        ensures utf16 { self.old.start ≡ IsUnread → IfSome (R.remaining self.old.reader)
+            (λ bytes. begins_utf16 bytes ≡ true → IsErr result) }
     {
-        match self.reader.read(buf) {
-            Ok(count) => Ok(count),
-            Err(error) => {
-                self.error = Some(error);
-                Err(error)
-            }
+        let result = match self.start {
+            Start::Begun => self.reader.read(buf),
+            _ => read_start(&mut self.reader, &mut self.start, buf),
+        };
+        if let Err(error) = result {
+            self.error = Some(error);
         }
+        result
     }
 }
 

@@ -2,6 +2,8 @@
 
 ghost use Rattle.std.specs.Prelude.{◌≡◌, ◌≢◌, IfErr, IfOk};
 ghost use Rattle.cvss_lines.specs.declared.fault.RunFault.TheVariants.{Write as WriteFault};
+ghost use Rattle.std.specs.Option.{option_map};
+ghost use Rattle.cvss_frame.specs.Marks.{seen};
 ghost use Rattle.cvss_frame.specs.Reports.{ReportsUnread, reported};
 ghost use Rattle.cvss_frame.specs.Streams.{state};
 ghost use Rattle.cvss_frame.specs.Whole.{IsAllOf, ReadsWhole};
@@ -35,7 +37,7 @@ pub fn read_operand<H: Host>(
         Source::Input => {
             let bytes = read_whole(alloc, &mut streams.input);
             if let Err(RunFault::Read) = bytes {
-                report_unread(operand, streams.input.error, &mut streams.errors);
+                report_unread(operand, &streams.input, &mut streams.errors);
             }
             bytes
         }
@@ -50,7 +52,7 @@ fn read_file<F: Files, E: Write>(
     files: &F,
     report: &mut Report<E>,
 ) -> Result<Vec<u8>, RunFault>
-    ensures read { IfOk result (IsAllOf (F.contents files.now name.now)) }
+    ensures read { IfOk result (IsAllOf (option_map seen (F.contents files.now name.now))) }
     ensures fault { IfErr result (λ fault. fault ≢ WriteFault) }
     ensures unread { ReportsUnread name.now result
         (reported E.contents report.old) (reported E.contents report.new) }
@@ -60,7 +62,7 @@ fn read_file<F: Files, E: Write>(
             let mut file = WatchedReader::new(file);
             let bytes = read_whole(alloc, &mut file);
             if let Err(RunFault::Read) = bytes {
-                report_unread(name, file.error, report);
+                report_unread(name, &file, report);
             }
             bytes
         }

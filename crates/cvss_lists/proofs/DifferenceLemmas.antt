@@ -61,3 +61,10 @@ module _ (scoring : Scoring) (before after : Cvss) (tenths tenths' : ℕ) (score
       ∙ ap (λ bytes. old ++ bytes) (sym (append-nil (written_text (versions_text before after))))
       ∙ ap (λ found. old ++ written_answer (comparison_by found before after tenths tenths')) (sym is))
   versions_written (Some lines) is same written = absurd (false≢true same.0)
+
+-- why a text is no vector is written once its parts are
+pub no_vector_written : (old which middle before why new : List ℕ) → before ≡ (old ++ which) ++ middle → new ≡ before ++ (why ++ 10 ∷ [])
+    → new ≡ old ++ written_text (which ++ middle ++ why)
+no_vector_written old which middle before why new begun written =
+    written ∙ ap (λ bytes. bytes ++ (why ++ 10 ∷ [])) (begun ∙ append_assoc old which middle)
+    ∙ append_assoc old (which ++ middle) (why ++ 10 ∷ []) ∙ ap (λ more. old ++ more) (sym (append_assoc (which ++ middle) why (10 ∷ [])))

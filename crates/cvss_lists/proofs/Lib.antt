@@ -1,5 +1,6 @@
 pub mod CuttingLemmas
 pub mod DifferenceLemmas
 pub mod GatedLemmas
+pub mod ShownLemmas
+pub mod TrimmedLemmas
 mod ListFacts
-pub mod ThresholdLemmas

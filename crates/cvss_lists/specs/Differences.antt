@@ -13,13 +13,14 @@ use Rattle.cvss_vector.specs.declared.vector.Cvss.TheVariants.{CvssV20, CvssV30,
 use Rattle.cvss_vector.specs.v2.Vector.{v2}
 use Rattle.cvss_vector.specs.v3.Vector.{v3}
 use Rattle.cvss_vector.specs.v4.Vector.{v4}
+use Rattle.cvss_frame.specs.Names.{shown_name}
 use Rattle.cvss_lines.specs.Answers.{Answer, Accepted, Rejected, Rule}
 
--- what stands for the value of a metric: its spelling, or a hyphen, which spells no value, where the vector lacks the metric
+-- what is shown of a metric: the spelling of its value, or a hyphen, which spells no value, where the vector lacks the metric
 abbrev pub value_text : {V K : Type 0} → Version V K → V → K → List ℕ
 value_text version vector kind = unwrap_or (held version vector kind) (codes "-")
 
--- one text and another that stands in its place
+-- one text and the one that replaces it
 abbrev pub change_text : List ℕ → List ℕ → List ℕ → List ℕ
 change_text name before after = name ++ codes ": " ++ before ++ codes " -> " ++ after
 
@@ -69,9 +70,9 @@ pub record IsComparison (scoring : Scoring) (before after : Cvss) (answer : Answ
   pub scored' : IsScoreAs scoring after (score_of_tenths tenths')
   pub is : answer ≡ comparison before after tenths tenths'
 
--- which of the two is no vector, and why
+-- which of the two is no vector, and why, with escapes for characters that are not to be seen as themselves
 abbrev pub no_vector_text : List ℕ → ReadError → List ℕ
-no_vector_text which error = which ++ codes " vector: " ++ codes "error: " ++ error_message error
+no_vector_text which error = which ++ codes " vector: " ++ shown_name (codes "error: " ++ error_message error)
 
 -- the answer is why a text denotes no vector, and which of the two it is
 pub record IsNoVector (which : List ℕ) (allow_incomplete : Bool) (text : List ℕ) (answer : Answer) : Type 0 where

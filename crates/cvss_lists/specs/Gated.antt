@@ -1,18 +1,8 @@
 -- The answers to lines through a gate.
-use Rattle.std.specs.Prelude.{◌≡◌, ℕ, Bool, true, false, List, [], Option, Some, None, MatchOption, if◌then◌else◌}
+use Rattle.std.specs.Prelude.{◌≡◌, ℕ, Bool, true, false, List, [], Option, MatchOption}
 use Rattle.cvss_lines.specs.Answers.{Answer, Accepted, Rejected, Rule, texts_of}
-use Rattle.cvss_lists.specs.Gates.{fails, shows}
-use Rattle.cvss_lists.specs.declared.gate.Gate.{Gate}
-
--- a line is passed over only for its score
-abbrev pub is_passed_over : Gate → Option ℕ → Bool
-is_passed_over gate None = false
-is_passed_over gate (Some tenths) = if shows gate tenths then false else true
-
--- and made to fail only for its score
-abbrev pub is_failing : Gate → Option ℕ → Bool
-is_failing gate None = false
-is_failing gate (Some tenths) = fails gate tenths
+use Rattle.cvss_report.specs.Gates.{is_failing, is_passed_over}
+use Rattle.cvss_report.specs.declared.gate.Gate.{Gate}
 
 -- the answer, without its texts where nothing is printed
 abbrev pub if_printed : Bool → Answer → Answer

@@ -1,8 +1,7 @@
 pub mod Departures
 pub mod Differences
 pub mod Gated
-pub mod Gates
-pub mod Scored
+pub mod Shown
 pub mod Strict
-pub mod Thresholds
+pub mod Trimmed
 pub mod private

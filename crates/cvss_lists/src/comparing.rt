@@ -86,7 +86,7 @@ fn write_change<V: Printed>(
     write_change_if(V::name(kind), before, after, answers)
 }
 
-/// What stands for the value of a metric: its spelling, or a hyphen where the vector lacks the metric.
+/// What is shown of a metric: the spelling of its value, or a hyphen where the vector lacks the metric.
 fn value_text<V: Printed>(vector: &V, kind: V::Kind) -> &'static str
     ensures { result.now ≡ value_text V.version vector.now kind }
 {
@@ -113,7 +113,7 @@ fn write_change_if(
     write_change_line(name, before, after, answers)
 }
 
-/// Writes one text and another that stands in its place.
+/// Writes one text and the one that replaces it.
 fn write_change_line(
     name: &str,
     before: &str,

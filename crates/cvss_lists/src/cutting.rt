@@ -1,4 +1,4 @@
-//! The pieces of a text, and where they stand in another.
+//! The pieces of a text, and where they are in another.
 
 ghost use Rattle.std.specs.Prelude.{◌≡◌, ◌∷◌, ◌==◌, position};
 ghost use Rattle.cvss_base.specs.Text.{name_part, pieces};

@@ -7,20 +7,23 @@ ghost use Rattle.cvss_lists.specs.Differences.{difference_rule, no_vector_text};
 ghost use Rattle.cvss_lists.specs.private.Comparing.{WritesDifferenceFrom};
 
 use crate::comparing::write_comparison;
+use crate::gated::waiting_bytes;
+use crate::shown::show_after;
 use cvss_lines::OutputBuffer;
 use cvss_vector::{Cvss, ReadError, Scoring, write_error};
-use std::alloc::AllocError;
+use std::alloc::{AllocError, Global};
 
 /// Writes the metrics in which two vectors of one version differ, in printing order, one line each, as
 /// `MAV: N -> L`, with `-` where a vector lacks the metric; and then a line with both scores and
 /// severities. Vectors of different versions are not compared. A text that denotes no vector, or one that
-/// lacks base metrics and may not, is answered by why, the first of the two alone. Says whether the vectors
-/// were compared.
+/// lacks base metrics and may not, is answered by why, the first of the two alone, with escapes for what
+/// breaks a line or a terminal. Says whether the vectors were compared.
 ///
 /// # Errors
 ///
 /// Out of memory. A beginning of the answer may be written then.
 pub fn write_difference(
+    alloc: Global,
     first: &[u8],
     second: &[u8],
     scoring: Scoring,
@@ -34,15 +37,16 @@ pub fn write_difference(
     let before = match Cvss::read_by(first, allow_incomplete) {
         Ok(before) => before,
         Err(error) => {
-            write_no_vector("first", error, answers)?;
+            write_no_vector(alloc, "first", error, answers)?;
             return Ok(false);
         }
     };
-    write_difference_from(&before, second, scoring, allow_incomplete, answers)
+    write_difference_from(alloc, &before, second, scoring, allow_incomplete, answers)
 }
 
 /// Writes the difference of a vector and one that a text denotes.
 fn write_difference_from(
+    alloc: Global,
     before: &Cvss,
     second: &[u8],
     scoring: Scoring,
@@ -56,7 +60,7 @@ fn write_difference_from(
     match Cvss::read_by(second, allow_incomplete) {
         Ok(after) => write_comparison(before, &after, scoring, answers),
         Err(error) => {
-            write_no_vector("second", error, answers)?;
+            write_no_vector(alloc, "second", error, answers)?;
             Ok(false)
         }
     }
@@ -64,6 +68,7 @@ fn write_difference_from(
 
 /// Writes why one of the two texts denotes no vector.
 fn write_no_vector(
+    alloc: Global,
     which: &str,
     error: ReadError<'_>,
     answers: &mut OutputBuffer,
@@ -73,5 +78,7 @@ fn write_no_vector(
 {
     answers.push(which.as_bytes())?;
     answers.push(b" vector: ")?;
-    write_error(error, answers)
+    let waiting = waiting_bytes(answers);
+    write_error(error, answers)?;
+    show_after(alloc, waiting, answers)
 }

@@ -2,11 +2,11 @@
 
 ghost use Rattle.std.specs.Prelude.{◌≡◌, ℕ, ◌&&◌, IfOk, if◌then◌else◌, length, not, take};
 ghost use Rattle.cvss_lines.specs.Answers.{WritesAnswer};
-ghost use Rattle.cvss_lists.specs.Gated.{IsGated, IsLetThrough, is_failing, is_passed_over};
+ghost use Rattle.cvss_lists.specs.Gated.{IsGated, IsLetThrough};
 
-use crate::gate::Gate;
 use crate::scored::Scored;
 use cvss_lines::{Answering, OutputBuffer};
+use cvss_report::Gate;
 use std::alloc::{AllocError, Global};
 
 /// Answers through a gate. Of a line whose answer reports a score below the gate's minimum nothing is
@@ -31,10 +31,10 @@ impl<A: Scored> Answering for Gated<'_, A> {
         answers: &mut OutputBuffer,
     ) -> Result<bool, AllocError> {
         let score = self.answering.score_of(line);
-        if is_passed_over(self.gate, score) {
+        if self.gate.passes_over(score) {
             return Ok(true);
         }
-        let failing = is_failing(self.gate, score);
+        let failing = self.gate.fails_on(score);
         self.let_through(alloc, number, line, failing, answers)
     }
 }
@@ -61,7 +61,7 @@ impl<A: Answering> Gated<'_, A> {
 }
 
 /// How many bytes wait to be written.
-fn waiting_bytes(answers: &OutputBuffer) -> usize
+pub fn waiting_bytes(answers: &OutputBuffer) -> usize
     ensures { result ≡ length answers.now.bytes.items }
 {
     answers.bytes.as_slice().len()
@@ -74,25 +74,5 @@ fn take_back(quiet: bool, waiting: usize, answers: &mut OutputBuffer)
 {
     if quiet {
         answers.bytes.truncate(waiting);
-    }
-}
-
-/// Whether a line is passed over, by its score.
-fn is_passed_over(gate: Gate, score: Option<u8>) -> bool
-    ensures { result ≡ is_passed_over gate score }
-{
-    match score {
-        Some(tenths) => !gate.shows(tenths),
-        None => false,
-    }
-}
-
-/// Whether the gate fails on a line, by its score.
-fn is_failing(gate: Gate, score: Option<u8>) -> bool
-    ensures { result ≡ is_failing gate score }
-{
-    match score {
-        Some(tenths) => gate.fails(tenths),
-        None => false,
     }
 }

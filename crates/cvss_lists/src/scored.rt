@@ -1,15 +1,13 @@
 //! Answers to lines that report scores.
 
-ghost use Rattle.std.specs.Prelude.{◌≡◌, ℕ, List, IfSome, MatchOption, Some, true};
-ghost use Rattle.cvss_lists.specs.Scored.{IsScoreOfLine};
-ghost use Rattle.cvss_vector.specs.Answers.{HasScore};
-ghost use Rattle.cvss_vector.specs.Lines.{IsVectorOf};
+ghost use Rattle.std.specs.Prelude.{ℕ, List, MatchOption, true};
+ghost use Rattle.cvss_report.specs.LineScores.{IsScoreOfLine};
 ghost use Rattle.cvss_vector.specs.declared.scoring.Scoring.TheVariants.{Overall, Published};
-ghost use Rattle.cvss_vector.specs.declared.vector.Cvss.{Cvss as AnyVector};
 
+use cvss_frame::{LineAnswer, Prefixed};
 use cvss_lines::Answering;
-use cvss_report::Rows;
-use cvss_vector::{Cvss, Scoring, Vectors};
+use cvss_report::{Rows, score_of};
+use cvss_vector::{Scoring, Vectors};
 
 /// A way to answer lines whose answers report scores.
 pub trait Scored: Answering {
@@ -38,27 +36,10 @@ impl Scored for Rows<'_> {
     }
 }
 
-/// The tenths of the score of the vector that a line denotes, which lacks no base metric unless it may.
-pub fn score_of(line: &[u8], allow_incomplete: bool, scoring: Scoring) -> Option<u8>
-    ensures { MatchOption result
-        ((tenths : ℕ) → ¬ (IsScoreOfLine scoring allow_incomplete line.now tenths))
-        (IsScoreOfLine scoring allow_incomplete line.now) }
-{
-    match vector_by(line, allow_incomplete) {
-        Some(cvss) => Some(cvss.tenths_as(scoring)),
-        None => None,
-    }
-}
+impl<A: LineAnswer + Scored> Scored for Prefixed<'_, A> {
+    ghost reports = { λ prefixed. A.reports prefixed.answer.now };
 
-/// The vector that a line denotes, which lacks no base metric unless it may.
-fn vector_by(line: &[u8], allow_incomplete: bool) -> Option<Cvss>
-    ensures is { IfSome result (IsVectorOf allow_incomplete line.now) }
-    ensures all { (cvss : AnyVector) → IsVectorOf allow_incomplete line.now cvss → result ≡ Some cvss }
-    ensures scored { IfSome result (λ cvss. HasScore cvss) }
-{
-    let cvss = Cvss::read_bytes(line)?;
-    match cvss.missing_by(allow_incomplete) {
-        None => Some(cvss),
-        Some(_) => None,
+    fn score_of(&self, line: &[u8]) -> Option<u8> {
+        self.answer.score_of(line)
     }
 }

@@ -4,6 +4,7 @@ mod AloneLemmas
 mod DecodingLemmas
 mod FindLemmas
 pub mod FoundLemmas
+mod KeptLemmas
 mod LabelLemmas
 mod NextLemmas
 mod PartLemmas

@@ -4,7 +4,8 @@ use Rattle.std.proofs.Math.Bool.{and-true}
 use Rattle.std.proofs.lemmas.Bool.{cond-false}
 use Rattle.std.specs.Option.{option_or}
 use Rattle.std.proofs.lemmas.Fmt.{decimal_digit}
-use Rattle.std.proofs.lemmas.List.{drop_all, flat_map_more, map-append}
+use Rattle.std.proofs.lemmas.List.{drop_all}
+use Rattle.std.proofs.lemmas.List.Concat.{flat_map-append}
 use Rattle.std.proofs.lemmas.List.Elements.{All-nil}
 use Rattle.std.proofs.lemmas.List.Folds.{list_all-append}
 use Rattle.std.specs.Prelude.{bytes_eq}
@@ -15,17 +16,18 @@ use Rattle.cvss_vector.specs.declared.scoring.Scoring.{Scoring}
 use Rattle.cvss_vector.specs.declared.setting.Version.{Version}
 use Rattle.cvss_lines.specs.Answers.{Accepted, Rejected, WritesAnswer, is_accepted, written_answer, written_text}
 use Rattle.cvss_lines.specs.Prefixed.{AnswersByOneText, is_one_text}
-use Rattle.cvss_matches.specs.Answers.{AreReported, Asked, IsReported, Reported, after_candidate, all_accepted, answer_with, answered_bytes, answered_text, answers_as, before_answer, linked_version, place_text, reported_texts, shows_all, texts_for, with_version}
+use Rattle.cvss_matches.specs.Answers.{AreKept, Asked, IsKept, Kept, after_candidate, all_accepted, answer_with, answered_bytes, answered_text, answers_as, before_answer, kept_texts, linked_version, place_text, shows_all, texts_for, with_version}
 use Rattle.cvss_matches.specs.Decoding.{decoded}
 use Rattle.cvss_matches.specs.declared.form.Form.{Form}
 use Rattle.cvss_matches.specs.declared.form.Form.TheVariants.{Annotated, Located, Object}
-use Rattle.cvss_matches.specs.private.Reporting.{AnswersLine, Reports, WritesReported, WritesShown, closing, opening, written_as}
+use Rattle.cvss_matches.specs.private.Reporting.{AnswersLine, Reports, WritesKept, WritesReported, WritesShown, closing, opening, written_as}
 use Rattle.cvss_matches.proofs.AcceptedLemmas.{accepted_alone, accepted_whole}
 use Rattle.cvss_matches.specs.Matches.{AreFound, IsAccepted, IsFound, Placed, candidates_of}
 use Rattle.cvss_matches.specs.Parts.{lacks_prefix}
 use Rattle.cvss_matches.specs.CandidatesLeft.{IsFirstFound, NoneFound}
 use Rattle.cvss_matches.proofs.DecodingLemmas.{written_decoded}
 use Rattle.cvss_matches.proofs.FoundLemmas.{AreFound-first, AreFound-none}
+use Rattle.cvss_matches.proofs.KeptLemmas.{kept_reported}
 use Rattle.cvss_matches.proofs.UnprefixedLemmas.{accepted_has_prefix}
 
 one_text : (form : Form) (scoring : Scoring) (allow : Bool) → AnswersByOneText (answers_as form scoring allow)
@@ -61,46 +63,51 @@ WritesReported-answer asked candidate old middle full new accepted placed writte
           ∙ ap (λ bytes. old ++ bytes) (sym (append_assoc before one.0 (10 ∷ []))));
     }
 
-AreReported-push : (asked : Asked) (candidates : List Placed) (reported : List Reported) (candidate : Placed) (last : Reported)
-    → AreReported asked candidates reported → IsReported asked candidate last → AreReported asked (candidates ++ candidate ∷ []) (reported ++ last ∷ [])
-AreReported-push asked [] [] candidate last are is = (is, tt)
-AreReported-push asked [] (each ∷ more) candidate last are is = absurd are
-AreReported-push asked (each ∷ more) [] candidate last are is = absurd are
-AreReported-push asked (first ∷ candidates) (each ∷ more) candidate last are is = (are.0, AreReported-push asked candidates more candidate last are.1 is)
+AreKept-push : (asked : Asked) (candidates : List Placed) (kept : List Kept) (candidate : Placed) (last : Kept)
+    → AreKept asked candidates kept → IsKept asked.gate asked candidate last → AreKept asked (candidates ++ candidate ∷ []) (kept ++ last ∷ [])
+AreKept-push asked [] [] candidate last are is = (is, tt)
+AreKept-push asked [] (each ∷ more) candidate last are is = absurd are
+AreKept-push asked (each ∷ more) [] candidate last are is = absurd are
+AreKept-push asked (first ∷ candidates) (each ∷ more) candidate last are is = (are.0, AreKept-push asked candidates more candidate last are.1 is)
 
-all_accepted-push : (reported : List Reported) (last : Reported) → all_accepted (reported ++ last ∷ []) ≡ (all_accepted reported && last.accepts)
-all_accepted-push reported last =
-    list_all-append (λ (each : Reported). each.accepts) reported (last ∷ []) ∙ ap (λ b. all_accepted reported && b) (and-true last.accepts)
+all_accepted-push : (kept : List Kept) (last : Kept) → all_accepted (kept ++ last ∷ []) ≡ (all_accepted kept && last.accepts)
+all_accepted-push kept last =
+    list_all-append (λ (each : Kept). each.accepts) kept (last ∷ []) ∙ ap (λ b. all_accepted kept && b) (and-true last.accepts)
 
-written-push : (write : List ℕ → List ℕ) (reported : List Reported) (last : Reported) (old middle new : List ℕ)
-    → middle ≡ old ++ flat_map write (reported_texts reported) → new ≡ middle ++ write last.text
-    → new ≡ old ++ flat_map write (reported_texts (reported ++ last ∷ []))
-written-push write reported last old middle new before next =
-    next ∙ ap (λ bytes. bytes ++ write last.text) before ∙ flat_map_more write old (reported_texts reported) last.text
-    ∙ ap (λ texts. old ++ flat_map write texts) (sym (map-append (λ (each : Reported). each.text) reported (last ∷ [])))
+kept_texts-push : (kept : List Kept) (last : Kept) → kept_texts (kept ++ last ∷ []) ≡ kept_texts kept ++ last.texts
+kept_texts-push kept last =
+    flat_map-append (λ (each : Kept). each.texts) kept (last ∷ []) ∙ ap (λ texts. kept_texts kept ++ texts) (append-nil last.texts)
+
+written-push : (write : List ℕ → List ℕ) (kept : List Kept) (last : Kept) (old middle new : List ℕ)
+    → middle ≡ old ++ flat_map write (kept_texts kept) → new ≡ middle ++ flat_map write last.texts
+    → new ≡ old ++ flat_map write (kept_texts (kept ++ last ∷ []))
+written-push write kept last old middle new before next =
+    next ∙ ap (λ bytes. bytes ++ flat_map write last.texts) before ∙ append_assoc old (flat_map write (kept_texts kept)) (flat_map write last.texts)
+    ∙ ap (λ bytes. old ++ bytes) (sym (flat_map-append write (kept_texts kept) last.texts))
+    ∙ ap (λ texts. old ++ flat_map write texts) (sym (kept_texts-push kept last))
 
 -- before the first candidate
 pub Reports-start : (asked : Asked) (bytes : List ℕ) (left : List Placed) → left ≡ candidates_of asked.line → Reports asked left bytes bytes true
 Reports-start asked bytes left is = record {
   found = [];
   are_found = λ more are. subst (λ candidates. AreFound candidates more) is are;
-  reported = [];
-  are_reported = tt;
+  kept = [];
+  are_kept = tt;
   accepts = refl;
   written = sym (append-nil bytes);
 }
 
 -- after one more that is found
 pub Reports-next : (asked : Asked) (left after : List Placed) (candidate : Placed) (old middle new : List ℕ) (all accepted : Bool)
-    → Reports asked left old middle all → IsFirstFound left candidate after → WritesReported asked candidate middle new accepted → Reports asked after old new (all && accepted)
+    → Reports asked left old middle all → IsFirstFound left candidate after → WritesKept (IsKept asked.gate asked candidate) asked.form middle new accepted → Reports asked after old new (all && accepted)
 Reports-next asked left after candidate old middle new all accepted before first next = record {
   found = before.found ++ candidate ∷ [];
   are_found = λ more are. subst (AreFound (candidates_of asked.line)) (sym (append_assoc before.found (candidate ∷ []) more))
       (before.are_found (candidate ∷ more) (AreFound-first left after candidate more first are));
-  reported = before.reported ++ next.reported ∷ [];
-  are_reported = AreReported-push asked before.found before.reported candidate next.reported before.are_reported next.is_reported;
-  accepts = ap₂ (λ (a b : Bool). a && b) before.accepts next.accepts ∙ sym (all_accepted-push before.reported next.reported);
-  written = written-push (written_as asked.form) before.reported next.reported old middle new before.written next.written;
+  kept = before.kept ++ next.kept ∷ [];
+  are_kept = AreKept-push asked before.found before.kept candidate next.kept before.are_kept next.is_kept;
+  accepts = ap₂ (λ (a b : Bool). a && b) before.accepts next.accepts ∙ sym (all_accepted-push before.kept next.kept);
+  written = written-push (written_as asked.form) before.kept next.kept old middle new before.written next.written;
 }
 
 -- all that are found are shown, once no more is found
@@ -108,36 +115,36 @@ pub shown_all : (asked : Asked) (left : List Placed) (old new : List ℕ) (all :
 shown_all asked left old new all reports none = record {
   shown = reports.found;
   are_shown = subst (AreFound (candidates_of asked.line)) (append-nil reports.found) (reports.are_found [] (AreFound-none left none));
-  reported = reports.reported;
-  are_reported = reports.are_reported;
+  kept = reports.kept;
+  are_kept = reports.are_kept;
   accepts = reports.accepts;
   written = reports.written;
 }
 
 -- the first is shown
 pub shown_first : (asked : Asked) (candidate : Placed) (left : List Placed) (old new : List ℕ) (accepted : Bool) → IsFirstFound (candidates_of asked.line) candidate left
-    → WritesReported asked candidate old new accepted → WritesShown false asked old new accepted
+    → WritesKept (IsKept asked.gate asked candidate) asked.form old new accepted → WritesShown false asked old new accepted
 shown_first asked candidate left old new accepted first written = record {
   shown = candidate ∷ [];
   are_shown = (left, first);
-  reported = written.reported ∷ [];
-  are_reported = (written.is_reported, tt);
-  accepts = written.accepts ∙ sym (and-true written.reported.accepts);
-  written = written.written ∙ ap (λ bytes. old ++ bytes) (sym (append-nil (written_as asked.form written.reported.text)));
+  kept = written.kept ∷ [];
+  are_kept = (written.is_kept, tt);
+  accepts = written.accepts ∙ sym (and-true written.kept.accepts);
+  written = written.written ∙ ap (λ texts. old ++ flat_map (written_as asked.form) texts) (sym (append-nil written.kept.texts));
 }
 
 -- none is shown
 pub shown_none : (asked : Asked) (bytes : List ℕ) → NoneFound (candidates_of asked.line) → WritesShown false asked bytes bytes true
-shown_none asked bytes none = record { shown = []; are_shown = none; reported = []; are_reported = tt; accepts = refl; written = sym (append-nil bytes) }
+shown_none asked bytes none = record { shown = []; are_shown = none; kept = []; are_kept = tt; accepts = refl; written = sym (append-nil bytes) }
 
-pub reported_answer : (reported : List Reported) (texts : List (List ℕ)) → all_accepted reported ≡ is_accepted (answer_with reported texts)
-reported_answer reported texts = accepts (all_accepted reported) where
+pub kept_answer : (kept : List Kept) (texts : List (List ℕ)) → all_accepted kept ≡ is_accepted (answer_with kept texts)
+kept_answer kept texts = accepts (all_accepted kept) where
   accepts : (b : Bool) → b ≡ is_accepted (cond b (Accepted texts) (Rejected texts))
   accepts true = refl
   accepts false = refl
 
-written_answer_with : (reported : List Reported) (texts : List (List ℕ)) → flat_map written_text texts ≡ written_answer (answer_with reported texts)
-written_answer_with reported texts = written (all_accepted reported) where
+written_answer_with : (kept : List Kept) (texts : List (List ℕ)) → flat_map written_text texts ≡ written_answer (answer_with kept texts)
+written_answer_with kept texts = written (all_accepted kept) where
   written : (b : Bool) → flat_map written_text texts ≡ written_answer (cond b (Accepted texts) (Rejected texts))
   written true = refl
   written false = refl
@@ -157,15 +164,15 @@ written_around (Annotated all) asked old texts =
 pub answer_written : (asked : Asked) (old first second new : List ℕ) (accepted : Bool) → first ≡ old ++ opening asked.form asked
     → WritesShown (shows_all asked.form) asked first second accepted → new ≡ second ++ closing asked.form → AnswersLine asked old new accepted
 answer_written asked old first second new accepted opened shown closed =
-    let texts = reported_texts shown.reported in
+    let texts = kept_texts shown.kept in
     let all = texts_for asked.form asked texts in
     record {
-      answer = answer_with shown.reported all;
-      answers = record { shown = shown.shown; are_shown = shown.are_shown; reported = shown.reported; are_reported = shown.are_reported; is = refl };
-      reported = shown.accepts ∙ reported_answer shown.reported all;
+      answer = answer_with shown.kept all;
+      answers = record { shown = shown.shown; are_shown = shown.are_shown; kept = shown.kept; are_kept = shown.are_kept; is = refl };
+      reported = shown.accepts ∙ kept_answer shown.kept all;
       written = closed
           ∙ ap (λ bytes. bytes ++ closing asked.form) (shown.written ∙ ap (λ bytes. bytes ++ flat_map (written_as asked.form) texts) opened)
-          ∙ written_around asked.form asked old texts ∙ ap (λ bytes. old ++ bytes) (written_answer_with shown.reported all);
+          ∙ written_around asked.form asked old texts ∙ ap (λ bytes. old ++ bytes) (written_answer_with shown.kept all);
     }
 
 -- the place of a line's first byte
@@ -186,10 +193,10 @@ answered_whole asked accepted =
     ∙ ap decoded (cut_nowhere asked.allow_incomplete (drop (length asked.line) asked.line) asked.line (drop_all (length asked.line) asked.line (omega arith)))
     ∙ written_decoded asked.line (accepted_whole asked.line accepted).written
 
--- what is asked of a line whose candidates are reported with their places
+-- what is asked of a line whose candidates are reported with their places, where there is no gate
 abbrev pub located : List ℕ → Scoring → Bool → Option Version → ℕ → List ℕ → Asked
 located prefix scoring allow assumed number line =
-    record { form = Located; prefix = prefix; scoring = scoring; allow_incomplete = allow; assumed = assumed; number = number; line = line }
+    record { form = Located; prefix = prefix; scoring = scoring; allow_incomplete = allow; assumed = assumed; gate = None; number = number; line = line }
 
 -- a line that is one canonical vector, once its location and its answer are written
 pub canonical_reported : (prefix : List ℕ) (scoring : Scoring) (allow : Bool) (assumed : Option Version) (number : ℕ) (line : List ℕ) (published : Published) (old between middle new : List ℕ) → IsPublishedOfComplete scoring line published
@@ -205,6 +212,6 @@ canonical_reported prefix scoring allow assumed number line published old betwee
     answer_written asked old old new new true (sym (append-nil old))
     (shown_all asked [] old new true
     (Reports-next asked (candidates_of line) [] candidate old old new true true (Reports-start asked old (candidates_of line) refl) found
-    (WritesReported-answer asked candidate old middle new new true placed own (λ before text is. is)))
+    (kept_reported false false asked candidate old new new true (WritesReported-answer asked candidate old middle new new true placed own (λ before text is. is)) refl))
     none)
     (sym (append-nil new))

@@ -1,11 +1,12 @@
 -- The answers to lines of any text: what is reported of the vectors in them.
-use Rattle.std.specs.Prelude.{◌≡◌, ℕ, ◌+◌, ◌&&◌, Bool, true, false, List, [], ◌∷◌, ◌++◌, bytes_eq, codes, drop, flat_map, length, map, nat_eq, not, if◌then◌else◌, Option, Some, None, ⊤}
+use Rattle.std.specs.Prelude.{◌≡◌, ℕ, ◌+◌, ◌&&◌, Bool, true, false, List, [], ◌∷◌, ◌++◌, bytes_eq, codes, drop, flat_map, length, nat_eq, not, if◌then◌else◌, MatchOption, Option, Some, None, ⊤}
 use Rattle.std.specs.Fmt.{decimal}
 use Rattle.std.specs.List.{list_all, starts_with}
 use Rattle.std.specs.Option.{option_or}
 use Rattle.cvss_vector.specs.Lines.{score_rule}
 use Rattle.cvss_vector.specs.Setting.{text_with}
 use Rattle.cvss_vector.specs.declared.scoring.Scoring.{Scoring}
+use Rattle.cvss_vector.specs.declared.scoring.Scoring.TheVariants.{Overall}
 use Rattle.cvss_vector.specs.declared.setting.Version.{Version}
 use Rattle.cvss_vector.specs.declared.setting.Version.TheVariants.{V30, V31}
 use Rattle.cvss_matches.specs.Decoding.{decoded}
@@ -13,21 +14,25 @@ use Rattle.cvss_matches.specs.declared.form.Form.{Form}
 use Rattle.cvss_matches.specs.declared.form.Form.TheVariants.{Annotated, Located, Object}
 use Rattle.cvss_lines.specs.Answers.{Answer, Accepted, Rejected, Rule, is_accepted, texts_of}
 use Rattle.cvss_report.specs.Cells.{given_text, object_start}
+use Rattle.cvss_report.specs.Gates.{is_failing, is_passed_over}
+use Rattle.cvss_report.specs.LineScores.{IsScoreOfLine}
 use Rattle.cvss_report.specs.Rows.{cells_rule}
 use Rattle.cvss_report.specs.declared.format.Format.TheVariants.{Json}
+use Rattle.cvss_report.specs.declared.gate.Gate.{Gate}
 use Rattle.cvss_matches.specs.Matches.{AreFound, Placed, candidates_of}
 use Rattle.cvss_matches.specs.Parts.{lacks_prefix}
 use Rattle.cvss_matches.specs.CandidatesLeft.{IsFirstFound, NoneFound}
 
 -- what is asked: the form of the answer, what each text begins with, which score of a vector is printed, whether vectors of
--- CVSS v3 may lack base metrics, which version is assumed of vectors without their prefix, a line's number, which counts
--- from 1, and the line
+-- CVSS v3 may lack base metrics, which version is assumed of vectors without their prefix, through which gate vectors go, if
+-- there is one, a line's number, which counts from 1, and the line
 pub record Asked : Type 0 where
   pub form : Form
   pub prefix : List ℕ
   pub scoring : Scoring
   pub allow_incomplete : Bool
   pub assumed : Option Version
+  pub gate : Option Gate
   pub number : ℕ
   pub line : List ℕ
 
@@ -103,12 +108,57 @@ pub record IsReported (asked : Asked) (candidate : Placed) (reported : Reported)
   pub is : reported.text ≡ before_answer asked.form asked candidate ++ text
   pub accepted : reported.accepts ≡ is_accepted answer
 
--- these are reported of the candidates, in their order
-abbrev pub AreReported : Asked → List Placed → List Reported → Type 0
-AreReported asked [] [] = ⊤
-AreReported asked [] (reported ∷ more) = ⊥
-AreReported asked (candidate ∷ candidates) [] = ⊥
-AreReported asked (candidate ∷ candidates) (reported ∷ more) = IsReported asked candidate reported × AreReported asked candidates more
+-- what the answer to a line keeps of a candidate: its texts, and whether it counts as accepted
+pub record Kept : Type 0 where
+  pub texts : List (List ℕ)
+  pub accepts : Bool
+
+-- what is kept of what is reported: all, or no text where nothing is printed; it counts as rejected where the gate fails on it
+abbrev pub kept_of : (quiet failing : Bool) → Reported → Kept
+kept_of quiet failing reported = record {
+  texts = if quiet then [] else (reported.text ∷ []);
+  accepts = if failing then false else reported.accepts;
+}
+
+-- nothing is kept of a candidate that is passed over, and it counts as accepted; what is reported of any other is kept so
+abbrev pub IsKeptIf : (is_passed_over quiet failing : Bool) → Asked → Placed → Kept → Type 0
+IsKeptIf true quiet failing asked candidate kept = kept ≡ record { texts = []; accepts = true }
+IsKeptIf false quiet failing asked candidate kept =
+    (reported : Reported) × IsReported asked candidate reported × (kept ≡ kept_of quiet failing reported)
+
+-- which score of a vector decides: the one that is printed, and of an object, which has all, the overall one
+abbrev pub deciding : Form → Scoring → Scoring
+deciding Located scoring = scoring
+deciding Object scoring = Overall
+deciding (Annotated all) scoring = scoring
+
+-- a text as a line by itself has this score in tenths, if it has one
+abbrev pub IsTextScored : Asked → List ℕ → Option ℕ → Type 0
+IsTextScored asked text score =
+    MatchOption score ((tenths : ℕ) → ¬ (IsScoreOfLine (deciding asked.form asked.scoring) asked.allow_incomplete text tenths))
+    (IsScoreOfLine (deciding asked.form asked.scoring) asked.allow_incomplete text)
+
+-- the candidate's text has this score
+abbrev pub IsScored : Asked → Placed → Option ℕ → Type 0
+IsScored asked candidate = IsTextScored asked (answered_text asked candidate)
+
+-- this is kept of a candidate by its score
+pub record IsLetThrough (gate : Gate) (asked : Asked) (candidate : Placed) (kept : Kept) : Type 0 where
+  pub score : Option ℕ
+  pub scored : IsScored asked candidate score
+  pub is : IsKeptIf (is_passed_over gate score) gate.quiet (is_failing gate score) asked candidate kept
+
+-- this is kept of a candidate, through the gate if there is one
+abbrev pub IsKept : Option Gate → Asked → Placed → Kept → Type 0
+IsKept None = IsKeptIf false false false
+IsKept (Some gate) = IsLetThrough gate
+
+-- these are kept of the candidates, in their order
+abbrev pub AreKept : Asked → List Placed → List Kept → Type 0
+AreKept asked [] [] = ⊤
+AreKept asked [] (kept ∷ more) = ⊥
+AreKept asked (candidate ∷ candidates) [] = ⊥
+AreKept asked (candidate ∷ candidates) (kept ∷ more) = IsKept asked.gate asked candidate kept × AreKept asked candidates more
 
 -- these are the candidates whose answers are shown: all that are found, or the first of them
 abbrev pub AreShown : Bool → List Placed → List Placed → Type 0
@@ -129,28 +179,28 @@ texts_for Located asked texts = texts
 texts_for Object asked texts = texts
 texts_for (Annotated all) asked texts = (asked.prefix ++ (asked.line ++ flat_map (λ text. text) texts)) ∷ []
 
--- each candidate is accepted
-abbrev pub all_accepted : List Reported → Bool
-all_accepted reported = list_all (λ each. each.accepts) reported
+-- each candidate counts as accepted
+abbrev pub all_accepted : List Kept → Bool
+all_accepted kept = list_all (λ each. each.accepts) kept
 
 -- the texts for the candidates
-abbrev pub reported_texts : List Reported → List (List ℕ)
-reported_texts reported = map (λ each. each.text) reported
+abbrev pub kept_texts : List Kept → List (List ℕ)
+kept_texts kept = flat_map (λ each. each.texts) kept
 
 -- the answer to a line with these texts, which is accepted if each candidate is
-abbrev pub answer_with : List Reported → List (List ℕ) → Answer
-answer_with reported texts = if all_accepted reported then Accepted texts else Rejected texts
+abbrev pub answer_with : List Kept → List (List ℕ) → Answer
+answer_with kept texts = if all_accepted kept then Accepted texts else Rejected texts
 
--- this is an answer to what is asked: what is reported of the candidates in the line that are shown
+-- this is an answer to what is asked: what is kept of the candidates in the line that are shown
 pub record IsAnswerTo (asked : Asked) (answer : Answer) : Type 0 where
   pub shown : List Placed
   pub are_shown : AreShown (shows_all asked.form) (candidates_of asked.line) shown
-  pub reported : List Reported
-  pub are_reported : AreReported asked shown reported
-  pub is : answer ≡ answer_with reported (texts_for asked.form asked (reported_texts reported))
+  pub kept : List Kept
+  pub are_kept : AreKept asked shown kept
+  pub is : answer ≡ answer_with kept (texts_for asked.form asked (kept_texts kept))
 
 -- which answers a line has, by the form, by which score is printed, by whether vectors may be incomplete, by which version
--- is assumed of vectors without their prefix and by what each text begins with
-abbrev pub find_rule : Form → Scoring → Bool → Option Version → List ℕ → Rule
-find_rule form scoring allow_incomplete assumed prefix number line =
-    IsAnswerTo (record { form = form; prefix = prefix; scoring = scoring; allow_incomplete = allow_incomplete; assumed = assumed; number = number; line = line })
+-- is assumed of vectors without their prefix, by the gate and by what each text begins with
+abbrev pub find_rule : Form → Scoring → Bool → Option Version → Option Gate → List ℕ → Rule
+find_rule form scoring allow_incomplete assumed gate prefix number line =
+    IsAnswerTo (record { form = form; prefix = prefix; scoring = scoring; allow_incomplete = allow_incomplete; assumed = assumed; gate = gate; number = number; line = line })

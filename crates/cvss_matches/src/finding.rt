@@ -6,6 +6,7 @@ use crate::form::Form;
 use crate::hint::PrefixHint;
 use crate::line::Line;
 use cvss_lines::{Answering, OutputBuffer};
+use cvss_report::{Gate, Tally};
 use cvss_vector::{Scoring, Version};
 use std::alloc::{AllocError, Global};
 use std::cell::Cell;
@@ -21,16 +22,22 @@ pub struct Finding<'a> {
     pub assumed: Option<Version>,
     /// Which score of a vector is printed. Objects have all.
     pub scoring: Scoring,
+    /// Which vectors are shown and on which a line fails, if not all are. A vector that scores less than the
+    /// minimum is not printed, and counts as accepted. One on which the gate fails is printed, and counts
+    /// as rejected.
+    pub gate: Option<Gate>,
     /// What each answer begins with. In objects it is the name of the file and a colon, where there
     /// are several files.
     pub prefix: &'a [u8],
     /// Set to what is wrong with the prefix of the first match that is rejected for it.
     pub hint: &'a Cell<Option<PrefixHint>>,
+    /// Where the matches are counted that go through the gate. No contract speaks of the numbers.
+    pub tally: Option<&'a Cell<Tally>>,
 }
 
 impl Answering for Finding<'_> {
     ghost rule = { λ finding. find_rule finding.form finding.scoring finding.allow_incomplete
-        finding.assumed finding.prefix.now };
+        finding.assumed finding.gate finding.prefix.now };
 
     fn answer_line(
         &self,
@@ -45,9 +52,11 @@ impl Answering for Finding<'_> {
             allow_incomplete: self.allow_incomplete,
             assumed: self.assumed,
             scoring: self.scoring,
+            gate: self.gate,
             number,
             bytes: line,
             hint: self.hint,
+            tally: self.tally,
         };
         line.answer(alloc, answers)
     }

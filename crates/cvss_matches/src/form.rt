@@ -1,7 +1,9 @@
 //! The form in which the vectors in a line are reported.
 
 ghost use Rattle.std.specs.Prelude.{◌≡◌};
-ghost use Rattle.cvss_matches.specs.Answers.{shows_all};
+ghost use Rattle.cvss_matches.specs.Answers.{deciding, shows_all};
+
+use cvss_vector::Scoring;
 
 /// The form in which the vectors in a line are reported.
 #[derive(Clone, Copy, Drop)]
@@ -24,6 +26,16 @@ impl Form {
         match self {
             Form::Located | Form::Object => true,
             Form::Annotated { all } => all,
+        }
+    }
+
+    /// Which score of a vector a gate goes by, where this one is printed. Objects have all scores.
+    pub(crate) fn deciding(self, scoring: Scoring) -> Scoring
+        ensures { result ≡ deciding self scoring }
+    {
+        match self {
+            Form::Object => Scoring::Overall,
+            Form::Located | Form::Annotated { .. } => scoring,
         }
     }
 }

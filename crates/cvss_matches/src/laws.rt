@@ -1,6 +1,6 @@
 //! Laws, each the contract of a function that does nothing.
 
-ghost use Rattle.std.specs.Prelude.{◌≡◌, ℕ, Bool, List, [], ◌∷◌, All, Option};
+ghost use Rattle.std.specs.Prelude.{◌≡◌, ℕ, Bool, List, [], ◌∷◌, All, None, Option};
 ghost use Rattle.cvss_lines.specs.Answers.{Answer};
 ghost use Rattle.cvss_vector.specs.declared.scoring.Scoring.{Scoring};
 ghost use Rattle.cvss_vector.specs.declared.setting.Version.{Version};
@@ -48,11 +48,11 @@ pub fn accepted_texts_are_matches()
 {}
 
 /// A line that is one vector and nothing else is answered by what `cvss score` answers to it, after
-/// its number and its place.
+/// its number and its place, where there is no gate.
 pub fn only_vectors_are_reported_as_they_are()
     ensures { (scoring : Scoring) → (allow_incomplete : Bool) → (assumed : Option Version)
         → (prefix : List ℕ) → (number : ℕ) → (line : List ℕ) → (answer : Answer) → IsAccepted line
-        → find_rule Located scoring allow_incomplete assumed prefix number line answer
+        → find_rule Located scoring allow_incomplete assumed None prefix number line answer
         → ReportsOfAll scoring allow_incomplete prefix number line answer }
 {
     accepted_texts_are_matches();

@@ -6,6 +6,7 @@ mod annotating;
 mod decoding;
 mod finding;
 mod form;
+mod gating;
 mod hint;
 pub mod laws;
 mod line;

@@ -1,6 +1,6 @@
 //! The answer to a line: what is reported of the vectors in it.
 
-ghost use Rattle.std.specs.Prelude.{◌≡◌, ◌++◌, IfOk, OnOk, bytes_eq, codes, drop, false, true};
+ghost use Rattle.std.specs.Prelude.{◌≡◌, ◌++◌, IfOk, None, OnOk, bytes_eq, codes, drop, false, true};
 ghost use Rattle.cvss_vector.specs.Complete.{IsPublishedOfComplete};
 ghost use Rattle.cvss_matches.specs.Answers.{after_candidate, answered_bytes, answers_as, before_answer, linked_version, version_for, with_version};
 ghost use Rattle.cvss_matches.specs.Prefixes.{has_loose_prefix};
@@ -20,7 +20,7 @@ use crate::place::{write_first_place, write_place};
 use crate::prefix::begins_with_prefix;
 use crate::unprefixed::lacks_prefix;
 use cvss_lines::OutputBuffer;
-use cvss_report::{Format, write_cells};
+use cvss_report::{Format, Gate, Tally, write_cells};
 use cvss_vector::{Cvss, Published, Scoring, Version, answer_score, write_canonical};
 use std::alloc::{AllocError, Global};
 use std::cell::Cell;
@@ -33,9 +33,11 @@ pub(crate) struct Line<'a> {
     pub(crate) allow_incomplete: bool,
     pub(crate) assumed: Option<Version>,
     pub(crate) scoring: Scoring,
+    pub(crate) gate: Option<Gate>,
     pub(crate) number: u64,
     pub(crate) bytes: &'a [u8],
     pub(crate) hint: &'a Cell<Option<PrefixHint>>,
+    pub(crate) tally: Option<&'a Cell<Tally>>,
 }
 
 impl Line<'_> {
@@ -48,16 +50,19 @@ impl Line<'_> {
         ensures { IfOk result (AnswersLine (asked_of self.entry)
             answers.old.bytes.items answers.new.bytes.items) }
     {
-        match self.form {
-            Form::Located => match Cvss::published_of_canonical(self.bytes, self.scoring) {
-                Some(published) => self.report_canonical(published, answers),
-                None => self.report_matches(alloc, answers),
-            },
-            Form::Object | Form::Annotated { .. } => self.report_matches(alloc, answers),
+        match (self.form, self.gate) {
+            (Form::Located, None) => {
+                match Cvss::published_of_canonical(self.bytes, self.scoring) {
+                    Some(published) => self.report_canonical(published, answers),
+                    None => self.report_matches(alloc, answers),
+                }
+            }
+            _ => self.report_matches(alloc, answers),
         }
     }
 
-    /// The answer to a line that is a canonical vector with all base metrics, its only match.
+    /// The answer to a line that is a canonical vector with all base metrics, its only match, where
+    /// there is no gate.
     fn report_canonical(
         self,
         published: Published,
@@ -65,6 +70,7 @@ impl Line<'_> {
     ) -> Result<bool, AllocError>
         requires published { IsPublishedOfComplete self.scoring self.bytes.now published }
         requires form { self.form ≡ Located }
+        requires gate { self.gate ≡ None }
         ensures { IfOk result (AnswersLine (asked_of self.entry)
             answers.old.bytes.items answers.new.bytes.items) }
     {
@@ -85,7 +91,7 @@ impl Line<'_> {
         Ok(accepted)
     }
 
-    /// Writes what is reported of all matches, or of the first.
+    /// Writes what is kept of all matches, or of the first.
     fn write_shown(
         self,
         all: bool,
@@ -102,7 +108,7 @@ impl Line<'_> {
         }
     }
 
-    /// Writes what is reported of all matches.
+    /// Writes what is kept of all matches.
     fn write_all(self, alloc: Global, answers: &mut OutputBuffer) -> Result<bool, AllocError>
         ensures { IfOk result (WritesShown true (asked_of self.entry)
             answers.old.bytes.items answers.new.bytes.items) }
@@ -110,24 +116,24 @@ impl Line<'_> {
         let mut matches = Matches::of(self.bytes);
         let mut accepted = true;
         while let Some(found) = matches.next() {
-            accepted &= self.report(alloc, found, answers)?;
+            accepted &= self.keep(alloc, found, answers)?;
         }
         Ok(accepted)
     }
 
-    /// Writes what is reported of the first match, if there is one.
+    /// Writes what is kept of the first match, if there is one.
     fn write_first(self, alloc: Global, answers: &mut OutputBuffer) -> Result<bool, AllocError>
         ensures { IfOk result (WritesShown false (asked_of self.entry)
             answers.old.bytes.items answers.new.bytes.items) }
     {
         match Matches::of(self.bytes).next() {
-            Some(found) => self.report(alloc, found, answers),
+            Some(found) => self.keep(alloc, found, answers),
             None => Ok(true),
         }
     }
 
     /// Writes what is reported of a match. Says whether the match is accepted.
-    fn report(
+    pub(crate) fn report(
         self,
         alloc: Global,
         found: Match<'_>,
@@ -215,7 +221,7 @@ impl Line<'_> {
     }
 
     /// The version of a vector without its prefix, if that is known.
-    fn version_for(&self, found: Match<'_>) -> Option<Version>
+    pub(crate) fn version_for(&self, found: Match<'_>) -> Option<Version>
         ensures { result ≡ version_for (asked_of self.now) (as_placed found.entry) }
     {
         if !lacks_prefix(found.text) {
@@ -262,7 +268,7 @@ pub(crate) fn has_loose_prefix(text: &[u8]) -> bool
 
 /// Whether bytes are answered otherwise than as they are: after a prefix, or decoded.
 #[tactic(auto, using(crate::proofs::DecodingLemmas::as_given))]
-fn is_changed(version: Option<Version>, bytes: &[u8]) -> bool
+pub(crate) fn is_changed(version: Option<Version>, bytes: &[u8]) -> bool
     ensures { result ≡ false → with_version version (decoded bytes.now) ≡ bytes.now }
 {
     match version {

@@ -1,4 +1,5 @@
 mod ScoreLemmas
 mod ShortLemmas
 mod TextLemmas
+mod ThresholdFacts
 pub mod WordLemmas

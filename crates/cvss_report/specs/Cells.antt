@@ -1,5 +1,5 @@
 -- The cells of a row, and how they are written.
-use Rattle.std.specs.Prelude.{ℕ, true, false, ◌-◌, ◌==◌, List, [], ◌∷◌, ◌++◌, codes, flat_map, length, take, if◌then◌else◌}
+use Rattle.std.specs.Prelude.{ℕ, Bool, true, false, ◌&&◌, ◌||◌, ◌-◌, ◌==◌, List, [], ◌∷◌, ◌++◌, codes, flat_map, length, take, if◌then◌else◌}
 use Rattle.std.specs.Str.{is_utf8}
 use Rattle.cvss_json.specs.Escapes.{quoted as json_quoted}
 use Rattle.cvss_report.specs.declared.format.Format.{Format}
@@ -23,9 +23,18 @@ escaped_byte byte =
 abbrev pub escaped : List ℕ → List ℕ
 escaped text = flat_map escaped_byte text
 
+-- the text begins as what a spreadsheet takes for a formula: with an equals sign, a plus, a hyphen or an at sign
+abbrev pub is_formula : List ℕ → Bool
+is_formula [] = false
+is_formula (byte ∷ bytes) = (byte == 61) || ((byte == 43) || ((byte == 45) || (byte == 64)))
+
+-- the apostrophe before such a text, where cells are guarded
+abbrev pub guard : Bool → List ℕ → List ℕ
+guard guarded text = if is_formula text && guarded then codes "'" else []
+
 -- what is around a string
 abbrev pub quote : Format → List ℕ
-quote (Tsv many) = []
+quote (Tsv many guarded) = []
 quote Json = codes "\""
 
 -- words that need no escape
@@ -34,12 +43,12 @@ quoted format text = quote format ++ (text ++ quote format)
 
 -- no value
 abbrev pub nothing : Format → List ℕ
-nothing (Tsv many) = []
+nothing (Tsv many guarded) = []
 nothing Json = codes "null"
 
 -- any text, which may be no UTF-8: JSON has no value for it then
 abbrev pub given_text : Format → List ℕ → List ℕ
-given_text (Tsv many) text = escaped text
+given_text (Tsv many guarded) text = guard guarded text ++ escaped text
 given_text Json text = if is_utf8 text then json_quoted text else nothing Json
 
 abbrev pub cell_text : Format → Cell → List ℕ
@@ -59,16 +68,16 @@ object_start (byte ∷ bytes) = codes "{\"file\":" ++ (given_text Json (file_of 
 
 -- what is before the given text: the file, where there are several; for a vector that is an operand it is empty
 abbrev pub opening : Format → List ℕ → List ℕ
-opening (Tsv false) prefix = []
-opening (Tsv true) prefix = escaped (file_of prefix) ++ codes "\t"
+opening (Tsv false guarded) prefix = []
+opening (Tsv true guarded) prefix = given_text (Tsv true guarded) (file_of prefix) ++ codes "\t"
 opening Json prefix = object_start prefix ++ codes "\"given\":"
 
 -- what is before each cell, whose column has this name
 abbrev pub before_cell : Format → List ℕ → List ℕ
-before_cell (Tsv many) name = codes "\t"
+before_cell (Tsv many guarded) name = codes "\t"
 before_cell Json name = codes ",\"" ++ (name ++ codes "\":")
 
 -- what is after the last cell
 abbrev pub closing : Format → List ℕ
-closing (Tsv many) = []
+closing (Tsv many guarded) = []
 closing Json = codes "}"

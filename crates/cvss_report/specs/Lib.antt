@@ -1,8 +1,12 @@
 pub mod Cells
 pub mod Fields
+pub mod Gates
 pub mod Groups
+pub mod LineScores
 pub mod Record
 pub mod Rows
+pub mod Tallies
+pub mod Thresholds
 pub mod Words
 pub mod WordsV2
 pub mod WordsV3

@@ -1,9 +1,9 @@
 //! Texts of a row that may need escapes.
 
-ghost use Rattle.std.specs.Prelude.{◌≡◌, true, IfOk};
+ghost use Rattle.std.specs.Prelude.{◌≡◌, ◌++◌, true, IfOk};
 ghost use Rattle.cvss_base.specs.Text.{read_as};
 ghost use Rattle.cvss_json.specs.Sinks.{Adds};
-ghost use Rattle.cvss_report.specs.Cells.{escaped, escaped_byte, given_text};
+ghost use Rattle.cvss_report.specs.Cells.{escaped, escaped_byte, given_text, guard, is_formula};
 ghost use Rattle.cvss_report.specs.declared.format.Format.TheVariants.{Json};
 ghost use Rattle.cvss_vector.specs.Reasons.{error_message};
 ghost use Rattle.cvss_vector.specs.Segments.{segment_text, text_of};
@@ -18,7 +18,7 @@ pub fn put_given<S: Sink>(sink: &mut S, format: Format, text: &[u8])
     ensures { Adds S.Holds (given_text format text.now) sink.old sink.new }
 {
     match format {
-        Format::Tsv { .. } => put_escaped(sink, text),
+        Format::Tsv { guarded, .. } => put_column(sink, guarded, text),
         Format::Json => put_if_utf8(sink, text),
     }
 }
@@ -31,6 +31,33 @@ fn put_if_utf8<S: Sink>(sink: &mut S, text: &[u8])
         Ok(text) => put_string(sink, text),
         Err(_) => sink.push(b"null"),
     }
+}
+
+/// Writes a text in a column, which may be guarded.
+#[tactic(auto, using(cvss_json::proofs::AddsLemmas::join2))]
+fn put_column<S: Sink>(sink: &mut S, guarded: bool, text: &[u8])
+    ensures { Adds S.Holds (guard guarded text.now ++ escaped text.now) sink.old sink.new }
+{
+    put_guard(sink, guarded, text);
+    put_escaped(sink, text);
+}
+
+/// Writes the apostrophe before a formula, where columns are guarded.
+fn put_guard<S: Sink>(sink: &mut S, guarded: bool, text: &[u8])
+    ensures { Adds S.Holds (guard guarded text.now) sink.old sink.new }
+{
+    if is_formula(text) && guarded {
+        sink.push(b"'");
+    } else {
+        sink.push(b"");
+    }
+}
+
+/// Whether a spreadsheet takes a text for a formula, by its first byte.
+pub fn is_formula(text: &[u8]) -> bool
+    ensures { result ≡ is_formula text.now }
+{
+    matches!(text, [b'=' | b'+' | b'-' | b'@', ..])
 }
 
 /// Writes a text in a column.

@@ -11,6 +11,9 @@ pub enum Format {
     Tsv {
         /// Whether the first value is the name of the file, since there are several.
         many: bool,
+        /// Whether a file's name, a given text or an error has an apostrophe before it where a spreadsheet
+        /// would take it for a formula, since it begins with `=`, `+`, `-` or `@`.
+        guarded: bool,
     },
     /// A JSON object (RFC 8259). What there is not, and a given text that is not UTF-8, is null.
     Json,

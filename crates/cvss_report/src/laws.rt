@@ -18,7 +18,7 @@ ghost use Rattle.cvss_metric.specs.v2.Table as table_v2;
 ghost use Rattle.cvss_metric.specs.v3.Table as table_v3;
 ghost use Rattle.cvss_metric.specs.v4.Table as table_v4;
 
-use crate::{Expected, Field, Format, Scores};
+use crate::{Expected, Field, Format, Gate, Scores, Tally};
 
 /// Each value of a metric has a word, and no other value of the metric has it.
 pub fn words_report_values()
@@ -50,18 +50,23 @@ pub fn equality_is_that_of_values()
     ensures format { (x y : Format) → IsTrue (⟦<Format as PartialEq>⟧.eq x y) ↔ (x ≡ y) }
 {}
 
-/// A clone of a member, of what it says, of a format or of scores is that value.
+/// A clone of a member, of what it says, of a format, a gate, scores or a tally is that value.
 pub fn clones_are_equal()
     ensures expected { ClonesByValue ⟦<Expected as Clone>⟧.is_clone }
     ensures field { ClonesByValue ⟦<Field as Clone>⟧.is_clone }
     ensures format { ClonesByValue ⟦<Format as Clone>⟧.is_clone }
+    ensures gate { ClonesByValue ⟦<Gate as Clone>⟧.is_clone }
     ensures scores { ClonesByValue ⟦<Scores as Clone>⟧.is_clone }
+    ensures tally { ClonesByValue ⟦<Tally as Clone>⟧.is_clone }
 {}
 
-/// To clone a member, what it says, a format or scores takes no memory, so it is never refused.
+/// To clone a member, what it says, a format, a gate, scores or a tally takes no memory, so it is never
+/// refused.
 pub fn values_are_cloned_without_memory()
     ensures expected { ClonesAlways ⟦<Expected as Clone>⟧.is_infallible }
     ensures field { ClonesAlways ⟦<Field as Clone>⟧.is_infallible }
     ensures format { ClonesAlways ⟦<Format as Clone>⟧.is_infallible }
+    ensures gate { ClonesAlways ⟦<Gate as Clone>⟧.is_infallible }
     ensures scores { ClonesAlways ⟦<Scores as Clone>⟧.is_infallible }
+    ensures tally { ClonesAlways ⟦<Tally as Clone>⟧.is_infallible }
 {}

@@ -42,9 +42,9 @@ fn put_opening<S: Sink>(sink: &mut S, format: Format, prefix: &[u8])
     ensures { Adds S.Holds (opening format prefix.now) sink.old sink.new }
 {
     match (format, prefix) {
-        (Format::Tsv { many: false }, _) => sink.push(b""),
-        (Format::Tsv { many: true }, []) => sink.push(b"\t"),
-        (Format::Tsv { many: true }, [file @ .., _]) => {
+        (Format::Tsv { many: false, .. }, _) => sink.push(b""),
+        (Format::Tsv { many: true, .. }, []) => sink.push(b"\t"),
+        (Format::Tsv { many: true, .. }, [file @ .., _]) => {
             put_given(sink, format, file);
             sink.push(b"\t");
         }

@@ -1,5 +1,5 @@
 -- How the command ends: its exit status, and what it reports last.
-use Rattle.std.specs.Prelude.{◌≡◌, ◌≢◌, ◌↔◌, ◌⊎◌, ℕ, ◌==◌, ◌&&◌, Bool, true, false, not, List, [], ◌∷◌, ◌++◌, codes, is_none, Option, None, Some, Result, MatchResult, IsSomeAnd, IsTrue, bytes_eq}
+use Rattle.std.specs.Prelude.{◌≡◌, ◌≢◌, ◌↔◌, ◌⊎◌, ℕ, ◌==◌, ◌&&◌, Bool, true, false, not, List, ◌++◌, codes, is_none, Option, None, Some, Result, MatchResult, IsSomeAnd, IsTrue}
 use Rattle.std.specs.Global.{Vec}
 use Rattle.std.specs.IoError.{error_kind}
 use Rattle.std.specs.Option.{option_map}
@@ -17,9 +17,11 @@ use Rattle.cvss_subcommands.specs.Done.{Does}
 use Rattle.cvss_subcommands.specs.Hints.{IsFirstHint, hint_text}
 use Rattle.cvss_subcommands.specs.Ordering.{options_first}
 use Rattle.cvss_subcommands.specs.Requests.{request_of}
-use Rattle.cvss_subcommands.specs.Subcommands.{name_of}
 use Rattle.cvss_subcommands.specs.UsageErrors.{usage_report}
+use Rattle.cvss_subcommands.specs.declared.flags.Flags.{Flags}
 use Rattle.cvss_subcommands.specs.declared.hint.Hint.{Hint}
+use Rattle.cvss_subcommands.specs.declared.requests.Request.{Request}
+use Rattle.cvss_subcommands.specs.declared.requests.Request.TheVariants.{Run}
 use Rattle.cvss_subcommands.specs.declared.subcommand.Subcommand.{Subcommand}
 use Rattle.cvss_subcommands.specs.declared.subcommand.Subcommand.TheVariants.{Audit}
 use Rattle.cvss_subcommands.specs.declared.usage_error.UsageError.{UsageError}
@@ -57,16 +59,20 @@ ReportsStop (Some Write) error report report' = ReportsWrite error report report
 ReportsStop (Some Read) error report report' = Reports report report' (fault_report Read)
 ReportsStop (Some Memory) error report report' = Reports report report' (fault_report Memory)
 
--- the arguments ask for an audit
-abbrev pub is_audit : List (Vec ℕ) → Bool
-is_audit [] = false
-is_audit (word ∷ words) = bytes_eq word.items (name_of Audit)
+-- each vector has an object, and none is passed over
+abbrev pub has_each : Flags → Bool
+has_each flags = (flags.json && not flags.differing) && (not flags.quiet && is_none flags.minimum)
+
+-- an audit is asked for that prints an object for each vector
+abbrev pub prints_each : Request → Bool
+prints_each (Run Audit options) = has_each options.flags
+prints_each _ = false
 
 -- nothing disagrees, nothing was written, and nothing failed
 abbrev pub is_silent : ℕ → Bool → Option Error → Bool
 is_silent status has_taken error = (status == 0) && (not has_taken && is_none error)
 
--- an audit that is silent is reported, since the documents may have a form that it does not know
+-- such an audit that is silent is reported, since the documents may have a form that it does not know
 abbrev pub ReportsNote : Bool → Reported → Reported → Type 0
 ReportsNote false report report' = report' ≡ report
 ReportsNote true report report' = Reports report report' (codes "cvss: no vector was found\n")
@@ -82,7 +88,7 @@ pub record EndsServed (arguments : List (Vec ℕ)) (has_taken : Bool) (error : O
   pub hint : ReportsHint served.rejected arguments report hinted
   pub stopped : Reported
   pub stop : ReportsStop served.stopped error hinted stopped
-  pub note : ReportsNote (is_audit arguments && is_silent status has_taken error) stopped report'
+  pub note : ReportsNote (prints_each (request_of arguments) && is_silent status has_taken error) stopped report'
 
 -- how the command ends whose arguments are not understood, where the general help is this text
 abbrev pub EndsWrong : List ℕ → UsageError → List (Vec ℕ) → Reported → Reported → ℕ → Type 0

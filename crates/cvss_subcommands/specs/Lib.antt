@@ -1,6 +1,12 @@
 pub mod Arguments
+pub mod Auditing
+pub mod Comparing
+pub mod Conflicts
+pub mod Counting
+pub mod Csv
 pub mod Done
 pub mod Ending
+pub mod Explaining
 pub mod Flags
 pub mod Hints
 pub mod Ordering

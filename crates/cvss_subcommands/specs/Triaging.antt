@@ -1,9 +1,10 @@
 -- What `cvss triage` is asked for.
-use Rattle.std.specs.Prelude.{ℕ, List, [], ◌∷◌, Option, None, Some, if◌then◌else◌, bytes_eq}
+use Rattle.std.specs.Prelude.{ℕ, List, [], ◌∷◌, Option, None, Some, if◌then◌else◌, bytes_eq, unwrap_or}
 use Rattle.std.specs.Global.{Vec}
-use Rattle.cvss_subcommands.specs.Flags.{flag_name, scoring_of}
+use Rattle.cvss_subcommands.specs.Flags.{counts_of, flag_name, scoring_of}
 use Rattle.cvss_subcommands.specs.declared.flags.Flag.TheVariants.{Set, Profile as ProfileFlag}
 use Rattle.cvss_subcommands.specs.declared.flags.Flags.{Flags}
+use Rattle.cvss_report.specs.declared.gate.Gate.{Gate}
 use Rattle.cvss_triage.specs.Triage.{Asked}
 use Rattle.cvss_triage.specs.declared.settings.SettingKind.{SettingKind}
 use Rattle.cvss_triage.specs.declared.settings.SettingKind.TheVariants.{Metrics, Profile}
@@ -24,6 +25,10 @@ settings_after None (word ∷ words) = settings_after (kind_of word.items) words
 abbrev pub settings_of : List (Vec ℕ) → List (SettingKind × List ℕ)
 settings_of words = settings_after None words
 
+-- which rows are shown and fail: all and none where no option says it
+abbrev pub rows_gate : Flags → Gate
+rows_gate flags = record { minimum = unwrap_or flags.minimum 0; fail_on = flags.fail_on; quiet = flags.quiet }
+
 -- what is asked for by the words and the flags
 abbrev pub asked_by : List (Vec ℕ) → Flags → Asked
 asked_by words flags = record {
@@ -31,5 +36,8 @@ asked_by words flags = record {
   keep_going = flags.keep_going;
   allow_incomplete = flags.allow_incomplete;
   scoring = scoring_of flags.base;
+  gate = rows_gate flags;
+  count = counts_of flags;
   json = flags.json;
+  header = flags.header;
 }

@@ -3,15 +3,19 @@
 ghost use Rattle.std.specs.Prelude.{◌≡◌, ◌++◌, IfOk, OnOk};
 ghost use Rattle.cvss_frame.specs.Streams.{state};
 ghost use Rattle.cvss_subcommands.specs.Arguments.{metric_part, metrics_in, operands_of, words_of};
-ghost use Rattle.cvss_subcommands.specs.Done.{Does, Runs, SetsGiven, SetsMetrics, audit_of, help_of};
+ghost use Rattle.cvss_subcommands.specs.Done.{Does, Runs, ScoresOf, SetsGiven, SetsMetrics, help_of};
 ghost use Rattle.cvss_subcommands.specs.Requests.{request_of};
 ghost use Rattle.cvss_subcommands.specs.Scoring.{WritesText};
 
+use crate::audit::audit;
+use crate::csv::score_csv;
+use crate::diff::diff;
 use crate::explain::explain;
 use crate::find::find_vectors;
+use crate::flags::Flags;
 use crate::help::{
-    AUDIT_USAGE, EXPLAIN_USAGE, FIND_USAGE, SCORE_USAGE, SET_USAGE, TRIAGE_USAGE, USAGE, VERSION,
-    help_of,
+    AUDIT_USAGE, DIFF_USAGE, EXPLAIN_USAGE, FIND_USAGE, SCORE_USAGE, SET_USAGE, TRIAGE_USAGE,
+    USAGE, VERSION, help_of,
 };
 use crate::requests::{Options, Request, is_option, request_of};
 use crate::score::score;
@@ -19,9 +23,9 @@ use crate::setting::Set;
 use crate::subcommand::Subcommand;
 use crate::triage::triage_lines;
 use crate::usage_error::UsageError;
-use cvss_audit::{Audit, Layout};
 use cvss_frame::{EachLine, Host, Served, Streams, serve_operands};
 use cvss_lines::{RunFault, write_whole};
+use cvss_lists::Shown;
 use std::alloc::{AllocError, Global};
 use std::io::Write;
 
@@ -36,7 +40,7 @@ pub(crate) fn run_command<H: Host>(
     streams: &mut Streams<H>,
 ) -> Result<Served, UsageError>
     ensures { Does (request_of arguments.now)
-        (help_of USAGE.now SCORE_USAGE.now FIND_USAGE.now EXPLAIN_USAGE.now SET_USAGE.now TRIAGE_USAGE.now AUDIT_USAGE.now) VERSION.now
+        (help_of USAGE.now SCORE_USAGE.now FIND_USAGE.now EXPLAIN_USAGE.now SET_USAGE.now TRIAGE_USAGE.now AUDIT_USAGE.now DIFF_USAGE.now) VERSION.now
         arguments.now (state streams.old) (state streams.new) result }
 {
     match request_of(arguments) {
@@ -46,7 +50,10 @@ pub(crate) fn run_command<H: Host>(
         Request::Run(subcommand, options) => {
             let operands = last(arguments, options.operands);
             match subcommand {
-                Subcommand::Score => { Ok(score(alloc, options.flags, operands, streams)) }
+                Subcommand::Score => {
+                    let words = words_of(arguments, options.words);
+                    Ok(score_any(alloc, options.flags, words, operands, streams))
+                }
                 Subcommand::Find => { Ok(find_vectors(alloc, options.flags, operands, streams)) }
                 Subcommand::Explain => { Ok(explain(alloc, options.flags, operands, streams)) }
                 Subcommand::Set => set_metrics(alloc, arguments, options, streams),
@@ -57,27 +64,27 @@ pub(crate) fn run_command<H: Host>(
                     operands,
                     streams,
                 )),
-                Subcommand::Audit => {
-                    let task = audit_of(&options);
-                    Ok(serve_operands(alloc, &task, operands, streams))
-                }
+                Subcommand::Diff => Ok(diff(alloc, options.flags, operands, streams)),
+                Subcommand::Audit => Ok(audit(alloc, options.flags, operands, streams)),
             }
         }
     }
 }
 
-/// The audit that the options ask for.
-fn audit_of(options: &Options) -> Audit
-    ensures { result ≡ audit_of options.now }
+/// Scores the vectors of the operands, in lines or in CSV.
+fn score_any<H: Host>(
+    alloc: Global,
+    flags: Flags,
+    words: &[Vec<u8>],
+    operands: &[Vec<u8>],
+    streams: &mut Streams<H>,
+) -> Served
+    ensures { ScoresOf flags.csv flags words.now operands.now (state streams.old) (state streams.new) result }
 {
-    let layout = match options.operands {
-        _ if options.flags.document => Layout::Whole,
-        0 => Layout::Lines,
-        _ => Layout::Either,
-    };
-    Audit {
-        layout,
-        allow_incomplete: options.flags.allow_incomplete,
+    if flags.csv {
+        score_csv(alloc, flags, words, operands, streams)
+    } else {
+        score(alloc, flags, operands, streams)
     }
 }
 
@@ -119,6 +126,7 @@ fn set_given<H: Host>(
         allow_incomplete: options.flags.allow_incomplete,
     };
     let operands = last(arguments, options.operands);
+    let answer = Shown { answer };
     let task = EachLine { answer };
     Ok(serve_operands(alloc, &task, operands, streams))
 }

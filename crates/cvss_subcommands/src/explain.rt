@@ -1,8 +1,11 @@
 //! `cvss explain`.
 
+ghost use Rattle.std.specs.Prelude.{◌≡◌, ◌∷◌, ◌++◌, [], ℕ, List, OnOk, length};
 ghost use Rattle.cvss_subcommands.specs.Done.{explain_ends};
+ghost use Rattle.cvss_subcommands.specs.Explaining.{explain_rule};
 ghost use Rattle.cvss_explain.specs.Json as json;
-ghost use Rattle.cvss_explain.specs.Text as text;
+ghost use Rattle.cvss_frame.specs.Names.{shown_name};
+ghost use Rattle.cvss_lines.specs.Answers.{written_text};
 ghost use Rattle.cvss_lines.specs.Prefixed.{is_one_text};
 ghost use Rattle.cvss_lines.specs.Runs.{Ends};
 ghost use Rattle.cvss_frame.specs.Operands.{ServesAll};
@@ -12,6 +15,7 @@ use crate::flags::Flags;
 use cvss_explain::{Explaining, answer_explained};
 use cvss_frame::{EachLine, Host, LineAnswer, Served, Streams, Task, serve_operands};
 use cvss_lines::{Answering, OutputBuffer, RunFault, Summary, run};
+use cvss_lists::{show_after, waiting_bytes};
 use std::alloc::{AllocError, Global};
 use std::io::{Read, Write};
 
@@ -74,7 +78,7 @@ struct ExplainText {
 }
 
 impl Answering for ExplainText {
-    ghost rule = { λ explain. text.IsAnswer explain.what_if explain.allow_incomplete };
+    ghost rule = { λ explain. explain_rule explain.what_if explain.allow_incomplete };
 
     fn answer_line(
         &self,
@@ -83,10 +87,34 @@ impl Answering for ExplainText {
         line: &[u8],
         answers: &mut OutputBuffer,
     ) -> Result<bool, AllocError> {
-        answer_explained(alloc, line, self.what_if, self.allow_incomplete, answers)
+        let waiting = waiting_bytes(answers);
+        let accepted = answer_explained(alloc, line, self.what_if, self.allow_incomplete, answers)?;
+        if accepted {
+            return Ok(true);
+        }
+        show_rejection(alloc, waiting, answers)?;
+        Ok(false)
     }
 }
 
 impl LineAnswer for ExplainText {
     ghost one_text = { λ _. is_one_text _ _ };
+}
+
+/// Shows the rejection after so many bytes, with escapes for what breaks a line or a terminal. An empty line
+/// follows it.
+fn show_rejection(
+    alloc: Global,
+    waiting: usize,
+    answers: &mut OutputBuffer,
+) -> Result<(), AllocError>
+    ensures { (before text : List ℕ) → length before ≡ waiting
+        → answers.old.bytes.items ≡ before ++ (written_text text ++ 10 ∷ [])
+        → OnOk result (answers.new.bytes.items
+        ≡ before ++ (written_text (shown_name text) ++ 10 ∷ [])) }
+{
+    let end = waiting_bytes(answers).saturating_sub(1);
+    answers.bytes.truncate(end);
+    show_after(alloc, waiting, answers)?;
+    answers.push(b"\n")
 }

@@ -1,17 +1,25 @@
 //! `cvss find`.
 
-ghost use Rattle.std.specs.Prelude.{◌≡◌};
-ghost use Rattle.cvss_subcommands.specs.Done.{FindsAll, FindsVectors, MayHint, find_ends, form_of};
+ghost use Rattle.std.specs.Prelude.{◌≡◌, IfOk, true};
+ghost use Rattle.cvss_subcommands.specs.Done.{FindsAll, FindsOrCounts, FindsVectors, MayHint, find_ends, form_of};
+ghost use Rattle.cvss_subcommands.specs.Flags.{counts_of};
+ghost use Rattle.cvss_frame.specs.Names.{shown_name};
+ghost use Rattle.cvss_frame.specs.Operands.{ServesAll};
 ghost use Rattle.cvss_frame.specs.Reports.{reported};
 ghost use Rattle.cvss_frame.specs.Streams.{state};
+ghost use Rattle.cvss_lines.specs.Runs.{Ends};
+ghost use Rattle.cvss_matches.specs.Answers.{find_rule};
 ghost use Rattle.cvss_subcommands.specs.Hints.{prefix_hint};
 
+use crate::counting::print_count;
 use crate::flags::Flags;
-use cvss_frame::{Host, Report, Served, Streams, Task, serve_operands};
+use cvss_frame::{Host, Report, Served, Streams, Task, is_plain, put_shown, serve_operands};
+use cvss_json::Growing;
 use cvss_lines::{RunFault, Summary, run};
 use cvss_matches::{Finding, Form, PrefixHint};
+use cvss_report::{Gate, Tally};
 use cvss_vector::{Scoring, Version};
-use std::alloc::Global;
+use std::alloc::{AllocError, Global};
 use std::cell::Cell;
 use std::io::{Read, Write};
 
@@ -22,21 +30,69 @@ pub(crate) fn find_vectors<H: Host>(
     operands: &[Vec<u8>],
     streams: &mut Streams<H>,
 ) -> Served
-    ensures { FindsAll
-        (find_ends flags.json flags.annotate flags.all flags.base flags.allow_incomplete flags.assumed)
-        operands.now (state streams.old) (state streams.new) result }
+    ensures { FindsAll flags operands.now (state streams.old) (state streams.new) result }
 {
     let hint = Cell::new(None);
+    let served = find_or_count(alloc, flags, &hint, operands, streams);
+    report_hint(hint.get(), &mut streams.errors);
+    served
+}
+
+/// Finds the vectors in the operands and prints them, or how many there are.
+fn find_or_count<H: Host>(
+    alloc: Global,
+    flags: Flags,
+    hint: &Cell<Option<PrefixHint>>,
+    operands: &[Vec<u8>],
+    streams: &mut Streams<H>,
+) -> Served
+    ensures { FindsOrCounts (counts_of flags) (find_ends flags)
+        operands.now (state streams.old) (state streams.new) result }
+{
+    if flags.counts() {
+        find_and_count(alloc, flags, hint, operands, streams)
+    } else {
+        find_each(alloc, flags, hint, None, operands, streams)
+    }
+}
+
+/// Finds the vectors in the operands, of which nothing is printed, and prints how many there are.
+fn find_and_count<H: Host>(
+    alloc: Global,
+    flags: Flags,
+    hint: &Cell<Option<PrefixHint>>,
+    operands: &[Vec<u8>],
+    streams: &mut Streams<H>,
+) -> Served
+    ensures { FindsOrCounts true (find_ends flags)
+        operands.now (state streams.old) (state streams.new) result }
+{
+    let tally = Cell::new(Tally::new());
+    let answered = find_each(alloc, flags, hint, Some(&tally), operands, streams);
+    print_count(alloc, tally.get(), answered, streams)
+}
+
+/// Finds the vectors in the operands.
+fn find_each<H: Host>(
+    alloc: Global,
+    flags: Flags,
+    hint: &Cell<Option<PrefixHint>>,
+    tally: Option<&Cell<Tally>>,
+    operands: &[Vec<u8>],
+    streams: &mut Streams<H>,
+) -> Served
+    ensures { ServesAll (find_ends flags) operands.now (state streams.old) (state streams.new) result }
+{
     let task = Find {
         form: form_of(flags),
         scoring: flags.scoring(),
         allow_incomplete: flags.allow_incomplete,
         assumed: flags.assumed,
-        hint: &hint,
+        gate: flags.gate_by(),
+        hint,
+        tally,
     };
-    let served = serve_operands(alloc, &task, operands, streams);
-    report_hint(hint.get(), &mut streams.errors);
-    served
+    serve_operands(alloc, &task, operands, streams)
 }
 
 /// Reports a hint, if there is one.
@@ -85,12 +141,16 @@ struct Find<'a> {
     allow_incomplete: bool,
     /// Of which version vectors are that lack their prefix, where no link says it.
     assumed: Option<Version>,
+    /// Which vectors are shown, and on which the command fails.
+    gate: Option<Gate>,
     /// Set to what is wrong with the prefix of the first vector that is rejected for it.
     hint: &'a Cell<Option<PrefixHint>>,
+    /// Where vectors are counted.
+    tally: Option<&'a Cell<Tally>>,
 }
 
 impl Task for Find<'_> {
-    ghost ends = { λ find. FindsVectors find.form find.scoring find.allow_incomplete find.assumed };
+    ghost ends = { λ find. FindsVectors find.form find.scoring find.allow_incomplete find.assumed find.gate };
 
     fn serve_input<R: Read, W: Write>(
         &self,
@@ -99,14 +159,70 @@ impl Task for Find<'_> {
         reader: &mut R,
         writer: &mut W,
     ) -> Result<Summary, RunFault> {
+        match self.form {
+            Form::Object => self.find_after(alloc, prefix, reader, writer),
+            Form::Located | Form::Annotated { .. } => {
+                self.find_after_shown(alloc, prefix, reader, writer)
+            }
+        }
+    }
+}
+
+impl Find<'_> {
+    /// Finds the vectors in an input. Each text begins with the prefix as it is shown.
+    fn find_after_shown<R: Read, W: Write>(
+        &self,
+        alloc: Global,
+        prefix: &[u8],
+        reader: &mut R,
+        writer: &mut W,
+    ) -> Result<Summary, RunFault>
+        ensures { Ends (find_rule self.now.form self.now.scoring self.now.allow_incomplete
+            self.now.assumed self.now.gate (shown_name prefix.now))
+            (R.remaining reader.old) (R.remaining reader.new)
+            (W.contents writer.old) (W.contents writer.new) result }
+    {
+        if is_plain(prefix) {
+            return self.find_after(alloc, prefix, reader, writer);
+        }
+        match shown(alloc, prefix) {
+            Ok(prefix) => self.find_after(alloc, &prefix, reader, writer),
+            Err(_) => Err(RunFault::Memory),
+        }
+    }
+
+    /// Finds the vectors in an input. Each text begins with the prefix, or each object says the file in it.
+    fn find_after<R: Read, W: Write>(
+        &self,
+        alloc: Global,
+        prefix: &[u8],
+        reader: &mut R,
+        writer: &mut W,
+    ) -> Result<Summary, RunFault>
+        ensures { Ends (find_rule self.now.form self.now.scoring self.now.allow_incomplete
+            self.now.assumed self.now.gate prefix.now)
+            (R.remaining reader.old) (R.remaining reader.new)
+            (W.contents writer.old) (W.contents writer.new) result }
+    {
         let finding = Finding {
             form: self.form,
             scoring: self.scoring,
             allow_incomplete: self.allow_incomplete,
             assumed: self.assumed,
+            gate: self.gate,
             prefix,
             hint: self.hint,
+            tally: self.tally,
         };
         run(&finding, alloc, reader, writer)
     }
+}
+
+/// A name as it is shown.
+fn shown(alloc: Global, name: &[u8]) -> Result<Vec<u8>, AllocError>
+    ensures { IfOk result (λ shown. shown.items ≡ shown_name name.now) }
+{
+    let mut shown = Growing::new(alloc);
+    put_shown(&mut shown, name);
+    shown.end()
 }

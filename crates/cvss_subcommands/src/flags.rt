@@ -1,9 +1,10 @@
 //! The options of subcommands.
 
 ghost use Rattle.std.specs.Prelude.{◌≡◌};
-ghost use Rattle.cvss_subcommands.specs.Flags.{all_scores_of, flag_name, has_value, no_flags, scoring_of, value_due, version_of, with_flag, with_value};
+ghost use Rattle.cvss_subcommands.specs.Flags.{all_scores_of, counting_gate_of, counts_of, flag_name, gate_by, gate_flag, gate_of, has_value, no_flags, scoring_of, value_due, version_of, with_flag, with_value};
 
 use crate::requests::is;
+use cvss_report::{Gate, threshold_of};
 use cvss_vector::{Scoring, Version};
 
 /// An option of some subcommands.
@@ -19,7 +20,22 @@ pub(crate) enum Flag {
     All,
     WhatIf,
     KeepGoing,
+    /// The first line of each input is its header.
+    Header,
     Document,
+    /// Of what --json prints.
+    Differing,
+    /// The score from which on vectors are shown is the next word.
+    Min,
+    /// The score from which on the command fails is the next word.
+    FailOn,
+    Quiet,
+    Count,
+    Standard,
+    Csv,
+    /// The name or the number of a column is the next word.
+    Column,
+    Guard,
     /// A metric and its value, as `E:A`, is the next word.
     Set,
     /// The name of a file is the next word.
@@ -39,7 +55,20 @@ pub(crate) struct Flags {
     pub(crate) all: bool,
     pub(crate) what_if: bool,
     pub(crate) keep_going: bool,
+    pub(crate) header: bool,
     pub(crate) document: bool,
+    pub(crate) differing: bool,
+    /// In tenths: the score from which on vectors are shown.
+    pub(crate) minimum: Option<u8>,
+    /// In tenths: the score from which on the command fails.
+    pub(crate) fail_on: Option<u8>,
+    pub(crate) quiet: bool,
+    pub(crate) count: bool,
+    pub(crate) standard: bool,
+    pub(crate) csv: bool,
+    /// Whether the option for it is given.
+    pub(crate) column: bool,
+    pub(crate) guard: bool,
 }
 
 impl Flag {
@@ -56,7 +85,17 @@ impl Flag {
             Flag::All => "--all",
             Flag::WhatIf => "--what-if",
             Flag::KeepGoing => "--keep-going",
+            Flag::Header => "--header",
             Flag::Document => "--document",
+            Flag::Differing => "--differing",
+            Flag::Min => "--min",
+            Flag::FailOn => "--fail-on",
+            Flag::Quiet => "--quiet",
+            Flag::Count => "--count",
+            Flag::Standard => "--standard",
+            Flag::Csv => "--csv",
+            Flag::Column => "--column",
+            Flag::Guard => "--guard",
             Flag::Set => "--set",
             Flag::Profile => "--profile",
         }
@@ -66,7 +105,10 @@ impl Flag {
     pub(crate) fn has_value(self) -> bool
         ensures { result ≡ has_value self }
     {
-        matches!(self, Flag::Assume | Flag::Set | Flag::Profile)
+        matches!(
+            self,
+            Flag::Assume | Flag::Min | Flag::FailOn | Flag::Column | Flag::Set | Flag::Profile
+        )
     }
 
     /// The option, if its value is the next word.
@@ -91,7 +133,17 @@ impl Flags {
             all: false,
             what_if: false,
             keep_going: false,
+            header: false,
             document: false,
+            differing: false,
+            minimum: None,
+            fail_on: None,
+            quiet: false,
+            count: false,
+            standard: false,
+            csv: false,
+            column: false,
+            guard: false,
         }
     }
 
@@ -108,8 +160,16 @@ impl Flags {
             Flag::All => Flags { all: true, ..self },
             Flag::WhatIf => Flags { what_if: true, ..self },
             Flag::KeepGoing => Flags { keep_going: true, ..self },
+            Flag::Header => Flags { header: true, ..self },
             Flag::Document => Flags { document: true, ..self },
-            Flag::Assume | Flag::Set | Flag::Profile => self,
+            Flag::Differing => Flags { differing: true, ..self },
+            Flag::Quiet => Flags { quiet: true, ..self },
+            Flag::Count => Flags { count: true, ..self },
+            Flag::Standard => Flags { standard: true, ..self },
+            Flag::Csv => Flags { csv: true, ..self },
+            Flag::Column => Flags { column: true, ..self },
+            Flag::Guard => Flags { guard: true, ..self },
+            Flag::Assume | Flag::Min | Flag::FailOn | Flag::Set | Flag::Profile => self,
         }
     }
 
@@ -121,6 +181,14 @@ impl Flags {
         match flag {
             Flag::Assume => match version_of(value) {
                 Some(version) => Some(Flags { assumed: Some(version), ..self }),
+                None => None,
+            },
+            Flag::Min => match threshold_of(value) {
+                Some(tenths) => Some(Flags { minimum: Some(tenths), ..self }),
+                None => None,
+            },
+            Flag::FailOn => match threshold_of(value) {
+                Some(tenths) => Some(Flags { fail_on: Some(tenths), ..self }),
                 None => None,
             },
             _ => Some(self),
@@ -135,6 +203,67 @@ impl Flags {
             Scoring::Base
         } else {
             Scoring::Overall
+        }
+    }
+
+    /// Which vectors are shown and which fail, if an option says it.
+    pub(crate) fn gate(self) -> Option<Gate>
+        ensures { result ≡ gate_of self }
+    {
+        if self.minimum.is_some() || self.fail_on.is_some() || self.quiet {
+            Some(Gate {
+                minimum: self.minimum.unwrap_or(0),
+                fail_on: self.fail_on,
+                quiet: self.quiet,
+            })
+        } else {
+            None
+        }
+    }
+
+    /// The same, where nothing is printed of a vector, since vectors are counted.
+    pub(crate) fn counting_gate(self) -> Gate
+        ensures { result ≡ counting_gate_of self }
+    {
+        Gate {
+            minimum: self.minimum.unwrap_or(0),
+            fail_on: self.fail_on,
+            quiet: true,
+        }
+    }
+
+    /// Whether the numbers of vectors are printed.
+    pub(crate) fn counts(self) -> bool
+        ensures { result ≡ counts_of self }
+    {
+        self.count && !self.quiet
+    }
+
+    /// The gate by which vectors are answered, which prints nothing of one where they are counted.
+    pub(crate) fn gate_by(self) -> Option<Gate>
+        ensures { result ≡ gate_by self }
+    {
+        if self.counts() {
+            Some(self.counting_gate())
+        } else {
+            self.gate()
+        }
+    }
+
+    /// The option that counts vectors, chooses some by their scores or prints nothing, if one is given.
+    pub(crate) fn gate_flag(self) -> Option<Flag>
+        ensures { result ≡ gate_flag self }
+    {
+        if self.count {
+            Some(Flag::Count)
+        } else if self.minimum.is_some() {
+            Some(Flag::Min)
+        } else if self.fail_on.is_some() {
+            Some(Flag::FailOn)
+        } else if self.quiet {
+            Some(Flag::Quiet)
+        } else {
+            None
         }
     }
 

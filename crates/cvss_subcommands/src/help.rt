@@ -12,20 +12,14 @@ pub(crate) const VERSION: &str = "cvss 2.0.0\n";
 
 /// What `help` prints.
 pub const USAGE: &str = "\
-usage: cvss score [--json|--tsv|--base] [--allow-incomplete] [VECTOR|FILE]..
-       cvss find [--json|[--annotate [--all]] [--base]] [--allow-incomplete]
-                 [--assume 3.0|3.1] [FILE]..
-       cvss explain [--json|--what-if] [--allow-incomplete] [VECTOR|FILE]..
-       cvss set METRIC:VALUE.. [--base] [--allow-incomplete] [VECTOR|FILE]..
-       cvss triage [--set METRIC:VALUE].. [--profile FILE].. [--keep-going]
-                   [--json] [--base] [--allow-incomplete] [VECTOR|FILE]..
-       cvss audit [--allow-incomplete] [--document] [FILE]..
+usage: cvss COMMAND [OPTION].. [VECTOR|FILE]..
        cvss help [COMMAND], cvss version, -h, --help, -V, --version
 
   score    the canonical vector, its score and severity for each line
   find     the same for each vector in any text, with its line and column
   explain  how the score is computed, as text or as one JSON object a line
   set      the same as score, with metrics replaced or added
+  diff     the metrics in which two vectors differ, and their scores
   triage   lines of any text ranked by the scores of their vectors
   audit    where JSON documents disagree with the vectors in them
 
@@ -33,60 +27,65 @@ An argument with a colon before its first slash is read as a vector; ./ before
 it makes it a file. Without either, or for -, standard input is read. Options
 may follow vectors and files; -- ends them, and --set=E:A is as --set E:A.
 
-  cvss score AV:N/AC:L/Au:N/C:N/I:N/A:C
+  cvss score CVSS:3.1/AV:N/AC:L/PR:N/UI:N/S:U/C:H/I:H/A:H
+  cvss help score
 
 Exit status: 0 on success, 1 if lines are rejected or documents disagree, else 2
 ";
 
 /// What `help score` prints.
 pub(crate) const SCORE_USAGE: &str = "\
-usage: cvss score [--json|--tsv|--base] [--allow-incomplete] [VECTOR|FILE]..
+usage: cvss score [--json|--tsv|--csv [--column C]|[--standard] [--count]]
+                  [--guard] [--base] [--min SCORE] [--fail-on SCORE] [--quiet]
+                  [--allow-incomplete] [VECTOR|FILE]..
 
-Prints a line for each vector (v2, v3.0, v3.1, v4.0), given as an argument or
-one per line in files or on standard input: the canonical vector, the score with
-all metrics in the vector and its severity, or `error: ` and the reason. With
-several files each line begins with the name of its file and a colon.
+Prints for each vector of v2 to v4.0, an argument or a line of a file or of
+standard input, the canonical vector, the score with all its metrics and its
+severity, or `error: ` and the reason; with several files after the file's name.
 
-  --tsv                tab-separated columns with a header: given, vector,
-                       version, base, temporal, environmental, score, severity,
-                       nomenclature, error; with several files first file
+  --tsv                columns: given, vector, version, base, temporal,
+                       environmental, score, severity, nomenclature, error
   --json               one object per line with the same members
-  --base               print the base score (v4.0: of CVSS-B) and its severity;
-                       --tsv and --json print all scores
-  --allow-incomplete   score v3 vectors that lack base metrics, which are
-                       rejected otherwise
+  --csv                CSV as it is, with six cells more in each record
+  --column C           its column with the vectors: a name, or a number from 1
+  --guard              an apostrophe before cells that a spreadsheet would run
+  --standard           reject what the standard of the version does not allow
+  --base               print and compare base scores (v4.0: of CVSS-B)
+  --min SCORE          pass over vectors that score less than 7.0 or high, say
+  --fail-on SCORE      exit with status 1 if a vector scores at least that
+  --count              print how many there are of each severity, and rejected
+  --quiet              print nothing
+  --allow-incomplete   score v3 vectors that lack base metrics
 
-  cvss score CVSS:3.1/AV:N/AC:L/PR:N/UI:N/S:U/C:H/I:H/A:H
-  cvss score --tsv list.txt
-
+  cvss score --min high --fail-on 9.0 list.txt
 Exit status: 0 on success; 1 if a line is rejected; 2 on usage or I/O errors.
 ";
 
 /// What `help find` prints.
 pub(crate) const FIND_USAGE: &str = "\
-usage: cvss find [--json|[--annotate [--all]] [--base]] [--allow-incomplete]
+usage: cvss find [--json|[--annotate [--all]|--count] [--base]] [--min SCORE]
+                 [--fail-on SCORE] [--quiet] [--allow-incomplete]
                  [--assume 3.0|3.1] [FILE]..
 
-Finds the vectors in any text, of any bytes. For each it prints LINE:COLUMN
-(both from 1, in bytes), a space and the line that cvss score prints for it.
-With several files each line begins with the name of its file and a colon.
-
-Vectors in links and JSON are decoded. Rejected are vectors without a prefix, as
-AV:N/AC:L/PR:N.. (unless --assume or a link says the version), with a prefix in
-lower case or without its colon, as cvss:3.1/ and CVSS3.1/, and before a slash
-that ends the line, since a vector may go on in the next line.
+Finds the vectors in any text, of any bytes, also in links and JSON. For each it
+prints LINE:COLUMN (both from 1, in bytes), a space and the line of cvss score;
+with several files the name of the file and a colon before that. Rejected are
+vectors without a prefix, as AV:N/AC:L/PR:N.. (unless --assume or a link says
+their version), with a misspelled one, as cvss:3.1/ and CVSS3.1/, and before a
+slash that ends the line, since a vector may go on in the next line.
 
   --annotate           repeat each line, then a tab and what is printed for its
                        first vector; with --all for each of its vectors
   --json               one object for each vector: line, column, text, and the
                        members of cvss score --json
   --base               print base scores (--json prints all scores)
+  --min, --fail-on     pass over vectors, or fail, by their scores, and
+  --count, --quiet     print numbers or nothing, as cvss score; not annotated
   --allow-incomplete   score vectors before such a slash, and v3 vectors that
                        lack base metrics
   --assume VERSION     read v3 vectors without a prefix as of v3.0 or v3.1
 
   cvss find --annotate findings.tsv
-
 Exit status: 0 on success; 1 if a vector is rejected; 2 on usage or I/O errors.
 ";
 
@@ -134,7 +133,8 @@ Exit status: 0 on success; 1 if a line is rejected; 2 on usage or I/O errors.
 /// What `help triage` prints.
 pub(crate) const TRIAGE_USAGE: &str = "\
 usage: cvss triage [--set METRIC:VALUE].. [--profile FILE].. [--keep-going]
-                   [--json] [--base] [--allow-incomplete] [VECTOR|FILE]..
+                   [--header] [--json|--count] [--quiet] [--base] [--min SCORE]
+                   [--fail-on SCORE] [--allow-incomplete] [VECTOR|FILE]..
 
 Ranks lines by the scores of the vectors (v2, v3.0, v3.1, v4.0) in them, highest
 first, after --set and --profile. For each line it prints the score with all
@@ -144,43 +144,69 @@ metrics in the vector, its severity, the vector, a tab and the line.
   --profile FILE       set the metrics in FILE, which has a partial vector per
                        line: CVSS:4.0/CR:H/MAV:A, CVSS:3.1/CR:H (for v3.0 too),
                        CR:H/CDP:H (v2)
-  --keep-going         skip a line that has no vector or more than one, or whose
-                       vector is rejected; otherwise nothing is printed then
-  --json               one object for each line: file (if there are several),
-                       line, text, and the members of cvss score --json
+  --keep-going         skip lines without one vector; otherwise print nothing
+  --header             keep the first line on top, and skip those of other files
+  --json               one object a line with the members of cvss score --json
   --base               rank by base scores (v4.0: of CVSS-B)
+  --min SCORE          pass over vectors that score less than 7.0 or high, say
+  --fail-on SCORE      exit with status 1 if a vector scores at least that
+  --count              print how many there are of each severity, and skipped
+  --quiet              print no rows
   --allow-incomplete   score v3 vectors that lack base metrics
 
   cvss triage --set E:A --profile ours.txt --keep-going list.txt
-
 Exit status: 0 on success; 1 if a line was skipped; 2 on usage or I/O errors.
 ";
 
 /// What `help audit` prints.
 pub(crate) const AUDIT_USAGE: &str = "\
-usage: cvss audit [--allow-incomplete] [--document] [FILE]..
+usage: cvss audit [--json [--differing]|--count] [--min SCORE]
+                  [--fail-on SCORE] [--quiet] [--allow-incomplete]
+                  [--document] [FILE]..
 
 Finds the CVSS vectors in JSON documents (NVD, CVE, CSAF, OSV, GitHub,
-CycloneDX, SPDX, Trivy, grype, cargo-audit) and prints one JSON object for each:
-where it is, what it is, and under differs each member of the document that
-disagrees with it.
+CycloneDX, SPDX, Trivy, grype, cargo-audit) and prints a line for each member
+that disagrees with its vector, each rejected vector, and each v3 vector that
+lacks base metrics. A last line on standard error counts documents, vectors and
+disagreements. An input is one document, or has one per line if its first line
+is one by itself. With several files each line begins with the name of its file.
 
-A file is one document, or one per line if its first line is a document by
-itself. Standard input has one per line. With several files each object has a
-member file.
-
+  --json               one object for each vector, with what disagrees in it
+  --differing          with --json: only vectors that would have a line
+  --min SCORE          pass over vectors that score less than 7.0 or high, say
+  --fail-on SCORE      exit with status 1 if a vector scores at least that
+  --count              print how many there are of each severity, and rejected
+  --quiet              print nothing
   --allow-incomplete   v3 vectors that lack base metrics are no findings
   --document           each input is one document
 
-  cvss audit nvd.json | jq -c 'select(.differs)'
-
+  cvss audit --json --differing nvd.json | jq -c '{at, differs}'
 Exit status: 0 on success; 1 if a vector is rejected or lacks metrics, or a
 document disagrees or is not JSON; 2 on usage or I/O errors.
 ";
 
+/// What `help diff` prints.
+pub(crate) const DIFF_USAGE: &str = "\
+usage: cvss diff [--base] [--allow-incomplete] VECTOR VECTOR
+
+Prints a line for each metric in which two vectors of one version differ, as
+`E: X -> P` (a hyphen for a metric that a vector lacks), and then their scores.
+In place of the second a file or - may be given: each of its lines is compared
+with the first.
+
+  --base               compare base scores (v4.0: of CVSS-B)
+  --allow-incomplete   compare v3 vectors that lack base metrics
+
+  cvss diff CVSS:3.1/AV:N/AC:L/PR:N/UI:N/S:U/C:H/I:H/A:H \\
+            CVSS:3.1/AV:N/AC:H/PR:N/UI:N/S:U/C:H/I:H/A:H/E:P
+
+Exit status: 0 on success; 1 if a vector is rejected or the versions differ; 2
+on usage or I/O errors.
+";
+
 /// The help on a subcommand, or on all.
 pub(crate) fn help_of(topic: Option<Subcommand>) -> &'static str
-    ensures text { result.now ≡ help_of USAGE.now SCORE_USAGE.now FIND_USAGE.now EXPLAIN_USAGE.now SET_USAGE.now TRIAGE_USAGE.now AUDIT_USAGE.now topic }
+    ensures text { result.now ≡ help_of USAGE.now SCORE_USAGE.now FIND_USAGE.now EXPLAIN_USAGE.now SET_USAGE.now TRIAGE_USAGE.now AUDIT_USAGE.now DIFF_USAGE.now topic }
     ensures start { StartsWith result.now (help_start topic) }
 {
     match topic {
@@ -191,5 +217,6 @@ pub(crate) fn help_of(topic: Option<Subcommand>) -> &'static str
         Some(Subcommand::Set) => SET_USAGE,
         Some(Subcommand::Triage) => TRIAGE_USAGE,
         Some(Subcommand::Audit) => AUDIT_USAGE,
+        Some(Subcommand::Diff) => DIFF_USAGE,
     }
 }

@@ -10,7 +10,7 @@ use cvss_frame::{Source, source_of};
 use cvss_vector::{Cvss, Version};
 
 /// What would make a rejected text a vector.
-#[derive(Drop)]
+#[derive(Clone, Copy, Drop)]
 pub enum Hint {
     /// The version 3.1 before it.
     Version,
@@ -68,7 +68,7 @@ fn is_rejected(word: &[u8]) -> bool
 }
 
 /// The first of the hints that holds for a text.
-fn hint_that_holds(text: &[u8]) -> Option<Hint>
+pub(crate) fn hint_that_holds(text: &[u8]) -> Option<Hint>
     ensures { MatchOption result ((hint : Hint) → ¬ (Holds hint text.now)) (λ hint. Holds hint text.now) }
 {
     if make_complete(Version::V31, text) {

@@ -1,12 +1,18 @@
 //! What the command `cvss` does: its arguments, its subcommands, and a task for each.
 #![tactic(auto)]
 
+mod audit;
 mod command;
+mod conflicts;
+mod counting;
+mod csv;
+mod diff;
 mod explain;
 mod find;
 mod flags;
 mod help;
 mod hint;
+pub mod laws;
 mod ordering;
 mod requests;
 mod running;

@@ -4,8 +4,9 @@ ghost use Rattle.std.specs.Prelude.{◌≡◌, ◌<◌, ◌==◌, IfSome, None, 
 ghost use Rattle.std.specs.List.{position};
 ghost use Rattle.cvss_subcommands.specs.Flags.{no_flags};
 ghost use Rattle.cvss_subcommands.specs.Arguments.{is_option};
-ghost use Rattle.cvss_subcommands.specs.Requests.{alone as alone_of, flag_of, found, help_request as help_of, is_help, is_setting, is_version, metric_word, named as named_by, read_words, request_of, word_of};
+ghost use Rattle.cvss_subcommands.specs.Requests.{alone as alone_of, flag_of, found, help_request as help_of, is_help, is_setting, is_version, metric_word, named as named_by, read_words, request_of, value_error, word_of};
 
+use crate::conflicts::conflict_of;
 use crate::flags::{Flag, Flags};
 use crate::subcommand::Subcommand;
 use crate::usage_error::UsageError;
@@ -100,7 +101,7 @@ fn read_words(subcommand: Subcommand, words: &[Vec<u8>]) -> Request
                     flags = given;
                     due = None;
                 }
-                None => return Request::Wrong(UsageError::UnknownVersion(subcommand, left.len())),
+                None => return Request::Wrong(value_error(flag, subcommand, left.len())),
             },
             None => match word_of(subcommand, word) {
                 Word::End => return found(subcommand, flags, read, rest.len()),
@@ -188,8 +189,8 @@ pub(crate) fn flag_of(subcommand: Subcommand, word: &[u8]) -> Option<Flag>
 fn found(subcommand: Subcommand, flags: Flags, words: usize, operands: usize) -> Request
     ensures { result ≡ found subcommand flags words operands }
 {
-    match flags.all_scores() {
-        Some(flag) => Request::Wrong(UsageError::AllScores(subcommand, flag)),
+    match conflict_of(subcommand, flags, operands) {
+        Some(error) => Request::Wrong(error),
         None => {
             let options = Options {
                 flags,
@@ -198,6 +199,16 @@ fn found(subcommand: Subcommand, flags: Flags, words: usize, operands: usize) ->
             };
             Request::Run(subcommand, options)
         }
+    }
+}
+
+/// The error of a value that an option cannot have, so many words from the end.
+fn value_error(flag: Flag, subcommand: Subcommand, left: usize) -> UsageError
+    ensures { result ≡ value_error flag subcommand left }
+{
+    match flag {
+        Flag::Assume => UsageError::UnknownVersion(subcommand, left),
+        _ => UsageError::NotScore(subcommand, left),
     }
 }
 

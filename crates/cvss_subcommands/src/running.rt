@@ -4,14 +4,18 @@ ghost use Rattle.std.specs.Prelude.{◌≡◌, ◌↔◌, IsTrue, MatchResult};
 ghost use Rattle.cvss_frame.specs.Reports.{Reports, reported};
 ghost use Rattle.cvss_frame.specs.Streams.{state};
 ghost use Rattle.cvss_subcommands.specs.Done.{help_of};
-ghost use Rattle.cvss_subcommands.specs.Ending.{EndsBefore, EndsCommand, EndsOrdered, EndsServed, IsClosed, ReportsHint, ReportsNote, ReportsStop, ReportsWrite, fault_report, is_audit, is_silent};
+ghost use Rattle.cvss_subcommands.specs.Ending.{EndsBefore, EndsCommand, EndsOrdered, EndsServed, IsClosed, ReportsHint, ReportsNote, ReportsStop, ReportsWrite, fault_report, has_each, is_silent, prints_each};
+ghost use Rattle.cvss_subcommands.specs.Requests.{request_of};
 
 use crate::command::run_command;
+use crate::flags::Flags;
 use crate::help::{
-    AUDIT_USAGE, EXPLAIN_USAGE, FIND_USAGE, SCORE_USAGE, SET_USAGE, TRIAGE_USAGE, USAGE, VERSION,
+    AUDIT_USAGE, DIFF_USAGE, EXPLAIN_USAGE, FIND_USAGE, SCORE_USAGE, SET_USAGE, TRIAGE_USAGE,
+    USAGE, VERSION,
 };
 use crate::hint::first_hint;
 use crate::ordering::options_first;
+use crate::requests::{Request, request_of};
 use crate::subcommand::Subcommand;
 use crate::usage_error::report_usage;
 use cvss_frame::{Host, Report, Served, Streams, exit_status, report_error};
@@ -28,7 +32,7 @@ pub fn run<H: Host>(
 ) -> u8
     ensures { MatchResult arguments
         (λ arguments. EndsOrdered
-        (help_of USAGE.now SCORE_USAGE.now FIND_USAGE.now EXPLAIN_USAGE.now SET_USAGE.now TRIAGE_USAGE.now AUDIT_USAGE.now)
+        (help_of USAGE.now SCORE_USAGE.now FIND_USAGE.now EXPLAIN_USAGE.now SET_USAGE.now TRIAGE_USAGE.now AUDIT_USAGE.now DIFF_USAGE.now)
         VERSION.now arguments.items (state streams.old) (state streams.new)
         streams.new.output.has_taken streams.new.output.error result)
         (λ _. EndsBefore (state streams.old) (state streams.new) result) }
@@ -51,7 +55,7 @@ pub fn run<H: Host>(
 /// Does what the arguments ask for.
 fn run_with<H: Host>(alloc: Global, arguments: &[Vec<u8>], streams: &mut Streams<H>) -> u8
     ensures { EndsCommand
-        (help_of USAGE.now SCORE_USAGE.now FIND_USAGE.now EXPLAIN_USAGE.now SET_USAGE.now TRIAGE_USAGE.now AUDIT_USAGE.now)
+        (help_of USAGE.now SCORE_USAGE.now FIND_USAGE.now EXPLAIN_USAGE.now SET_USAGE.now TRIAGE_USAGE.now AUDIT_USAGE.now DIFF_USAGE.now)
         VERSION.now arguments.now (state streams.old) (state streams.new)
         streams.new.output.has_taken streams.new.output.error result }
 {
@@ -88,7 +92,7 @@ fn end<E: Write>(
     report_stop(served.stopped, error, report);
     let status = exit_status(served, is_closed(error));
     report_note(
-        is_audit(arguments) && is_silent(status, has_taken, error),
+        prints_each(arguments) && is_silent(status, has_taken, error),
         report,
     );
     status
@@ -161,14 +165,21 @@ fn is_closed(error: Option<io::Error>) -> bool
     }
 }
 
-/// Whether arguments ask for an audit.
-fn is_audit(arguments: &[Vec<u8>]) -> bool
-    ensures { result ≡ is_audit arguments.now }
+/// Whether arguments ask for an audit that prints an object for each vector.
+fn prints_each(arguments: &[Vec<u8>]) -> bool
+    ensures { result ≡ prints_each (request_of arguments.now) }
 {
-    match arguments {
-        [word, ..] => word.as_slice() == Subcommand::Audit.name().as_bytes(),
-        [] => false,
+    match request_of(arguments) {
+        Request::Run(Subcommand::Audit, options) => has_each(options.flags),
+        _ => false,
     }
+}
+
+/// Whether each vector has an object, and none is passed over.
+fn has_each(flags: Flags) -> bool
+    ensures { result ≡ has_each flags }
+{
+    (flags.json && !flags.differing) && (!flags.quiet && flags.minimum.is_none())
 }
 
 /// Whether nothing disagrees, nothing was written and nothing failed.

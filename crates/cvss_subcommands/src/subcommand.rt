@@ -14,16 +14,18 @@ pub(crate) enum Subcommand {
     Set,
     Triage,
     Audit,
+    Diff,
 }
 
 impl Subcommand {
-    pub(crate) const ALL: [Subcommand; 6] = [
+    pub(crate) const ALL: [Subcommand; 7] = [
         Subcommand::Score,
         Subcommand::Find,
         Subcommand::Explain,
         Subcommand::Set,
         Subcommand::Triage,
         Subcommand::Audit,
+        Subcommand::Diff,
     ];
 
     pub(crate) fn name(self) -> &'static str
@@ -36,6 +38,7 @@ impl Subcommand {
             Subcommand::Set => "set",
             Subcommand::Triage => "triage",
             Subcommand::Audit => "audit",
+            Subcommand::Diff => "diff",
         }
     }
 
@@ -45,13 +48,32 @@ impl Subcommand {
         ensures { result.now ≡ flags_of self }
     {
         match self {
-            Subcommand::Score => &[Flag::Json, Flag::Tsv, Flag::Base, Flag::AllowIncomplete],
+            Subcommand::Score => {
+                &[
+                    Flag::Json,
+                    Flag::Tsv,
+                    Flag::Csv,
+                    Flag::Column,
+                    Flag::Guard,
+                    Flag::Base,
+                    Flag::Standard,
+                    Flag::Min,
+                    Flag::FailOn,
+                    Flag::Count,
+                    Flag::Quiet,
+                    Flag::AllowIncomplete,
+                ]
+            }
             Subcommand::Find => {
                 &[
                     Flag::Json,
                     Flag::Annotate,
                     Flag::All,
                     Flag::Base,
+                    Flag::Min,
+                    Flag::FailOn,
+                    Flag::Count,
+                    Flag::Quiet,
                     Flag::AllowIncomplete,
                     Flag::Assume,
                 ]
@@ -63,12 +85,29 @@ impl Subcommand {
                     Flag::Set,
                     Flag::Profile,
                     Flag::KeepGoing,
+                    Flag::Header,
                     Flag::Json,
                     Flag::Base,
+                    Flag::Min,
+                    Flag::FailOn,
+                    Flag::Count,
+                    Flag::Quiet,
                     Flag::AllowIncomplete,
                 ]
             }
-            Subcommand::Audit => &[Flag::AllowIncomplete, Flag::Document],
+            Subcommand::Audit => {
+                &[
+                    Flag::Json,
+                    Flag::Differing,
+                    Flag::Min,
+                    Flag::FailOn,
+                    Flag::Count,
+                    Flag::Quiet,
+                    Flag::AllowIncomplete,
+                    Flag::Document,
+                ]
+            }
+            Subcommand::Diff => &[Flag::Base, Flag::AllowIncomplete],
         }
     }
 

@@ -2,13 +2,14 @@
 
 ghost use Rattle.std.specs.Prelude.{◌≡◌, IfOk, map};
 ghost use Rattle.cvss_frame.specs.Streams.{state};
-ghost use Rattle.cvss_subcommands.specs.Triaging.{asked_by, kind_of, settings_of};
+ghost use Rattle.cvss_subcommands.specs.Triaging.{asked_by, kind_of, rows_gate, settings_of};
 ghost use Rattle.cvss_triage.specs.Settings.{as_words};
 ghost use Rattle.cvss_triage.specs.Triage.{Triages};
 
 use crate::flags::{Flag, Flags};
 use cvss_frame::{Host, Served, Streams};
 use cvss_lines::RunFault;
+use cvss_report::Gate;
 use cvss_triage::{Setting, SettingKind, Triage, rank_operands};
 use std::alloc::{AllocError, Global};
 
@@ -30,10 +31,24 @@ pub(crate) fn triage_lines<H: Host>(
         settings: &settings,
         keep_going: flags.keep_going,
         scoring: flags.scoring(),
+        gate: rows_gate(flags),
         allow_incomplete: flags.allow_incomplete,
+        count: flags.counts(),
         json: flags.json,
+        header: flags.header,
     };
     rank_operands(alloc, &asked, operands, streams)
+}
+
+/// Which rows are shown and on which triage fails: all and none where no option says it.
+fn rows_gate(flags: Flags) -> Gate
+    ensures { result ≡ rows_gate flags }
+{
+    Gate {
+        minimum: flags.minimum.unwrap_or(0),
+        fail_on: flags.fail_on,
+        quiet: flags.quiet,
+    }
 }
 
 /// What the words of the options set.

@@ -2,7 +2,7 @@
 
 ghost use Rattle.std.specs.Prelude.{◌≡◌};
 ghost use Rattle.cvss_frame.specs.Reports.{Reports, reported};
-ghost use Rattle.cvss_subcommands.specs.UsageErrors.{help_command, line_about, usage_report, word_at};
+ghost use Rattle.cvss_subcommands.specs.UsageErrors.{help_command, line_about, needs_text, not_with_text, usage_report, word_at};
 
 use crate::command::last;
 use crate::flags::Flag;
@@ -26,6 +26,8 @@ pub(crate) enum UsageError {
     NoValue(Subcommand),
     /// The word is no version that vectors can be assumed to have.
     UnknownVersion(Subcommand, usize),
+    /// The word is no score, nor the name of a severity.
+    NotScore(Subcommand, usize),
     /// The word is to be a metric and its value.
     NotMetric(usize),
     /// There is no metric to set.
@@ -34,6 +36,14 @@ pub(crate) enum UsageError {
     NotUtf8,
     /// `--base` is given with an option whose output has all scores.
     AllScores(Subcommand, Flag),
+    /// The option is given without `--csv`, which it is of.
+    NeedsTable(Flag),
+    /// The option is given with one with which it does not go.
+    NotWith(Subcommand, Flag, Flag),
+    /// There are more or fewer than two vectors to compare.
+    NotTwo,
+    /// The option is given without `--json`, which it is of.
+    NeedsJson(Subcommand, Flag),
 }
 
 /// Reports what is wrong with the arguments.
@@ -79,6 +89,13 @@ pub(crate) fn report_usage<E: Write>(
                 report,
             );
         }
+        UsageError::NotScore(subcommand, left) => {
+            let (word, after) = (
+                word_at(arguments, left),
+                "' is not a score or a severity; see '",
+            );
+            report_about("cvss: '", word, after, Some(subcommand), report);
+        }
         UsageError::NotMetric(left) => {
             let (word, after) = (word_at(arguments, left), "' is not METRIC:VALUE; see '");
             report_about("cvss: '", word, after, Some(Subcommand::Set), report);
@@ -92,25 +109,67 @@ pub(crate) fn report_usage<E: Write>(
             let (word, after) = (flag.name().as_bytes(), "', which prints all scores; see '");
             report_about(before, word, after, Some(subcommand), report);
         }
+        UsageError::NeedsTable(flag) => {
+            let (word, after) = (flag.name().as_bytes(), needs_text(flag));
+            let topic = Some(Subcommand::Score);
+            report_about("cvss: option '", word, after, topic, report);
+        }
+        UsageError::NotTwo => {
+            report.write(b"cvss: two vectors are compared; see 'cvss help diff'\n");
+        }
+        UsageError::NotWith(subcommand, flag, other) => {
+            let (word, after) = (flag.name().as_bytes(), not_with_text(other));
+            report_about("cvss: option '", word, after, Some(subcommand), report);
+        }
+        UsageError::NeedsJson(subcommand, flag) => {
+            let (word, after) = (flag.name().as_bytes(), "' needs --json; see '");
+            report_about("cvss: option '", word, after, Some(subcommand), report);
+        }
+    }
+}
+
+/// What is said of an option that does not go with another.
+fn not_with_text(other: Flag) -> &'static str
+    ensures { result.now ≡ not_with_text other }
+{
+    match other {
+        Flag::Json => "' does not go with --json; see '",
+        Flag::Standard => "' does not go with --standard; see '",
+        Flag::Count => "' does not go with --count; see '",
+        Flag::Min => "' does not go with --min; see '",
+        Flag::FailOn => "' does not go with --fail-on; see '",
+        Flag::Quiet => "' does not go with --quiet; see '",
+        Flag::Annotate => "' does not go with --annotate; see '",
+        _ => "' does not go with --tsv; see '",
+    }
+}
+
+/// What is said of an option that needs a table.
+fn needs_text(flag: Flag) -> &'static str
+    ensures { result.now ≡ needs_text flag }
+{
+    match flag {
+        Flag::Column => "' needs --csv; see '",
+        _ => "' needs --csv or --tsv; see '",
     }
 }
 
 /// Reports a line about a word, and which help to see.
-fn report_about<E: Write>(
-    before: &str,
-    word: &[u8],
-    after: &str,
+fn report_about<'x, E: Write>(
+    before: &'x str,
+    word: &'x [u8],
+    after: &'x str,
     topic: Option<Subcommand>,
     report: &mut Report<E>,
 )
     ensures { Reports (reported E.contents report.old) (reported E.contents report.new)
         (line_about before.now word.now after.now topic) }
 {
-    report.write(before.as_bytes());
-    report.write(word);
-    report.write(after.as_bytes());
-    report.write(help_command(topic).as_bytes());
-    report.write(b"'\n");
+    let help: &'x str = help_command(topic);
+    let end: &'x [u8] = b"'\n";
+    let (before, after, help) = (before.as_bytes(), after.as_bytes(), help.as_bytes());
+    let parts: [&'x [u8]; 5] = [before, word, after, help, end];
+    report.write_parts(&parts);
 }
 
 /// The first of the last so many arguments.
@@ -135,5 +194,6 @@ fn help_command(topic: Option<Subcommand>) -> &'static str
         Some(Subcommand::Set) => "cvss help set",
         Some(Subcommand::Triage) => "cvss help triage",
         Some(Subcommand::Audit) => "cvss help audit",
+        Some(Subcommand::Diff) => "cvss help diff",
     }
 }

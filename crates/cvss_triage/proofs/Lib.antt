@@ -1,3 +1,5 @@
+mod CountLemmas
+mod DenotingLemmas
 mod OwnLemmas
 mod RankLemmas
 mod ReadsLemmas

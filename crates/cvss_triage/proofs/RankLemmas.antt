@@ -1,5 +1,5 @@
 -- Lines whose rows are made one after another.
-use Rattle.std.proofs.Common.{◌≡◌, inl, inr, ℕ, suc, ◌+◌, Bool, List, [], ◌∷◌, ◌++◌, All, length, None, Some, ◌≤◌, IsPermutation, refl, ap, subst, arith}
+use Rattle.std.proofs.Common.{◌≡◌, inl, inr, ℕ, suc, ◌+◌, Bool, List, [], ◌∷◌, ◌++◌, All, length, Option, None, Some, ◌≤◌, IsPermutation, refl, ap, subst, arith}
 use Rattle.std.proofs.lemmas.List.Elements.{All-push}
 use Rattle.std.proofs.lemmas.List.Sorted.{All-permutation}
 use Rattle.cvss_vector.specs.Answers.{score_of_tenths}
@@ -22,28 +22,48 @@ use Rattle.cvss_triage.specs.private.Steps.{AreOwnMetrics, IsReadBy, IsToTen}
 
 module _ (overrides : List Override) (scoring : Scoring) (allow_incomplete : Bool) (line : List ℕ) where
   -- one line more that has a row
-  AreRead_row : (number : ℕ) (lines : List (List ℕ)) (rows : List Row) (bad : List BadLine) (row : Row) → AreRead overrides scoring allow_incomplete number lines rows bad → IsRow overrides scoring allow_incomplete (number + length lines) line row
-      → AreRead overrides scoring allow_incomplete number (lines ++ line ∷ []) (rows ++ row ∷ []) bad
+  AreRead_row : (number : ℕ) (lines : List (Option (List ℕ))) (rows : List Row) (bad : List BadLine) (row : Row) → AreRead overrides scoring allow_incomplete number lines rows bad → IsRow overrides scoring allow_incomplete (number + length lines) line row
+      → AreRead overrides scoring allow_incomplete number (lines ++ Some line ∷ []) (rows ++ row ∷ []) bad
   AreRead_row number [] rows bad row are is =
       inl (row, [], ap (λ each. each ++ row ∷ []) are.0, subst (λ each. IsRow overrides scoring allow_incomplete each line row) (omega arith) is, (refl, are.1))
-  AreRead_row number (first ∷ lines) rows bad row (inl (it, more, same, own, are)) is =
+  AreRead_row number (None ∷ lines) rows bad row are is =
+      AreRead_row (suc number) lines rows bad row are (subst (λ each. IsRow overrides scoring allow_incomplete each line row) (omega arith) is)
+  AreRead_row number (Some first ∷ lines) rows bad row (inl (it, more, same, own, are)) is =
       inl (it, more ++ row ∷ [], ap (λ each. each ++ row ∷ []) same, own, AreRead_row (suc number) lines more bad row are (subst (λ each. IsRow overrides scoring allow_incomplete each line row) (omega arith) is))
-  AreRead_row number (first ∷ lines) rows bad row (inr (it, more, same, own, are)) is =
+  AreRead_row number (Some first ∷ lines) rows bad row (inr (it, more, same, own, are)) is =
       inr (it, more, same, own, AreRead_row (suc number) lines rows more row are (subst (λ each. IsRow overrides scoring allow_incomplete each line row) (omega arith) is))
 
   -- one line more that is bad
-  AreRead_bad : (number : ℕ) (lines : List (List ℕ)) (rows : List Row) (bad : List BadLine) (it : BadLine) → AreRead overrides scoring allow_incomplete number lines rows bad → IsBad overrides allow_incomplete (number + length lines) line it
-      → AreRead overrides scoring allow_incomplete number (lines ++ line ∷ []) rows (bad ++ it ∷ [])
+  AreRead_bad : (number : ℕ) (lines : List (Option (List ℕ))) (rows : List Row) (bad : List BadLine) (it : BadLine) → AreRead overrides scoring allow_incomplete number lines rows bad → IsBad overrides allow_incomplete (number + length lines) line it
+      → AreRead overrides scoring allow_incomplete number (lines ++ Some line ∷ []) rows (bad ++ it ∷ [])
   AreRead_bad number [] rows bad it are is =
       inr (it, [], ap (λ each. each ++ it ∷ []) are.1, subst (λ each. IsBad overrides allow_incomplete each line it) (omega arith) is, (are.0, refl))
-  AreRead_bad number (first ∷ lines) rows bad it (inl (row, more, same, own, are)) is =
+  AreRead_bad number (None ∷ lines) rows bad it are is =
+      AreRead_bad (suc number) lines rows bad it are (subst (λ each. IsBad overrides allow_incomplete each line it) (omega arith) is)
+  AreRead_bad number (Some first ∷ lines) rows bad it (inl (row, more, same, own, are)) is =
       inl (row, more, same, own, AreRead_bad (suc number) lines more bad it are (subst (λ each. IsBad overrides allow_incomplete each line it) (omega arith) is))
-  AreRead_bad number (first ∷ lines) rows bad it (inr (other, more, same, own, are)) is =
+  AreRead_bad number (Some first ∷ lines) rows bad it (inr (other, more, same, own, are)) is =
       inr (other, more ++ it ∷ [], ap (λ each. each ++ it ∷ []) same, own, AreRead_bad (suc number) lines rows more it are (subst (λ each. IsBad overrides allow_incomplete each line it) (omega arith) is))
 
-module _ (rules : Rules) (number : ℕ) (line : List ℕ) (lines : List (List ℕ)) (count : length lines + 1 ≡ number) (rows : List Row) (bad : List BadLine) (read : IsReadBy rules lines rows bad) where
+-- one line more that is left out
+AreRead_none : (overrides : List Override) (scoring : Scoring) (allow_incomplete : Bool) (number : ℕ) (lines : List (Option (List ℕ))) (rows : List Row) (bad : List BadLine)
+    → AreRead overrides scoring allow_incomplete number lines rows bad → AreRead overrides scoring allow_incomplete number (lines ++ None ∷ []) rows bad
+AreRead_none overrides scoring allow_incomplete number [] rows bad are = are
+AreRead_none overrides scoring allow_incomplete number (None ∷ lines) rows bad are = AreRead_none overrides scoring allow_incomplete (suc number) lines rows bad are
+AreRead_none overrides scoring allow_incomplete number (Some first ∷ lines) rows bad (inl (it, more, same, own, are)) =
+    inl (it, more, same, own, AreRead_none overrides scoring allow_incomplete (suc number) lines more bad are)
+AreRead_none overrides scoring allow_incomplete number (Some first ∷ lines) rows bad (inr (it, more, same, own, are)) =
+    inr (it, more, same, own, AreRead_none overrides scoring allow_incomplete (suc number) lines rows more are)
+
+pub reads_none : (rules : Rules) (lines : List (Option (List ℕ))) (rows : List Row) (bad : List BadLine) → IsReadBy rules lines rows bad → IsReadBy rules (lines ++ None ∷ []) rows bad
+reads_none rules lines rows bad read = record {
+  read = λ overrides own. AreRead_none overrides rules.scoring rules.allow_incomplete 1 lines rows bad (read.read overrides own);
+  to_ten = read.to_ten;
+}
+
+module _ (rules : Rules) (number : ℕ) (line : List ℕ) (lines : List (Option (List ℕ))) (count : length lines + 1 ≡ number) (rows : List Row) (bad : List BadLine) (read : IsReadBy rules lines rows bad) where
   -- the line of the next number, which has a row
-  pub reads_row : (row : Row) → ((overrides : List Override) → AreOwnMetrics overrides rules.own → IsRow overrides rules.scoring rules.allow_incomplete number line row) → IsToTen row → IsReadBy rules (lines ++ line ∷ []) (rows ++ row ∷ []) bad
+  pub reads_row : (row : Row) → ((overrides : List Override) → AreOwnMetrics overrides rules.own → IsRow overrides rules.scoring rules.allow_incomplete number line row) → IsToTen row → IsReadBy rules (lines ++ Some line ∷ []) (rows ++ row ∷ []) bad
   reads_row row is to_ten = record {
     read = λ overrides own.
         AreRead_row overrides rules.scoring rules.allow_incomplete line 1 lines rows bad row (read.read overrides own)
@@ -52,7 +72,7 @@ module _ (rules : Rules) (number : ℕ) (line : List ℕ) (lines : List (List �
   }
 
   -- or is bad
-  pub reads_bad : (it : BadLine) → ((overrides : List Override) → AreOwnMetrics overrides rules.own → IsBad overrides rules.allow_incomplete number line it) → IsReadBy rules (lines ++ line ∷ []) rows (bad ++ it ∷ [])
+  pub reads_bad : (it : BadLine) → ((overrides : List Override) → AreOwnMetrics overrides rules.own → IsBad overrides rules.allow_incomplete number line it) → IsReadBy rules (lines ++ Some line ∷ []) rows (bad ++ it ∷ [])
   reads_bad it is = record {
     read = λ overrides own.
         AreRead_bad overrides rules.scoring rules.allow_incomplete line 1 lines rows bad it (read.read overrides own)

@@ -1,5 +1,5 @@
 -- What is read of the inputs, each of which is read whole, and their lines.
-use Rattle.std.specs.Prelude.{◌≡◌, ℕ, List, [], ◌∷◌, codes, flat_map, Option, None, Some, Ok, Err}
+use Rattle.std.specs.Prelude.{◌≡◌, ℕ, Bool, true, false, List, [], ◌∷◌, codes, flat_map, map, Option, None, Some, Ok, Err}
 use Rattle.std.specs.Global.{Vec}
 use Rattle.cvss_lines.specs.Lines.{lines}
 use Rattle.cvss_lines.specs.declared.fault.RunFault.TheVariants.{Read}
@@ -33,6 +33,22 @@ abbrev pub lines_of_input : Option (Vec ℕ) → List (List ℕ)
 lines_of_input None = []
 lines_of_input (Some bytes) = lines bytes.items
 
--- the lines of all inputs
-abbrev pub lines_in : List (Option (Vec ℕ)) → List (List ℕ)
-lines_in inputs = flat_map lines_of_input inputs
+-- of the lines of an input those that are to be ranked, and `None` for the first where that is the header
+abbrev pub without_header : Bool → List (List ℕ) → List (Option (List ℕ))
+without_header true (header ∷ lines) = None ∷ map Some lines
+without_header true [] = []
+without_header false lines = map Some lines
+
+-- the same of the lines of all inputs
+abbrev pub lines_in : Bool → List (Option (Vec ℕ)) → List (Option (List ℕ))
+lines_in header inputs = flat_map (λ input. without_header header (lines_of_input input)) inputs
+
+-- the first of some lines
+abbrev pub first_of : List (List ℕ) → Option (List ℕ)
+first_of [] = None
+first_of (line ∷ lines) = Some line
+
+-- the header of the first input, if that is read and has a line
+abbrev pub first_header : List (Option (Vec ℕ)) → Option (List ℕ)
+first_header [] = None
+first_header (input ∷ inputs) = first_of (lines_of_input input)

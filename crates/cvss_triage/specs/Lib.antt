@@ -1,3 +1,4 @@
+pub mod Counts
 pub mod Inputs
 pub mod Overrides
 pub mod Places
@@ -6,5 +7,6 @@ pub mod Reading
 pub mod Reports
 pub mod Rows
 pub mod Settings
+pub mod Shown
 pub mod Triage
 pub mod private

@@ -4,6 +4,7 @@ use Rattle.std.specs.Borrow.{Bor}
 use Rattle.std.specs.Fmt.{decimal}
 use Rattle.std.specs.Global.{Vec}
 use Rattle.std.specs.Slice.{IsItemAt}
+use Rattle.cvss_frame.specs.Names as Names
 use Rattle.cvss_frame.specs.Sources.{has_name, source_of}
 use Rattle.cvss_triage.specs.Inputs.{lines_of_input}
 
@@ -45,10 +46,10 @@ IsAt starts many operands number name within =
     IsInInput starts many operands number name within
     ⊎ (All (λ start. number ≤ start) starts × (name ≡ None) × (within ≡ number))
 
--- a name before a place
+-- a name before a place, as names are shown
 abbrev pub name_text : Option (List ℕ) → List ℕ
 name_text None = []
-name_text (Some name) = name ++ codes ": "
+name_text (Some name) = Names.shown_name name ++ codes ": "
 
 -- where a line is, in words: its file, if that is named, and its number
 abbrev pub place_text : Option (List ℕ) → ℕ → List ℕ

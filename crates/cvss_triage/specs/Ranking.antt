@@ -1,5 +1,5 @@
 -- Lines of vectors of any version, ranked by a score that each has once metrics are set. Lines are counted from 1.
-use Rattle.std.specs.Prelude.{◌≡◌, ◌⊎◌, ℕ, suc, ◌≤◌, Bool, List, [], ◌∷◌, IsPermutation, IsSorted, None, pos}
+use Rattle.std.specs.Prelude.{◌≡◌, ◌⊎◌, ℕ, suc, ◌≤◌, Bool, List, [], ◌∷◌, IsPermutation, IsSorted, Option, None, Some, pos}
 use Rattle.std.specs.declared.cmp.Ordering.{Ordering}
 use Rattle.cvss_score.specs.Ranking.{rank_order}
 use Rattle.cvss_vector.specs.Answers.{score_of_tenths}
@@ -31,10 +31,12 @@ pub record IsBad (overrides : List Override) (allow_incomplete : Bool) (number :
   pub number_is : bad.number ≡ number
   pub reason : IsReason overrides allow_incomplete line bad.reason
 
--- each of the lines, of which the first has this number, has its row or is bad, in the order of the lines
-abbrev pub AreRead : List Override → Scoring → Bool → ℕ → List (List ℕ) → List Row → List BadLine → Type 0
+-- each of the lines, of which the first has this number, has its row or is bad, in the order of the lines; but not those that
+-- are left out, of which only the number counts
+abbrev pub AreRead : List Override → Scoring → Bool → ℕ → List (Option (List ℕ)) → List Row → List BadLine → Type 0
 AreRead overrides scoring allow_incomplete number [] rows bad = (rows ≡ []) × (bad ≡ [])
-AreRead overrides scoring allow_incomplete number (line ∷ lines) rows bad =
+AreRead overrides scoring allow_incomplete number (None ∷ lines) rows bad = AreRead overrides scoring allow_incomplete (suc number) lines rows bad
+AreRead overrides scoring allow_incomplete number (Some line ∷ lines) rows bad =
     ((row : Row) × (more : List Row) × (rows ≡ row ∷ more) × IsRow overrides scoring allow_incomplete number line row
     × AreRead overrides scoring allow_incomplete (suc number) lines more bad)
     ⊎ ((it : BadLine) × (more : List BadLine) × (bad ≡ it ∷ more) × IsBad overrides allow_incomplete number line it
@@ -45,7 +47,7 @@ abbrev pub row_order : Row → Row → Ordering
 row_order = rank_order (λ row. pos row.tenths) (λ row. row.line.now)
 
 -- each line has its row, or is listed as bad; rows are in their order
-pub record IsRanking (overrides : List Override) (scoring : Scoring) (allow_incomplete : Bool) (lines : List (List ℕ)) (ranking : Ranking) : Type 0 where
+pub record IsRanking (overrides : List Override) (scoring : Scoring) (allow_incomplete : Bool) (lines : List (Option (List ℕ))) (ranking : Ranking) : Type 0 where
   pub in_turn : List Row
   pub are_read : AreRead overrides scoring allow_incomplete 1 lines in_turn ranking.bad.items
   pub same_rows : IsPermutation in_turn ranking.rows.items

@@ -1,5 +1,5 @@
 -- The vector of a line, or why it has no row.
-use Rattle.std.specs.Prelude.{◌≡◌, ◌⊎◌, Bool, ℕ, List, [], ◌∷◌, ◌++◌, Some}
+use Rattle.std.specs.Prelude.{◌≡◌, ◌⊎◌, Bool, ℕ, List, [], ◌∷◌, ◌++◌, All, Some}
 use Rattle.cvss_vector.specs.Complete.{missing_by}
 use Rattle.cvss_vector.specs.Dispatch.{DenotesCvss}
 use Rattle.cvss_vector.specs.Rejections.{IsReadError}
@@ -31,11 +31,17 @@ pub record HasSeveral (line : List ℕ) : Type 0 where
   pub first_found : IsFound first.text
   pub second_found : IsFound second.text
 
--- the line's only match denotes the vector
+-- the line has matches, and each denotes this vector: a vector may be next to its own link
 pub record IsVectorOf (line : List ℕ) (cvss : Cvss) : Type 0 where
-  pub text : List ℕ
-  pub only : IsOnlyMatch line text
-  pub denoted : DenotesCvss text cvss
+  pub first : Placed
+  pub more : List Placed
+  pub found : AreFound (candidates_of line) (first ∷ more)
+  pub denoted : All (λ match. DenotesCvss match.text cvss) (first ∷ more)
+
+-- several matches are found, and they do not all denote one vector
+pub record HasOthers (line : List ℕ) : Type 0 where
+  pub several : HasSeveral line
+  pub differ : (cvss : Cvss) → ¬ (IsVectorOf line cvss)
 
 -- the line's only match is the text of no vector
 pub record IsRejected (line : List ℕ) (error : ReadError) : Type 0 where
@@ -56,5 +62,5 @@ pub record IsIncomplete (overrides : List Override) (allow_incomplete : Bool) (l
 -- why the line has no row
 abbrev pub IsReason : List Override → Bool → List ℕ → Reason → Type 0
 IsReason overrides allow_incomplete line NoVector = AreFound (candidates_of line) []
-IsReason overrides allow_incomplete line SeveralVectors = HasSeveral line
+IsReason overrides allow_incomplete line SeveralVectors = HasOthers line
 IsReason overrides allow_incomplete line (Rejected error) = IsRejected line error ⊎ IsIncomplete overrides allow_incomplete line error

@@ -46,8 +46,19 @@ abbrev pub IsRowText : Bool → Bool → List ℕ → Bool → List (Vec ℕ) �
 IsRowText true allow_incomplete starts many operands row text = IsObject allow_incomplete starts many operands row text
 IsRowText false allow_incomplete starts many operands row text = text ≡ row_text row
 
+-- the header of an input, after the names of what is before the line in each row; no header has no text
+abbrev pub header_text : Option (List ℕ) → List ℕ
+header_text None = []
+header_text (Some header) = codes "score severity vector\t" ++ (header ++ codes "\n")
+
 -- rows one after another, each as the first says
 abbrev pub AreRowTexts : (Row → List ℕ → Type 0) → List Row → List ℕ → Type 0
 AreRowTexts IsText [] text = text ≡ []
 AreRowTexts IsText (row ∷ rows) text =
     (first : List ℕ) × (more : List ℕ) × (text ≡ first ++ more) × IsText row first × AreRowTexts IsText rows more
+
+-- such rows, after a header if there is one
+pub record IsTable (header : Option (List ℕ)) (IsText : Row → List ℕ → Type 0) (rows : List Row) (text : List ℕ) : Type 0 where
+  pub texts : List ℕ
+  pub are_texts : AreRowTexts IsText rows texts
+  pub is : text ≡ header_text header ++ texts

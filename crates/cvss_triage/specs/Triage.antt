@@ -1,5 +1,5 @@
 -- What triage reads and writes, and what it comes to.
-use Rattle.std.specs.Prelude.{◌≡◌, ◌⊎◌, ℕ, ◌||◌, ◌==◌, Bool, not, List, [], length, map, take, is_none, Option, None, Err, if◌then◌else◌}
+use Rattle.std.specs.Prelude.{◌≡◌, ◌⊎◌, ℕ, ◌||◌, ◌&&◌, ◌==◌, Bool, true, false, not, List, [], length, map, take, is_none, if◌then◌else◌, Option, None, Err}
 use Rattle.std.specs.Global.{Vec}
 use Rattle.std.specs.Io.KnownBytes.{Appends, Keeps}
 use Rattle.std.specs.List.{list_any}
@@ -10,28 +10,37 @@ use Rattle.cvss_frame.specs.Operands.{many_files}
 use Rattle.cvss_frame.specs.Reports.{Reported}
 use Rattle.cvss_frame.specs.State.{State}
 use Rattle.cvss_frame.specs.declared.served.Served.{Served}
-use Rattle.cvss_triage.specs.Inputs.{ReadsEach, ReadsInput, inputs_of, lines_in}
+use Rattle.cvss_report.specs.Tallies.{count_text}
+use Rattle.cvss_report.specs.declared.gate.Gate.{Gate}
+use Rattle.cvss_triage.specs.Counts.{tally_of}
+use Rattle.cvss_triage.specs.Inputs.{ReadsEach, ReadsInput, first_header, inputs_of, lines_in}
 use Rattle.cvss_triage.specs.Places.{starts_of}
 use Rattle.cvss_triage.specs.Ranking.{IsRanking}
 use Rattle.cvss_triage.specs.Reports.{ReportsBadLine, ReportsEach, ReportsSetting}
-use Rattle.cvss_triage.specs.Rows.{AreRowTexts, IsRowText}
+use Rattle.cvss_triage.specs.Rows.{IsRowText, IsTable}
 use Rattle.cvss_triage.specs.Settings.{AreUnderstood, ReadsSetting, all_given, as_metrics, as_words}
+use Rattle.cvss_triage.specs.Shown.{after_gate, shown_rows}
 use Rattle.cvss_triage.specs.declared.overrides.Override.{Override}
 use Rattle.cvss_triage.specs.declared.ranking.BadLine.{BadLine}
 use Rattle.cvss_triage.specs.declared.ranking.Ranking.{Ranking}
+use Rattle.cvss_triage.specs.declared.row.Row.{Row}
 use Rattle.cvss_triage.specs.declared.settings.SettingKind.{SettingKind}
 use Rattle.cvss_triage.specs.declared.settings.SettingText.{SettingText}
 use Rattle.cvss_triage.specs.declared.triage.Triage.{Triage}
 
 -- what triage is asked for: what is set, the later after the earlier; whether the other rows are written where a line has no
--- row or an input cannot be read; whether vectors of CVSS v3 may lack base metrics; by which score lines are ranked; and
--- whether rows are objects
+-- row or an input cannot be read; whether vectors of CVSS v3 may lack base metrics; by which score lines are ranked; which
+-- rows are shown and fail; whether their numbers are printed in their place; whether rows are objects; and
+-- whether the first line of each input is its header
 pub record Asked : Type 0 where
   pub settings : List (SettingKind × List ℕ)
   pub keep_going : Bool
   pub allow_incomplete : Bool
   pub scoring : Scoring
+  pub gate : Gate
+  pub count : Bool
   pub json : Bool
+  pub header : Bool
 
 -- the same, as the code has it
 abbrev pub asked_of : Triage → Asked
@@ -40,7 +49,10 @@ asked_of asked = record {
   keep_going = asked.keep_going;
   allow_incomplete = asked.allow_incomplete;
   scoring = asked.scoring;
+  gate = asked.gate;
+  count = asked.count;
   json = asked.json;
+  header = asked.header;
 }
 
 -- the texts of the settings are read, and give these overrides
@@ -65,7 +77,7 @@ pub record IsNotUnderstood (settings : List (SettingKind × List ℕ)) (old new 
   pub text_is : text ≡ []
   pub served_is : served ≡ after nothing_served (Err Read)
 
--- what triage comes to, by which lines have no row and which inputs are read
+-- what triage comes to by which lines have no row and which inputs are read
 abbrev pub served_of : List BadLine → List (Option (Vec ℕ)) → Served
 served_of bad inputs = record { rejected = not (length bad == 0); unread = list_any is_none inputs; stopped = None }
 
@@ -73,15 +85,36 @@ served_of bad inputs = record { rejected = not (length bad == 0); unread = list_
 abbrev pub shows : Bool → Served → Bool
 shows keep_going served = keep_going || not (served.rejected || served.unread)
 
--- the lines of the inputs are ranked, and this is the text of the rows that are shown; lines without one are reported
+-- what is printed, by whether that is nothing, or numbers: these, or the rows that are shown, each as the rule says, after a
+-- header if there is one
+abbrev pub IsPrinted : Bool → Bool → Option (List ℕ) → (Row → List ℕ → Type 0) → Gate → Ranking → List ℕ → Type 0
+IsPrinted true count header IsText gate ranking text = text ≡ []
+IsPrinted false true header IsText gate ranking text = text ≡ count_text (tally_of gate ranking)
+IsPrinted false false header IsText gate ranking text = IsTable header IsText (shown_rows gate ranking.rows.items) text
+
+-- the header that is printed: that of the first input, where inputs have headers and rows are in words
+abbrev pub printed_header : Asked → List (Option (Vec ℕ)) → Option (List ℕ)
+printed_header asked inputs = if asked.header && not asked.json then first_header inputs else None
+
+-- this is printed of the ranking of lines, and triage comes to this, after what it comes to by what is read
+pub record Prints (asked : Asked) (header : Option (List ℕ)) (starts : List ℕ) (many : Bool) (operands : List (Vec ℕ)) (ranking : Ranking) (read : Served)
+    (text : List ℕ) (served : Served) : Type 0 where
+  pub is_text : IsPrinted asked.gate.quiet asked.count header (IsRowText asked.json asked.allow_incomplete starts many operands) asked.gate ranking text
+  pub served_is : served ≡ after_gate asked.gate ranking.rows.items read
+
+-- the same if rows are shown, and otherwise nothing is printed
+abbrev pub PrintsIf : Bool → Asked → Option (List ℕ) → List ℕ → Bool → List (Vec ℕ) → Ranking → Served → List ℕ → Served → Type 0
+PrintsIf true asked header starts many operands ranking read text served = Prints asked header starts many operands ranking read text served
+PrintsIf false asked header starts many operands ranking read text served = (text ≡ []) × (served ≡ read)
+
+-- the lines of the inputs are ranked, and this is printed of the ranking; lines without a row are reported
 pub record IsRanked (asked : Asked) (overrides : List Override) (operands : List (Vec ℕ)) (inputs : List (Option (Vec ℕ)))
     (report report' : Reported) (text : List ℕ) (served : Served) : Type 0 where
   pub ranking : Ranking
-  pub is : IsRanking overrides asked.scoring asked.allow_incomplete (lines_in inputs) ranking
+  pub is : IsRanking overrides asked.scoring asked.allow_incomplete (lines_in asked.header inputs) ranking
   pub reported : ReportsEach (ReportsBadLine (starts_of inputs) (many_files operands) operands) ranking.bad.items report report'
-  pub served_is : served ≡ served_of ranking.bad.items inputs
-  pub are_texts : AreRowTexts (IsRowText asked.json asked.allow_incomplete (starts_of inputs) (many_files operands) operands)
-      (if shows asked.keep_going served then ranking.rows.items else []) text
+  pub prints : PrintsIf (shows asked.keep_going (served_of ranking.bad.items inputs)) asked (printed_header asked inputs) (starts_of inputs)
+      (many_files operands) operands ranking (served_of ranking.bad.items inputs) text served
 
 -- all operands are read in turn after the settings, and their lines are ranked
 pub record Ranks (asked : Asked) (operands : List (Vec ℕ)) (old new : State) (text : List ℕ) (served : Served) : Type 0 where

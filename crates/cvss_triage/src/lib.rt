@@ -2,6 +2,7 @@
 //! own metrics are set in them.
 #![tactic(auto)]
 
+mod counting;
 mod inputs;
 pub mod laws;
 mod lines;

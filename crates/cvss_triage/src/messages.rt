@@ -6,6 +6,7 @@ ghost use Rattle.cvss_triage.specs.Places.{name_text, place_text};
 ghost use Rattle.cvss_triage.specs.Reports.{bad_line_text, reason_words, unknown_text};
 
 use crate::reading::Reason;
+use cvss_frame::put_shown;
 use cvss_json::{Growing, Sink, put_whole};
 use cvss_report::put_error;
 use std::alloc::{AllocError, Global};
@@ -105,7 +106,7 @@ fn put_name<S: Sink>(sink: &mut S, name: Option<&[u8]>)
     match name {
         None => sink.push(b""),
         Some(name) => {
-            sink.push(name);
+            put_shown(sink, name);
             sink.push(b": ");
         }
     }

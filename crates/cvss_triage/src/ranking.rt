@@ -1,6 +1,6 @@
 //! Lines, ranked.
 
-ghost use Rattle.std.specs.Prelude.{All, IfErr, IfOk, List, OnOk, map};
+ghost use Rattle.std.specs.Prelude.{All, IfErr, IfOk, List, OnOk, Some, map, option_map};
 ghost use Rattle.cvss_triage.specs.Ranking.{IsRanking, IsRow};
 ghost use Rattle.cvss_triage.specs.Reading.{IsReason};
 ghost use Rattle.cvss_triage.specs.declared.overrides.Override.{Override};
@@ -43,7 +43,7 @@ pub(crate) struct Ranking<'a> {
 }
 
 impl<'a> Ranking<'a> {
-    /// Ranks lines.
+    /// Ranks lines, of which some may be left out.
     ///
     /// # Errors
     ///
@@ -51,12 +51,12 @@ impl<'a> Ranking<'a> {
     #[tactic(auto, using(crate::proofs::RankLemmas::to_ten_ranked))]
     pub(crate) fn of(
         alloc: Global,
-        lines: &[&'a [u8]],
+        lines: &[Option<&'a [u8]>],
         rules: &Rules,
     ) -> Result<Ranking<'a>, AllocError>
         ensures ranking { (overrides : List Override) → AreOwnMetrics overrides rules.now.own
             → IfOk result (IsRanking overrides rules.now.scoring rules.now.allow_incomplete
-            (map (λ line. line.now) lines.now)) }
+            (map (λ line. option_map (λ line. line.now) line) lines.now)) }
         ensures to_ten { IfOk result (λ ranking. All IsToTen ranking.rows.items) }
     {
         let mut ranking = Ranking::in_turn(alloc, lines, rules)?;
@@ -65,8 +65,13 @@ impl<'a> Ranking<'a> {
     }
 
     /// The rows of lines, in the order of the lines, and the lines that have none.
-    fn in_turn(alloc: Global, lines: &[&'a [u8]], rules: &Rules) -> Result<Ranking<'a>, AllocError>
-        ensures { IfOk result (λ ranking. IsReadBy rules.now (map (λ line. line.now) lines.now)
+    fn in_turn(
+        alloc: Global,
+        lines: &[Option<&'a [u8]>],
+        rules: &Rules,
+    ) -> Result<Ranking<'a>, AllocError>
+        ensures { IfOk result (λ ranking. IsReadBy rules.now
+            (map (λ line. option_map (λ line. line.now) line) lines.now)
             ranking.rows.items ranking.bad.items) }
     {
         let mut ranking = Ranking {
@@ -74,15 +79,31 @@ impl<'a> Ranking<'a> {
             bad: Vec::new(alloc),
         };
         for (index, line) in lines.iter().enumerate() {
-            ranking.add(index + 1, line, rules)?;
+            ranking.add_if(index + 1, *line, rules)?;
         }
         Ok(ranking)
+    }
+
+    /// Adds the row of the line of this number, or the line as a bad one, unless it is left out.
+    fn add_if(
+        &mut self,
+        number: usize,
+        line: Option<&'a [u8]>,
+        rules: &Rules,
+    ) -> Result<(), AllocError>
+        ensures { OnOk result (Adds rules.now number (option_map (λ line. line.now) line.entry)
+            self.old self.new) }
+    {
+        match line {
+            Some(line) => self.add(number, line, rules),
+            None => Ok(()),
+        }
     }
 
     /// Adds the row of the line of this number, or the line as a bad one.
     #[tactic(auto, using(crate::proofs::RankLemmas::reads_row, crate::proofs::RankLemmas::reads_bad))]
     fn add(&mut self, number: usize, line: &'a [u8], rules: &Rules) -> Result<(), AllocError>
-        ensures { OnOk result (Adds rules.now number line.now self.old self.new) }
+        ensures { OnOk result (Adds rules.now number (Some line.now) self.old self.new) }
     {
         match row_of(number, line, rules) {
             Ok(row) => self.rows.push(row)?,

@@ -1,12 +1,16 @@
 //! How rows are written.
 
-ghost use Rattle.std.specs.Prelude.{◌≡◌, ◌++◌, ◌≤◌, All, IfOk, OnOk, option_map};
+ghost use Rattle.std.specs.Prelude.{◌≡◌, ◌++◌, ◌≤◌, All, IfOk, OnOk, Some, option_map};
 ghost use Rattle.cvss_json.specs.Sinks.{Adds};
 ghost use Rattle.cvss_vector.specs.Answers.{text_of};
-ghost use Rattle.cvss_triage.specs.Rows.{AreRowTexts, IsObject, IsRowText, file_member, first_members, row_text, scored_text};
+ghost use Rattle.cvss_triage.specs.Rows.{AreRowTexts, IsObject, IsRowText, IsTable, file_member, first_members, header_text, row_text, scored_text};
+ghost use Rattle.cvss_triage.specs.Shown.{shown_rows};
+ghost use Rattle.cvss_triage.specs.Triage.{IsPrinted};
 ghost use Rattle.cvss_triage.specs.private.Steps.{IsToTen, WritesRow};
 
+use crate::counting::numbers_text;
 use crate::places::Places;
+use crate::ranking::Ranking;
 use crate::row::Row;
 use crate::triage::Triage;
 use cvss_base::tenths;
@@ -17,30 +21,94 @@ use cvss_vector::Cvss;
 use std::alloc::{AllocError, Global};
 use std::fmt::{self, Write};
 
-/// The text of rows, one a line, in words or as objects.
+/// The text of the rows that are shown, or of their numbers, unless nothing is to be printed.
 ///
 /// # Errors
 ///
 /// Out of memory.
-#[tactic(auto, using(crate::proofs::RowLemmas::texts_more, crate::proofs::RowLemmas::to_ten_at))]
-pub(crate) fn rows_text(
+pub(crate) fn printed_text(
     alloc: Global,
     asked: &Triage<'_>,
+    header: Option<&[u8]>,
+    ranking: &Ranking<'_>,
+    places: &Places<'_>,
+) -> Result<Vec<u8>, AllocError>
+    requires { All IsToTen ranking.now.rows.items }
+    ensures { IfOk result (λ text. IsPrinted asked.now.gate.quiet asked.now.count
+        (option_map (λ line. line.now) header.entry) (IsRowText asked.now.json asked.now.allow_incomplete places.now.starts.now places.now.many
+        places.now.operands.now) asked.now.gate ranking.now text.items) }
+{
+    if asked.gate.quiet {
+        Ok(Vec::new(alloc))
+    } else if asked.count {
+        numbers_text(alloc, asked.gate, ranking)
+    } else {
+        table_text(alloc, asked, header, &ranking.rows, places)
+    }
+}
+
+/// The text of the rows that are shown, after a header if there is one.
+fn table_text(
+    alloc: Global,
+    asked: &Triage<'_>,
+    header: Option<&[u8]>,
     rows: &[Row<'_>],
     places: &Places<'_>,
 ) -> Result<Vec<u8>, AllocError>
     requires { All IsToTen rows.now }
-    ensures { IfOk result (λ text. AreRowTexts
+    ensures { IfOk result (λ text. IsTable (option_map (λ line. line.now) header.entry)
         (IsRowText asked.now.json asked.now.allow_incomplete places.now.starts.now places.now.many
-        places.now.operands.now) rows.now text.items) }
+        places.now.operands.now) (shown_rows asked.now.gate rows.now) text.items) }
 {
     let mut text = OutputBuffer {
         bytes: Vec::new(alloc),
     };
-    for row in rows {
-        write_row(alloc, asked, row, places, &mut text)?;
-    }
+    write_header(header, &mut text)?;
+    write_rows(alloc, asked, rows, places, &mut text)?;
     Ok(text.bytes)
+}
+
+/// Writes a header, if there is one, after the names of what is before the line in each row.
+fn write_header(header: Option<&[u8]>, text: &mut OutputBuffer) -> Result<(), AllocError>
+    ensures { OnOk result (text.new.bytes.items
+        ≡ text.old.bytes.items ++ header_text (option_map (λ line. line.now) header.entry)) }
+{
+    match header {
+        Some(line) => write_header_line(line, text),
+        None => Ok(()),
+    }
+}
+
+fn write_header_line(line: &[u8], text: &mut OutputBuffer) -> Result<(), AllocError>
+    ensures { OnOk result (text.new.bytes.items
+        ≡ text.old.bytes.items ++ header_text (Some line.now)) }
+{
+    text.push(b"score severity vector\t")?;
+    text.push(line)?;
+    text.push(b"\n")
+}
+
+/// Writes the rows that are shown, one a line, in words or as objects.
+#[tactic(auto, using(crate::proofs::RowLemmas::to_ten_at))]
+fn write_rows(
+    alloc: Global,
+    asked: &Triage<'_>,
+    rows: &[Row<'_>],
+    places: &Places<'_>,
+    text: &mut OutputBuffer,
+) -> Result<(), AllocError>
+    requires { All IsToTen rows.now }
+    ensures { OnOk result (WritesRow (AreRowTexts
+        (IsRowText asked.now.json asked.now.allow_incomplete places.now.starts.now places.now.many
+        places.now.operands.now) (shown_rows asked.now.gate rows.now))
+        text.old.bytes.items text.new.bytes.items) }
+{
+    for row in rows {
+        if asked.gate.shows(row.tenths) {
+            write_row(alloc, asked, row, places, text)?;
+        }
+    }
+    Ok(())
 }
 
 /// Writes a row in words or as an object.

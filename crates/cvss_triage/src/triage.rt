@@ -1,26 +1,29 @@
 //! The whole of triage.
 
-ghost use Rattle.std.specs.Prelude.{◌≡◌, ◌↔◌, [], All, IfOk, IsSome, IsTrue, List, MatchOption, if◌then◌else◌, is_none};
+ghost use Rattle.std.specs.Prelude.{◌≡◌, ◌↔◌, All, IfOk, IsSome, IsTrue, List, MatchOption, is_none, option_map};
 ghost use Rattle.std.specs.List.{list_any};
 ghost use Rattle.cvss_frame.specs.Reports.{reported};
 ghost use Rattle.cvss_frame.specs.Streams.{state};
+ghost use Rattle.cvss_report.specs.Gates.{fails};
 ghost use Rattle.cvss_triage.specs.Settings.{AreUnderstood};
+ghost use Rattle.cvss_triage.specs.Shown.{after_gate};
 ghost use Rattle.cvss_triage.specs.declared.overrides.Override.{Override};
-ghost use Rattle.cvss_triage.specs.private.Steps.{AreOwnMetrics};
-ghost use Rattle.cvss_triage.specs.Triage.{IsOutcome, IsRanked, Triages, WritesOutcome, asked_of, served_of, shows};
+ghost use Rattle.cvss_triage.specs.private.Steps.{AreOwnMetrics, IsToTen};
+ghost use Rattle.cvss_triage.specs.Triage.{IsOutcome, IsRanked, PrintsIf, Triages, WritesOutcome, asked_of, printed_header, served_of, shows};
 
 use crate::inputs::read_inputs;
-use crate::lines::lines_of;
+use crate::lines::{first_header, lines_of};
 use crate::overrides::{Override, overrides_of};
 use crate::own_metrics::OwnMetrics;
 use crate::places::Places;
 use crate::ranking::{BadLine, Ranking, Rules};
 use crate::report::{report_bad, report_unknown};
 use crate::row::Row;
-use crate::rows::rows_text;
+use crate::rows::printed_text;
 use crate::settings::{Setting, SettingText, read_settings};
 use cvss_frame::{Host, Report, Served, Streams, WatchedWriter, are_many};
 use cvss_lines::{RunFault, write_whole};
+use cvss_report::Gate;
 use cvss_vector::Scoring;
 use std::alloc::{AllocError, Global};
 use std::io::Write;
@@ -36,8 +39,14 @@ pub struct Triage<'a> {
     pub allow_incomplete: bool,
     /// By which score of each vector lines are ranked.
     pub scoring: Scoring,
+    /// Which rows are shown, and on which triage fails.
+    pub gate: Gate,
+    /// In place of rows it is written how many of them there are of each severity.
+    pub count: bool,
     /// Rows are written as JSON objects.
     pub json: bool,
+    /// The first line of each input is its header, which is not ranked.
+    pub header: bool,
 }
 
 /// What is written, and what triage comes to once it is.
@@ -47,9 +56,9 @@ struct Outcome {
     served: Served,
 }
 
-/// Ranks the lines of the operands, or of standard input where there is none, and writes their rows.
-/// Nothing is written before all is read. Metrics that hold for no version, inputs that cannot be read
-/// and lines without a row are reported.
+/// Ranks the lines of the operands, or of standard input where there is none, and writes the rows that the
+/// gate shows. Nothing is written before all is read. Metrics that hold for no version, inputs that cannot
+/// be read and lines without a row are reported.
 pub fn rank_operands<H: Host>(
     alloc: Global,
     asked: &Triage<'_>,
@@ -117,7 +126,6 @@ fn are_read(texts: &[SettingText<'_>]) -> bool
 }
 
 /// The rows of the lines of inputs.
-#[tactic(auto, using(crate::proofs::RowLemmas::to_ten_shown))]
 fn ranked<E: Write>(
     alloc: Global,
     asked: &Triage<'_>,
@@ -131,7 +139,7 @@ fn ranked<E: Write>(
         (reported E.contents report.old) (reported E.contents report.new)
         outcome.text.items outcome.served) }
 {
-    let lines = lines_of(alloc, inputs)?;
+    let lines = lines_of(alloc, asked.header, inputs)?;
     let rules = Rules {
         own,
         scoring: asked.scoring,
@@ -144,13 +152,48 @@ fn ranked<E: Write>(
         operands,
     };
     report_bad(alloc, &ranking.bad, &places, report)?;
-    let served = served_of(&ranking.bad, inputs);
-    let rows = shown(asked.keep_going, &served, &ranking.rows);
-    let text = rows_text(alloc, asked, rows, &places)?;
+    let read = served_of(&ranking.bad, inputs);
+    let header = printed_header(asked, inputs);
+    printed(alloc, asked, header, &ranking, &places, read)
+}
+
+/// What is printed of a ranking, and what triage comes to, after what it comes to by what is read.
+fn printed(
+    alloc: Global,
+    asked: &Triage<'_>,
+    header: Option<&[u8]>,
+    ranking: &Ranking<'_>,
+    places: &Places<'_>,
+    read: Served,
+) -> Result<Outcome, AllocError>
+    requires { All IsToTen ranking.now.rows.items }
+    ensures { IfOk result (λ outcome. PrintsIf (shows asked.now.keep_going read) (asked_of asked.now)
+        (option_map (λ line. line.now) header.entry) places.now.starts.now places.now.many places.now.operands.now ranking.now read
+        outcome.text.items outcome.served) }
+{
+    if !shows(asked.keep_going, &read) {
+        return Ok(Outcome {
+            text: Vec::new(alloc),
+            served: read,
+        });
+    }
+    let text = printed_text(alloc, asked, header, ranking, places)?;
+    let served = after_gate(asked.gate, &ranking.rows, read);
     Ok(Outcome { text, served })
 }
 
-/// What triage comes to, by which lines have no row and which inputs are read.
+/// The header that is printed: that of the first input, where inputs have headers and rows are in words.
+fn printed_header<'a>(asked: &Triage<'_>, inputs: &'a [Option<Vec<u8>>]) -> Option<&'a [u8]>
+    ensures { option_map (λ line. line.now) result ≡ printed_header (asked_of asked.now) inputs.now }
+{
+    if asked.header && !asked.json {
+        first_header(inputs)
+    } else {
+        None
+    }
+}
+
+/// What triage comes to by which lines have no row and which inputs are read.
 fn served_of(bad: &[BadLine<'_>], inputs: &[Option<Vec<u8>>]) -> Served
     ensures { result ≡ served_of bad.now inputs.now }
 {
@@ -167,13 +210,25 @@ fn is_any_unread(inputs: &[Option<Vec<u8>>]) -> bool
     inputs.iter().any(|input| input.is_none())
 }
 
-/// The rows, unless a line has none or an input is unread and triage is not to go on then.
-fn shown<'r, 'a>(keep_going: bool, served: &Served, rows: &'r [Row<'a>]) -> &'r [Row<'a>]
-    ensures { result.now ≡ (if shows keep_going served.now then rows.now else []) }
+/// Whether rows are shown: unless a line has none or an input is unread and triage is not to go on then.
+fn shows(keep_going: bool, served: &Served) -> bool
+    ensures { result ≡ shows keep_going served.now }
 {
-    if keep_going || !(served.rejected || served.unread) {
-        rows
-    } else {
-        &[]
+    keep_going || !(served.rejected || served.unread)
+}
+
+/// What triage comes to, where it fails on a row that is shown.
+fn after_gate(gate: Gate, rows: &[Row<'_>], served: Served) -> Served
+    ensures { result ≡ after_gate gate rows.now served }
+{
+    Served {
+        rejected: served.rejected || fails_on_any(gate, rows),
+        ..served
     }
+}
+
+fn fails_on_any(gate: Gate, rows: &[Row<'_>]) -> bool
+    ensures { result ≡ list_any (λ row. fails gate row.tenths) rows.now }
+{
+    rows.iter().any(|row| gate.fails(row.tenths))
 }

@@ -28,12 +28,20 @@
 //! - `tenths NUMBER`: the text of a number of tenths.
 //! - `rank +OVERRIDE .. =TEXT ..`: triage, its rows or the first rejection.
 //! - `overrides OVERRIDE ..`: the vector of v4 of these components alone.
+//! - `json TYPE TEXT`, where a type is `cvss`, `v2`, `v3`, `v4`, `severity` or `nomenclature`: the text
+//!   of the JSON string of what the JSON string of the text stands for; or the step that failed, and
+//!   why.
+//! - `record TEXT`: the vector's record, a JSON object.
+//! - `differ TEXT OBJECT`: the members of an object that disagree with the vector.
+//! - `places DOCUMENT`: where vectors are in it, and the members there that disagree.
 #![tactic(auto)]
 
 mod faults;
+mod json;
 mod kinds;
 mod numbers;
 mod ranking;
+mod records;
 mod scores;
 mod shown;
 mod values2;
@@ -85,7 +93,7 @@ fn answer_marked(rt: &HostRuntime, line: &[u8], mark: &str, asked: &str) -> io::
     }
 }
 
-/// What a mark asks for of metrics, values, numbers and triage; a line with none is a vector.
+/// What a mark asks for of metrics, values, numbers, triage and JSON.
 fn answer_otherwise(rt: &HostRuntime, line: &[u8], mark: &str, asked: &str) -> io::Result<()> {
     match mark {
         "kind" => kinds::kind(rt, asked),
@@ -97,6 +105,17 @@ fn answer_otherwise(rt: &HostRuntime, line: &[u8], mark: &str, asked: &str) -> i
         "tenths" => numbers::tenths(rt, asked),
         "rank" => ranking::rank(rt, asked),
         "overrides" => ranking::overrides(rt, asked),
+        _ => answer_json(rt, line, mark, asked),
+    }
+}
+
+/// What a mark asks for of JSON; a line with no mark is a vector.
+fn answer_json(rt: &HostRuntime, line: &[u8], mark: &str, asked: &str) -> io::Result<()> {
+    match mark {
+        "json" => json::json(rt, asked),
+        "record" => records::record(rt, asked),
+        "differ" => records::differ(rt, asked),
+        "places" => records::places(rt, asked),
         _ => vectors::of_any(rt, line),
     }
 }

@@ -1,21 +1,33 @@
 -- What is written for a place and a document, after the earlier answers.
-use Rattle.std.specs.Prelude.{◌≡◌, ◌≢◌, ℕ, ◌⊎◌, Bool, true, false, List, [], ◌++◌, take, Option}
+use Rattle.std.specs.Prelude.{◌≡◌, ◌≢◌, ℕ, ◌⊎◌, Bool, true, false, List, [], ◌++◌, flat_map, take, Option}
 use Rattle.std.specs.Io.KnownBytes.{Appends}
 use Rattle.cvss_lines.specs.Answers.{written_text}
 use Rattle.cvss_lines.specs.Streaming.{Stops, Streams}
-use Rattle.cvss_document.specs.Places.{Place}
+use Rattle.cvss_audit.specs.Places.{Place}
 use Rattle.cvss_lines.specs.declared.summary.Summary.{Summary}
 use Rattle.cvss_lines.specs.declared.fault.RunFault.{RunFault}
 use Rattle.cvss_lines.specs.declared.fault.RunFault.TheVariants.{Read, Write, Memory}
 use Rattle.cvss_audit.specs.Answers.{AreFound, Begins, BeginsFound, Found, IsAnswer, IsFound, all_agree, written_found}
 use Rattle.cvss_audit.specs.Inputs.{Input}
 
--- what is found at the place and a byte 10 are written after the earlier answers
+-- a text like this and a byte 10 are written after the earlier answers
+pub record WritesLine (P : List ℕ → Type 0) (old new : List ℕ) : Type 0 where
+  pub text : List ℕ
+  pub is : P text
+  pub written : new ≡ old ++ written_text text
+
+-- texts like these are written after the earlier answers, each with a byte 10
+pub record WritesTexts (P : List (List ℕ) → Type 0) (old new : List ℕ) : Type 0 where
+  pub texts : List (List ℕ)
+  pub are : P texts
+  pub written : new ≡ old ++ flat_map written_text texts
+
+-- what is found at the place is written after the earlier answers
 pub record WritesPlace (input : Input) (place : Place) (old new : List ℕ) (agrees : Bool) : Type 0 where
   pub found : Found
   pub is_found : IsFound input place found
   pub reported : agrees ≡ found.agrees
-  pub written : new ≡ old ++ written_text found.text
+  pub written : new ≡ old ++ flat_map written_text found.texts
 
 -- nothing is written of what is found, or all that waited and what is found at the first of the places
 abbrev pub PassFound : Input → List Place → List ℕ → List ℕ → Type 0
@@ -53,7 +65,7 @@ pub record StopsFound (input : Input) (places : List Place) (old : List ℕ) (wr
   pub memory : fault ≡ Memory → LacksFound input places old written written'
   pub write : fault ≡ Write → FailsFound input places old written written'
 
--- the text is answered after what waited
+-- the text of a document is answered after what waited
 abbrev pub Answers : Input → List ℕ → List ℕ → List ℕ → Option (List ℕ) → Option (List ℕ) → Bool → Type 0
 Answers input text = Streams (λ _. IsAnswer input) (λ _. Begins input) 1 text
 

@@ -1,7 +1,7 @@
 -- What the private code of an answer does candidate by candidate. No public clause cites it.
 use Rattle.std.specs.Prelude.{◌≡◌, ℕ, ◌++◌, ◌∷◌, [], Bool, List, flat_map}
 use Rattle.cvss_lines.specs.Answers.{WritesAnswer, written_text}
-use Rattle.cvss_matches.specs.Answers.{AreReported, AreShown, Asked, IsReported, Reported, all_accepted, find_rule, reported_texts}
+use Rattle.cvss_matches.specs.Answers.{AreKept, AreShown, Asked, IsReported, Kept, Reported, all_accepted, find_rule, kept_texts}
 use Rattle.cvss_matches.specs.declared.line.Line.{Line}
 use Rattle.cvss_matches.specs.declared.form.Form.{Form}
 use Rattle.cvss_matches.specs.declared.form.Form.TheVariants.{Annotated, Located, Object}
@@ -15,6 +15,7 @@ asked_of line = record {
   scoring = line.scoring;
   allow_incomplete = line.allow_incomplete;
   assumed = line.assumed;
+  gate = line.gate;
   number = line.number;
   line = line.bytes.now;
 }
@@ -39,7 +40,7 @@ closing (Annotated all) = 10 ∷ []
 
 -- the answer to what is asked is written after the earlier ones
 abbrev pub AnswersLine : Asked → List ℕ → List ℕ → Bool → Type 0
-AnswersLine asked = WritesAnswer (find_rule asked.form asked.scoring asked.allow_incomplete asked.assumed asked.prefix) asked.number asked.line
+AnswersLine asked = WritesAnswer (find_rule asked.form asked.scoring asked.allow_incomplete asked.assumed asked.gate asked.prefix) asked.number asked.line
 
 -- what is reported of the candidate is written after the earlier texts
 pub record WritesReported (asked : Asked) (candidate : Placed) (old new : List ℕ) (accepted : Bool) : Type 0 where
@@ -48,20 +49,27 @@ pub record WritesReported (asked : Asked) (candidate : Placed) (old new : List �
   pub accepts : accepted ≡ reported.accepts
   pub written : new ≡ old ++ written_as asked.form reported.text
 
--- the candidates before those that are left are reported of, as far as they are found
+-- what is kept of a candidate, as is said here, is written after the earlier texts
+pub record WritesKept (Is : Kept → Type 0) (form : Form) (old new : List ℕ) (accepted : Bool) : Type 0 where
+  pub kept : Kept
+  pub is_kept : Is kept
+  pub accepts : accepted ≡ kept.accepts
+  pub written : new ≡ old ++ flat_map (written_as form) kept.texts
+
+-- what is kept is written of the candidates before those that are left, as far as they are found
 pub record Reports (asked : Asked) (left : List Placed) (old new : List ℕ) (accepted : Bool) : Type 0 where
   pub found : List Placed
   pub are_found : (more : List Placed) → AreFound left more → AreFound (candidates_of asked.line) (found ++ more)
-  pub reported : List Reported
-  pub are_reported : AreReported asked found reported
-  pub accepts : accepted ≡ all_accepted reported
-  pub written : new ≡ old ++ flat_map (written_as asked.form) (reported_texts reported)
+  pub kept : List Kept
+  pub are_kept : AreKept asked found kept
+  pub accepts : accepted ≡ all_accepted kept
+  pub written : new ≡ old ++ flat_map (written_as asked.form) (kept_texts kept)
 
--- what is reported of the candidates that are shown is written
+-- what is kept of the candidates that are shown is written
 pub record WritesShown (all : Bool) (asked : Asked) (old new : List ℕ) (accepted : Bool) : Type 0 where
   pub shown : List Placed
   pub are_shown : AreShown all (candidates_of asked.line) shown
-  pub reported : List Reported
-  pub are_reported : AreReported asked shown reported
-  pub accepts : accepted ≡ all_accepted reported
-  pub written : new ≡ old ++ flat_map (written_as asked.form) (reported_texts reported)
+  pub kept : List Kept
+  pub are_kept : AreKept asked shown kept
+  pub accepts : accepted ≡ all_accepted kept
+  pub written : new ≡ old ++ flat_map (written_as asked.form) (kept_texts kept)

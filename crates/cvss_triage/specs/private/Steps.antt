@@ -29,13 +29,13 @@ pub record IsToTen (row : Row) : Type 0 where
   pub to_ten : row.tenths ≤ 100
 
 -- lines are read by rules in turn, and the scores of their rows can be written
-pub record IsReadBy (rules : Rules) (lines : List (List ℕ)) (rows : List Row) (bad : List BadLine) : Type 0 where
+pub record IsReadBy (rules : Rules) (lines : List (Option (List ℕ))) (rows : List Row) (bad : List BadLine) : Type 0 where
   pub read : (overrides : List Override) → AreOwnMetrics overrides rules.own → AreRead overrides rules.scoring rules.allow_incomplete 1 lines rows bad
   pub to_ten : All IsToTen rows
 
 -- the line of this number is read after those before it
-abbrev pub Adds : Rules → ℕ → List ℕ → Ranking → Ranking → Type 0
-Adds rules number line old new = (lines : List (List ℕ)) → length lines + 1 ≡ number → IsReadBy rules lines old.rows.items old.bad.items → IsReadBy rules (lines ++ line ∷ []) new.rows.items new.bad.items
+abbrev pub Adds : Rules → ℕ → Option (List ℕ) → Ranking → Ranking → Type 0
+Adds rules number line old new = (lines : List (Option (List ℕ))) → length lines + 1 ≡ number → IsReadBy rules lines old.rows.items old.bad.items → IsReadBy rules (lines ++ line ∷ []) new.rows.items new.bad.items
 
 -- such a text is written after what was
 pub record WritesRow (IsText : List ℕ → Type 0) (old new : List ℕ) : Type 0 where

@@ -1,8 +1,9 @@
 use Rattle.std.proofs.Common.{◌∙◌, None, Some, codes, subst, sym}
 use Rattle.cvss_frame.specs.Reports.{Reports, reported}
+use Rattle.cvss_subcommands.specs.Flags.{flag_name}
 use Rattle.cvss_subcommands.specs.UsageErrors.{line_about, usage_report}
 use Rattle.cvss_subcommands.specs.declared.help.TheConstants.{USAGE}
-use Rattle.cvss_subcommands.specs.declared.subcommand.Subcommand.TheVariants.{Set}
+use Rattle.cvss_subcommands.specs.declared.subcommand.Subcommand.TheVariants.{Score, Set}
 use Rattle.cvss_subcommands.proofs.usage_error.report_usage.Goals as goal
 
 pub returns-in-UnknownCommand : goal.returns-in-UnknownCommand
@@ -66,3 +67,35 @@ returns-in-AllScores g c =
     subst (λ error. Reports old new (usage_report USAGE.now error c.args.arguments.now)) (sym c.in-AllScores.is)
     (subst (λ word. Reports old new (line_about (codes "cvss: --base does not go with '") word (codes "', which prints all scores; see '") (Some c.in-AllScores.subcommand)))
     (c.as_bytes-word.ensures.value ∙ c.name.ensures) c.report_about-in-AllScores.ensures)
+
+pub returns-in-NeedsJson : goal.returns-in-NeedsJson
+returns-in-NeedsJson g c =
+    let old = reported g.E.Write.contents c.args.report.now in
+    let new = reported g.E.Write.contents c.report_about-in-NeedsJson.new.report in
+    subst (λ error. Reports old new (usage_report USAGE.now error c.args.arguments.now)) (sym c.in-NeedsJson.is)
+    (subst (λ word. Reports old new (line_about (codes "cvss: option '") word (codes "' needs --json; see '") (Some c.in-NeedsJson.subcommand)))
+    (c.as_bytes-word-in-NeedsJson.ensures.value ∙ c.name-in-NeedsJson.ensures) c.report_about-in-NeedsJson.ensures)
+
+pub returns-in-NeedsTable : goal.returns-in-NeedsTable
+returns-in-NeedsTable g c =
+    let old = reported g.E.Write.contents c.args.report.now in
+    let new = reported g.E.Write.contents c.report_about-in-NeedsTable.new.report in
+    subst (λ error. Reports old new (usage_report USAGE.now error c.args.arguments.now)) (sym c.in-NeedsTable.is)
+    (subst (λ after. Reports old new (line_about (codes "cvss: option '") (flag_name c.in-NeedsTable.flag) after (Some Score))) c.needs_text-after.ensures
+    (subst (λ word. Reports old new (line_about (codes "cvss: option '") word c.needs_text-after.result.now (Some Score)))
+    (c.as_bytes-word-in-NeedsTable.ensures.value ∙ c.name-in-NeedsTable.ensures) c.report_about-in-NeedsTable.ensures))
+
+pub returns-in-NotTwo : goal.returns-in-NotTwo
+returns-in-NotTwo g c =
+    let old = reported g.E.Write.contents c.args.report.now in
+    let new = reported g.E.Write.contents c.write-in-NotTwo.new.self in
+    subst (λ error. Reports old new (usage_report USAGE.now error c.args.arguments.now)) (sym c.in-NotTwo.is) c.write-in-NotTwo.ensures
+
+pub returns-in-NotWith : goal.returns-in-NotWith
+returns-in-NotWith g c =
+    let old = reported g.E.Write.contents c.args.report.now in
+    let new = reported g.E.Write.contents c.report_about-in-NotWith.new.report in
+    subst (λ error. Reports old new (usage_report USAGE.now error c.args.arguments.now)) (sym c.in-NotWith.is)
+    (subst (λ after. Reports old new (line_about (codes "cvss: option '") (flag_name c.in-NotWith.flag) after (Some c.in-NotWith.subcommand))) c.not_with_text-after.ensures
+    (subst (λ word. Reports old new (line_about (codes "cvss: option '") word c.not_with_text-after.result.now (Some c.in-NotWith.subcommand)))
+    (c.as_bytes-word-in-NotWith.ensures.value ∙ c.name-in-NotWith.ensures) c.report_about-in-NotWith.ensures))

@@ -9,10 +9,10 @@ pub returns-in-Some : goal.returns-in-Some
 returns-in-Some c =
     let candidate = as_placed c.in-Some.found in
     let left = candidates_left c.next.new.self in
-    IfOk-weaker c.report.result _ _
+    IfOk-weaker c.keep.result _ _
     (λ accepted written. shown_first (asked_of c.args.self) candidate left c.args.answers.now.bytes.items _ accepted
     (subst (λ candidates. IsFirstFound candidates candidate left) c.of.ensures c.in-Some.ensures.steps) written)
-    c.report.ensures
+    c.keep.ensures
 
 pub returns-in-None : goal.returns-in-None
 returns-in-None c = shown_none (asked_of c.args.self) c.args.answers.now.bytes.items (subst NoneFound c.of.ensures c.in-None.ensures.steps)

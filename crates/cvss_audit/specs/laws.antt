@@ -1,0 +1,3 @@
+pub mod ObjectTexts
+pub mod Pointers
+pub mod Records

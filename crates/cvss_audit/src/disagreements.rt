@@ -1,0 +1,5 @@
+//! Where a document disagrees with the vectors in it.
+
+pub mod difference;
+mod ratings;
+mod surroundings;

@@ -1,0 +1,6 @@
+//! Where vectors are in a document.
+
+mod ids;
+pub mod place;
+mod pointer;
+pub mod walk;

@@ -1,0 +1,13 @@
+mod CuttingLemmas
+mod FieldLemmas
+mod HeaderLemmas
+mod JoiningLemmas
+mod ReadingLemmas
+mod ReadsLemmas
+mod RecordFacts
+mod RunLemmas
+mod SearchLemmas
+mod StepsLemmas
+mod TallyLemmas
+mod ValueLemmas
+mod WritingLemmas

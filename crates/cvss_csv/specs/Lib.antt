@@ -1,0 +1,11 @@
+pub mod Answers
+pub mod Cells
+pub mod Fields
+pub mod Guards
+pub mod Quoting
+pub mod Records
+pub mod Runs
+pub mod Tallies
+pub mod Tasks
+pub mod Writing
+pub mod private

@@ -1,0 +1,5 @@
+pub mod Answering
+pub mod Cutting
+pub mod Searching
+pub mod Steps
+pub mod Values

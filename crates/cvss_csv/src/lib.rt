@@ -1,0 +1,29 @@
+//! CSV (RFC 4180) with six cells after those of each record: the vector that is found in the record, its
+//! version and its scores, or why there is none.
+#![tactic(auto)]
+
+mod answer;
+mod asked;
+mod cells;
+mod counting;
+mod cutting;
+mod fault;
+mod fields;
+mod guarding;
+mod header;
+pub mod laws;
+mod pending;
+mod place;
+mod progress;
+mod quoting;
+mod running;
+mod search;
+mod tally;
+mod task;
+mod value;
+mod vector;
+
+pub use asked::{Asked, Cells, Column};
+pub use fault::CsvFault;
+pub use running::run_csv;
+pub use task::CsvTask;

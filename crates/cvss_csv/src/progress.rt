@@ -1,0 +1,110 @@
+//! How far a run has come.
+
+ghost use Rattle.std.specs.Prelude.{◌≡◌, None, [], IfErr, OnOk};
+ghost use Rattle.cvss_csv.specs.Records.{is_open};
+ghost use Rattle.cvss_csv.specs.Runs.{summary_of};
+ghost use Rattle.cvss_csv.specs.declared.fault.CsvFault.TheVariants.{Run};
+ghost use Rattle.cvss_csv.specs.private.Steps.{AnswersNext, AnswersRecord, CannotAnswer};
+ghost use Rattle.cvss_lines.specs.declared.fault.RunFault.TheVariants.{Memory};
+
+use crate::answer::Answerer;
+use crate::asked::{Asked, Cells, Column};
+use crate::counting::{count, nothing_counted};
+use crate::fault::CsvFault;
+use cvss_lines::{OutputBuffer, Summary};
+use std::alloc::Global;
+
+/// What is known of the records that are answered.
+#[derive(Drop)]
+pub(crate) struct Progress {
+    pub(crate) answerer: Answerer,
+    /// The cells that are searched, which the first record says.
+    pub(crate) cells: Option<Cells>,
+    /// The answers that aren't written yet.
+    pub(crate) answers: OutputBuffer,
+    pub(crate) summary: Summary,
+}
+
+impl Progress {
+    pub(crate) fn new(alloc: Global, asked: Asked) -> Progress
+        ensures asked { result.answerer.asked ≡ asked }
+        ensures cells { result.cells ≡ None }
+        ensures answers { result.answers.bytes.items ≡ [] }
+        ensures summary { result.summary ≡ summary_of [] }
+    {
+        Progress {
+            answerer: Answerer::new(alloc, asked),
+            cells: None,
+            answers: OutputBuffer {
+                bytes: Vec::new(alloc),
+            },
+            summary: nothing_counted(),
+        }
+    }
+
+    /// Answers the next record, which is given without its line end, and by whether its last field is quoted
+    /// and not closed.
+    pub(crate) fn answer_record(
+        &mut self,
+        column: Column<'_>,
+        body: &[u8],
+        unclosed: bool,
+        line_end: &[u8],
+    ) -> Result<(), CsvFault>
+        requires { unclosed ≡ is_open body.now }
+        ensures answered { OnOk result (AnswersRecord column.entry body.now line_end.now self.old self.new) }
+        ensures stopped { IfErr result (CannotAnswer column.entry body.now self.old) }
+    {
+        match self.cells {
+            Some(cells) => self.answer_next(cells, false, body, unclosed, line_end),
+            None => self.answer_first(column, body, unclosed, line_end),
+        }
+    }
+
+    /// Answers the first record.
+    fn answer_first(
+        &mut self,
+        column: Column<'_>,
+        body: &[u8],
+        unclosed: bool,
+        line_end: &[u8],
+    ) -> Result<(), CsvFault>
+        requires first { self.old.cells ≡ None }
+        requires unclosed { unclosed ≡ is_open body.now }
+        ensures answered { OnOk result (AnswersRecord column.entry body.now line_end.now self.old self.new) }
+        ensures stopped { IfErr result (CannotAnswer column.entry body.now self.old) }
+    {
+        let Some(cells) = self.answerer.cells_by(column, body)? else {
+            return Err(CsvFault::UnknownColumn);
+        };
+        let is_header = self.answerer.is_header(column, body)?;
+        self.cells = Some(cells);
+        self.answer_next(cells, is_header, body, unclosed, line_end)
+    }
+
+    /// Answers a record whose cells are known.
+    fn answer_next(
+        &mut self,
+        cells: Cells,
+        is_header: bool,
+        body: &[u8],
+        unclosed: bool,
+        line_end: &[u8],
+    ) -> Result<(), CsvFault>
+        requires { unclosed ≡ is_open body.now }
+        ensures answered { OnOk result
+            (AnswersNext cells is_header body.now line_end.now self.old self.new) }
+        ensures stopped { IfErr result (λ fault. fault ≡ Run Memory) }
+    {
+        let counted = self.answerer.push_record(
+            cells,
+            is_header,
+            body,
+            unclosed,
+            line_end,
+            &mut self.answers,
+        )?;
+        count(&mut self.summary, counted);
+        Ok(())
+    }
+}

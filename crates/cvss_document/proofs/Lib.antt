@@ -1,8 +1,0 @@
-pub mod AddedLemmas
-mod PlacesLemmas
-mod PlainLemmas
-mod PointerLemmas
-mod RecordLemmas
-mod ReportingLemmas
-mod ScoreLemmas
-mod TenthLemmas

@@ -1,5 +1,0 @@
-use Rattle.cvss_document.proofs.PointerLemmas.{pointers_lead}
-use Rattle.cvss_document.proofs.laws.pointers_lead_to_objects.Goals as goal
-
-pub returns : goal.returns
-returns c = pointers_lead

@@ -1,7 +1,0 @@
-use Rattle.std.proofs.Common.{refl}
-use lib.Ieee.{of_int, of_bits}
-use Rattle.cvss_document.proofs.scores.score_number.Goals as goal
-
-pub returns : goal.returns
-unfolding of_int of_bits
-returns c = refl

@@ -1,2 +1,0 @@
-pub mod Pointers
-pub mod Records

@@ -1,3 +1,0 @@
-pub mod Tenths
-pub mod Views
-pub mod Walking

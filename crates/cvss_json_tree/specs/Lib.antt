@@ -1,5 +1,0 @@
-pub mod Objects
-pub mod Texts
-pub mod Trees
-pub mod laws
-pub mod private

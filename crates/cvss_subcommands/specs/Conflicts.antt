@@ -1,0 +1,71 @@
+-- Options and operands that do not go together.
+use Rattle.std.specs.Prelude.{ℕ, ◌==◌, ◌&&◌, not, Option, Some, None, if◌then◌else◌}
+use Rattle.std.specs.Option.{option_map, option_or}
+use Rattle.cvss_subcommands.specs.Flags.{all_scores_of, gate_flag}
+use Rattle.cvss_subcommands.specs.declared.flags.Flag.{Flag}
+use Rattle.cvss_subcommands.specs.declared.flags.Flag.TheVariants.{Annotate, Column, Count, Csv, Differing, Guard, Json, Standard, Tsv}
+use Rattle.cvss_subcommands.specs.declared.flags.Flags.{Flags}
+use Rattle.cvss_subcommands.specs.declared.subcommand.Subcommand.{Subcommand}
+use Rattle.cvss_subcommands.specs.declared.subcommand.Subcommand.TheVariants.{Audit, Diff, Find, Score, Triage}
+use Rattle.cvss_subcommands.specs.declared.usage_error.UsageError.{UsageError}
+use Rattle.cvss_subcommands.specs.declared.usage_error.UsageError.TheVariants.{AllScores, NeedsJson, NeedsTable, NotTwo, NotWith}
+
+-- the option whose output has all scores, if it is given with --base
+abbrev pub all_scores_error : Subcommand → Option Flag → Option UsageError
+all_scores_error subcommand None = None
+all_scores_error subcommand (Some flag) = Some (AllScores subcommand flag)
+
+-- the form that is asked for, if it is one of rows
+abbrev pub rows_of : Flags → Option Flag
+rows_of flags = if flags.json then Some Json else if flags.tsv then Some Tsv else None
+
+-- the option that does not go with rows
+abbrev pub without_rows : Flags → Option Flag
+without_rows flags = if flags.standard then Some Standard else if flags.count then Some Count else None
+
+-- the option that does not go with --csv
+abbrev pub without_csv : Flags → Option Flag
+without_csv flags = elim (rows_of flags) [
+  | Some rows ↦ Some rows
+  | None ↦ if flags.standard then Some Standard else gate_flag flags
+]
+
+-- what is wrong with the options of `cvss score` that are given together, without --csv
+abbrev pub lines_conflict : Flags → Option UsageError
+lines_conflict flags = elim (without_rows flags) [
+  | Some flag ↦ option_map (λ rows. NotWith Score flag rows) (rows_of flags)
+  | None ↦ all_scores_error Score (all_scores_of flags)
+]
+
+-- and with it, or without
+abbrev pub score_conflict : Flags → Option UsageError
+score_conflict flags =
+    if flags.csv then option_map (λ other. NotWith Score Csv other) (without_csv flags)
+    else if flags.column then Some (NeedsTable Column)
+    else if flags.guard && not flags.tsv then Some (NeedsTable Guard)
+    else lines_conflict flags
+
+-- numbers of vectors have one form
+abbrev pub count_conflict : Subcommand → Flags → Option UsageError
+count_conflict subcommand flags = if flags.count && flags.json then Some (NotWith subcommand Count Json) else None
+
+-- what is wrong with the options of `cvss find` that are given together: --annotate repeats all lines
+abbrev pub find_conflict : Flags → Option UsageError
+find_conflict flags =
+    if flags.annotate then elim (gate_flag flags) [
+      | Some flag ↦ Some (NotWith Find flag Annotate)
+      | None ↦ all_scores_error Find (all_scores_of flags)
+    ]
+    else option_or (count_conflict Find flags) (all_scores_error Find (all_scores_of flags))
+
+-- what is wrong with what is given together: options, and so many operands. Where `cvss triage` prints all scores, --base
+-- says by which it ranks.
+abbrev pub conflict_of : Subcommand → Flags → ℕ → Option UsageError
+conflict_of Triage flags operands = count_conflict Triage flags
+conflict_of Score flags operands = score_conflict flags
+conflict_of Find flags operands = find_conflict flags
+conflict_of Audit flags operands =
+    if flags.differing && not flags.json then Some (NeedsJson Audit Differing)
+    else count_conflict Audit flags
+conflict_of Diff flags operands = if operands == 2 then None else Some NotTwo
+conflict_of subcommand flags operands = all_scores_error subcommand (all_scores_of flags)

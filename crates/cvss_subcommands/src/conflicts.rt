@@ -1,0 +1,139 @@
+//! Options and operands that do not go together.
+
+ghost use Rattle.std.specs.Prelude.{◌≡◌};
+ghost use Rattle.cvss_subcommands.specs.Conflicts.{all_scores_error, conflict_of, count_conflict, find_conflict, lines_conflict, rows_of, score_conflict, without_csv, without_rows};
+ghost use Rattle.cvss_subcommands.specs.Flags.{all_scores_of};
+
+use crate::flags::{Flag, Flags};
+use crate::subcommand::Subcommand;
+use crate::usage_error::UsageError;
+
+/// What is wrong with what is given together: options, and so many operands. Where `cvss triage` prints all
+/// scores, `--base` says by which it ranks.
+pub(crate) fn conflict_of(
+    subcommand: Subcommand,
+    flags: Flags,
+    operands: usize,
+) -> Option<UsageError>
+    ensures { result ≡ conflict_of subcommand flags operands }
+{
+    match subcommand {
+        Subcommand::Triage => count_conflict(subcommand, flags),
+        Subcommand::Score => score_conflict(flags),
+        Subcommand::Find => find_conflict(flags),
+        Subcommand::Audit if flags.differing && !flags.json => {
+            Some(UsageError::NeedsJson(subcommand, Flag::Differing))
+        }
+        Subcommand::Audit => count_conflict(subcommand, flags),
+        Subcommand::Diff if operands == 2 => None,
+        Subcommand::Diff => Some(UsageError::NotTwo),
+        _ => all_scores_error(subcommand, flags),
+    }
+}
+
+/// What is wrong with the options of `cvss score` that are given together.
+fn score_conflict(flags: Flags) -> Option<UsageError>
+    ensures { result ≡ score_conflict flags }
+{
+    if flags.csv {
+        match without_csv(flags) {
+            Some(other) => Some(UsageError::NotWith(Subcommand::Score, Flag::Csv, other)),
+            None => None,
+        }
+    } else if flags.column {
+        Some(UsageError::NeedsTable(Flag::Column))
+    } else if flags.guard && !flags.tsv {
+        Some(UsageError::NeedsTable(Flag::Guard))
+    } else {
+        lines_conflict(flags)
+    }
+}
+
+/// The option that does not go with `--csv`.
+fn without_csv(flags: Flags) -> Option<Flag>
+    ensures { result ≡ without_csv flags }
+{
+    match rows_of(flags) {
+        Some(rows) => Some(rows),
+        None if flags.standard => Some(Flag::Standard),
+        None => flags.gate_flag(),
+    }
+}
+
+/// What is wrong with the options of `cvss score` that are given together, without `--csv`.
+fn lines_conflict(flags: Flags) -> Option<UsageError>
+    ensures { result ≡ lines_conflict flags }
+{
+    match without_rows(flags) {
+        Some(flag) => match rows_of(flags) {
+            Some(rows) => Some(UsageError::NotWith(Subcommand::Score, flag, rows)),
+            None => None,
+        },
+        None => all_scores_error(Subcommand::Score, flags),
+    }
+}
+
+/// What is wrong with the options of `cvss find` that are given together: `--annotate` repeats all lines.
+fn find_conflict(flags: Flags) -> Option<UsageError>
+    ensures { result ≡ find_conflict flags }
+{
+    if flags.annotate
+        && let Some(flag) = flags.gate_flag()
+    {
+        Some(UsageError::NotWith(Subcommand::Find, flag, Flag::Annotate))
+    } else if flags.annotate {
+        all_scores_error(Subcommand::Find, flags)
+    } else {
+        match count_conflict(Subcommand::Find, flags) {
+            Some(error) => Some(error),
+            None => all_scores_error(Subcommand::Find, flags),
+        }
+    }
+}
+
+/// The error of numbers of vectors that are asked for in objects: they have one form.
+fn count_conflict(subcommand: Subcommand, flags: Flags) -> Option<UsageError>
+    ensures { result ≡ count_conflict subcommand flags }
+{
+    if flags.count && flags.json {
+        Some(UsageError::NotWith(subcommand, Flag::Count, Flag::Json))
+    } else {
+        None
+    }
+}
+
+/// The form that is asked for, if it is one of rows.
+fn rows_of(flags: Flags) -> Option<Flag>
+    ensures { result ≡ rows_of flags }
+{
+    if flags.json {
+        Some(Flag::Json)
+    } else if flags.tsv {
+        Some(Flag::Tsv)
+    } else {
+        None
+    }
+}
+
+/// The option that does not go with rows.
+fn without_rows(flags: Flags) -> Option<Flag>
+    ensures { result ≡ without_rows flags }
+{
+    if flags.standard {
+        Some(Flag::Standard)
+    } else if flags.count {
+        Some(Flag::Count)
+    } else {
+        None
+    }
+}
+
+/// The error of `--base` beside an option whose output has all scores.
+fn all_scores_error(subcommand: Subcommand, flags: Flags) -> Option<UsageError>
+    ensures { result ≡ all_scores_error subcommand (all_scores_of flags) }
+{
+    match flags.all_scores() {
+        Some(flag) => Some(UsageError::AllScores(subcommand, flag)),
+        None => None,
+    }
+}

@@ -1,0 +1,10 @@
+use Rattle.std.proofs.Common.{take}
+use Rattle.cvss_triage.specs.Rows.{AreRowTexts, IsRowText}
+use Rattle.cvss_triage.specs.Shown.{shown_rows}
+use Rattle.cvss_triage.specs.private.Steps.{WritesRow}
+use Rattle.cvss_triage.proofs.rows.write_rows.Given as goal
+
+abbrev pub invariant-loop-row : goal.invariant-loop-row
+invariant-loop-row l =
+    WritesRow (AreRowTexts (IsRowText l.fn.asked.json l.fn.asked.allow_incomplete l.fn.places.starts.now l.fn.places.many l.fn.places.operands.now) (shown_rows l.fn.asked.gate (take l.row-index l.fn.rows)))
+    l.fn.text.bytes.items l.text.bytes.items

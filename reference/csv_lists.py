@@ -1,0 +1,138 @@
+#!/usr/bin/env python3
+"""A second implementation of what `cvss score --csv` prints, written from RFC 4180 and the public standards alone.
+
+Reads CSV on standard input and writes it on standard output with six cells after those of each record: the canonical
+vector, its version, its score and severity, its base score, and why it is rejected.
+
+usage: reference/csv_lists.py [--column=NAME|N] [--allow-incomplete] [--base] [--guard] < TEXT
+"""
+import re
+import sys
+
+import complete
+import finding
+import reference
+import rows
+import scores
+import setting
+
+NAMES = b",vector,version,score,severity,base,error"
+MARK = b"\xef\xbb\xbf"
+BLANKS = b" \t\n\r\f"
+# A quoted field, which the end of the text may leave open, with what follows the closing quote; or any other.
+FIELD = re.compile(rb'"(?P<inner>(?:[^"]|"")*)(?:(?P<end>")(?P<tail>[^,\n]*))?|[^,\n]*')
+
+
+class UnknownColumn(Exception):
+    """No cell of the first record has the name."""
+
+
+def value(field):
+    """The text that a field stands for."""
+    quoted = FIELD.fullmatch(field)
+    if quoted is None or quoted["inner"] is None:
+        return field
+    return quoted["inner"].replace(b'""', b'"') + (quoted["tail"] or b"")
+
+
+def records(text):
+    """The fields and the line end of each record, and whether its last field is a quoted one that is not closed."""
+    place = 0
+    while place < len(text):
+        fields = []
+        while True:
+            match = FIELD.match(text, place)
+            fields.append(match.group())
+            place = match.end() + 1
+            if text[match.end():place] != b",":
+                break
+        is_open = match["inner"] is not None and match["end"] is None
+        line_end = text[match.end():place]
+        if line_end and fields[-1].endswith(b"\r"):
+            fields[-1], line_end = fields[-1][:-1], b"\r\n"
+        yield fields, line_end, is_open
+
+
+def field_of(text):
+    """The field that stands for a text."""
+    return b'"' + text.replace(b'"', b'""') + b'"' if re.search(rb'[",\r\n]', text) else text
+
+
+def guarded(field):
+    """A field that no spreadsheet takes for a formula."""
+    return b'"' + rows.guarded(field[1:]) if field.startswith(b'"') else rows.guarded(field)
+
+
+def cells_of(answer, text):
+    """The six cells of a score line, or of its error."""
+    if answer.startswith("error: "):
+        return b",,,,,," + field_of(answer.removeprefix("error: ").encode("utf-8"))
+    vector, score, severity = answer.split(" ")
+    version, metrics = setting.read(reference.text_of(text))
+    base, _ = scores.base(version, metrics)
+    return f",{vector},{version // 10}.{version % 10},{score},{severity},{base // 10}.{base % 10},".encode()
+
+
+def canonical(text):
+    """The canonical text of a vector, or the text itself if it is the text of none."""
+    answer = reference.answer(text)
+    return text if answer.startswith("error: ") else answer.split(" ")[0].encode()
+
+
+def vectors_in(fields):
+    """The texts of the vectors that are found in some fields, whether they are accepted or rejected."""
+    return [mention for field in fields for _, mention, _ in finding.found(value(field))]
+
+
+def cells(fields, index, allow_incomplete, base):
+    """The six cells of a record, whose vector is in any field or in that with the index."""
+    searched = fields if index is None else fields[index:index + 1]
+    found = vectors_in(searched)
+    if not found and index is None:
+        return b",,,,,,no vector"
+    if not found:
+        found = [value(field).strip(BLANKS) for field in searched]
+        if not any(found):
+            return b",,,,,,"
+    if len({canonical(text) for text in found}) > 1:
+        return b",,,,,,several vectors"
+    return cells_of(complete.answer(found[0], allow_incomplete=allow_incomplete, base=base), found[0])
+
+
+def answer(text, column=None, allow_incomplete=False, base=False, guard=False):
+    """The text, without the mark with which it may begin, and six cells after those of each record. The column is a name,
+    an index from 0, or none. Fields may be guarded."""
+    index, written = column, []
+    for number, (fields, line_end, is_open) in enumerate(records(text.removeprefix(MARK))):
+        is_header = number == 0 and not vectors_in(fields)
+        if number == 0 and isinstance(column, bytes):
+            index = next((i for i, field in enumerate(fields) if value(field) == column), None)
+            if index is None:
+                raise UnknownColumn(column)
+            is_header = True
+        body = b",".join(fields)
+        if not body:
+            appended = b""
+        elif is_open:
+            appended = b'",,,,,,a quoted field is not closed'
+        else:
+            appended = NAMES if is_header else cells(fields, index, allow_incomplete, base)
+        shown = b",".join(map(guarded, fields)) if guard else body
+        written.append(shown + appended + line_end)
+    return b"".join(written)
+
+
+def main():
+    column = next((word.partition("=")[2] for word in sys.argv if word.startswith("--column=")), None)
+    if column is not None:
+        column = int(column) - 1 if column.isdecimal() else column.encode()
+    try:
+        answered = answer(sys.stdin.buffer.read(), column, "--allow-incomplete" in sys.argv, "--base" in sys.argv,
+                          "--guard" in sys.argv)
+    except UnknownColumn as name:
+        sys.exit(f"no column has the name {name}")
+    sys.stdout.buffer.write(answered)
+
+
+if __name__ == "__main__":
+    main()
