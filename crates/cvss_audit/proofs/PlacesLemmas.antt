@@ -11,7 +11,7 @@ use Rattle.cvss_audit.specs.Places.{Context, Place, context_view, forms, own_con
 use Rattle.cvss_audit.specs.PlacesLeft.{places_in_levels, places_in_rest, step_text, under}
 use Rattle.cvss_audit.specs.private.Walking.{Enters, Visits, level_of, pointer_to, steps_in, steps_in_members, steps_in_rest, steps_left}
 use Rattle.cvss_audit.specs.declared.places.place.Context as code
-use Rattle.cvss_audit.specs.declared.places.place.Form.{Form}
+use Rattle.cvss_audit.specs.declared.places.form.Form.{Form}
 use Rattle.cvss_audit.specs.declared.places.walk.Level.{Level}
 use Rattle.cvss_audit.specs.declared.places.walk.Rest.{Rest}
 use Rattle.cvss_audit.specs.declared.places.walk.Rest.TheVariants.{Object}

@@ -13,7 +13,7 @@ use Rattle.serde_json.specs.Data.{Data, array, object, Items, no_items, item, Me
 use Rattle.serde_json.specs.Find.{get_item, get_member}
 use Rattle.cvss_audit.specs.Places.{Context, Place, below, escaped, forms, member_context, own_context, place_as, places_in, places_in_items, places_in_members, places_of, places_within, vector_as}
 use Rattle.cvss_audit.specs.laws.Pointers.{LeadsTo, here, by_item, by_member, HasNamesOnce, ItemsHaveNamesOnce, MembersHaveNamesOnce}
-use Rattle.cvss_audit.specs.declared.places.place.Form.{Form}
+use Rattle.cvss_audit.specs.declared.places.form.Form.{Form}
 
 -- a member that no other follows with its name is not hidden by the one before it
 found_at : (order : Ordering) (name sought : List ℕ) (value found : Data) (rest : Members) → slice_cmp nat_cmp sought name ≡ order

@@ -17,13 +17,13 @@ use Rattle.cvss_audit.specs.Members.{Member}
 use Rattle.cvss_audit.specs.Places.{Around, Place, given_at, is_among, object_at, text_at}
 use Rattle.cvss_audit.specs.SubScores.{AreSubScoresOf}
 use Rattle.cvss_vector.specs.Evaluation.{version_of, version_text}
-use Rattle.cvss_audit.specs.declared.disagreements.difference.Claim as code_claim
-use Rattle.cvss_audit.specs.declared.disagreements.difference.Claim.TheVariants.{Number, Text, Severity}
+use Rattle.cvss_audit.specs.declared.disagreements.claim.Claim as code_claim
+use Rattle.cvss_audit.specs.declared.disagreements.claim.Claim.TheVariants.{Number, Text, Severity}
 use Rattle.cvss_audit.specs.declared.disagreements.difference.Difference as code
 use Rattle.cvss_audit.specs.declared.disagreements.difference.Said.{Said}
 use Rattle.cvss_audit.specs.declared.disagreements.difference.Said.TheVariants.{Value, Name}
-use Rattle.cvss_audit.specs.declared.places.place.Form.{Form}
-use Rattle.cvss_audit.specs.declared.places.place.Form.TheVariants.{Record, GitHub, Osv, Rating, TrivyV2, TrivyV3, TrivyV40, RustSec, Spdx}
+use Rattle.cvss_audit.specs.declared.places.form.Form.{Form}
+use Rattle.cvss_audit.specs.declared.places.form.Form.TheVariants.{Record, GitHub, Osv, Rating, TrivyV2, TrivyV3, TrivyV40, RustSec, Spdx}
 use Rattle.cvss_audit.specs.declared.expected.sub_scores.SubScores.{SubScores}
 use Rattle.cvss_report.specs.declared.score.Scores.{Scores}
 

@@ -13,8 +13,8 @@ use Rattle.serde_json.specs.View.{members_view}
 use Rattle.cvss_audit.specs.declared.places.place.Around as code_around
 use Rattle.cvss_audit.specs.declared.places.place.Context as code_context
 use Rattle.cvss_audit.specs.declared.places.place.Place as code
-use Rattle.cvss_audit.specs.declared.places.place.Form.{Form}
-use Rattle.cvss_audit.specs.declared.places.place.Form.TheVariants.{Record, GitHub, Osv, Rating, TrivyV2, TrivyV3, TrivyV40, RustSec, Spdx}
+use Rattle.cvss_audit.specs.declared.places.form.Form.{Form}
+use Rattle.cvss_audit.specs.declared.places.form.Form.TheVariants.{Record, GitHub, Osv, Rating, TrivyV2, TrivyV3, TrivyV40, RustSec, Spdx}
 
 -- the text of the member with this name, if it is a string
 abbrev pub text_at : List ℕ → Members → Option (List ℕ)

@@ -19,6 +19,7 @@ pub use counts::Counts;
 pub use disagreements::difference::{Difference, Said, differences, differences_at};
 pub use documents::input::AuditForm;
 pub use expected::scores::{score_number, score_value};
-pub use places::place::{Around, Context, Form, Place};
+pub use places::form::Form;
+pub use places::place::{Around, Context, Place};
 pub use places::walk::{Places, vectors_in};
 pub use task::{Asked, Audit, Layout};

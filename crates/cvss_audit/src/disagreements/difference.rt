@@ -1,21 +1,23 @@
 //! Where an object disagrees with the vector in it.
 
-ghost use Rattle.std.specs.Prelude.{◌≡◌, ◌∷◌, [], IfOk, OnOk, false, map, option_and_then, option_map, unwrap_or};
+ghost use Rattle.std.specs.Prelude.{◌≡◌, ◌∷◌, [], IfOk, OnOk, map, option_and_then, option_map};
 ghost use Rattle.std.specs.Option.{option_to_list};
 ghost use Rattle.cvss_vector.specs.Answers.{HasScore};
-ghost use Rattle.cvss_audit.specs.Differences.{AreDifferences, AreDifferencesAt, begins_with_digit, claim_view, difference_at, difference_from, difference_view, differences_at, expected_by, expected_here, is_numeric, member_differences, osv_type, record_differences, said_view, wrong_name};
+ghost use Rattle.cvss_audit.specs.Differences.{AreDifferences, AreDifferencesAt, claim_view, difference_at, difference_from, difference_view, differences_at, expected_by, expected_here, member_differences, osv_type, record_differences, said_view, wrong_name};
 ghost use Rattle.cvss_audit.specs.Expected.{expected_value};
 ghost use Rattle.cvss_audit.specs.Places.{place_view};
 ghost use Rattle.cvss_audit.specs.private.Views.{Adds};
 ghost use Rattle.cvss_report.specs.Record.{expected_view};
-ghost use Rattle.serde_json.specs.Find.{as_str};
 ghost use Rattle.serde_json.specs.View.{members_view, view};
 
+use crate::disagreements::claim::{Claim, expected_by};
 use crate::disagreements::ratings::{push_rating_members, push_spdx, push_trivy};
 use crate::disagreements::surroundings::push_around;
 use crate::expected::member::{agrees, expected_at, expected_value};
 use crate::expected::sub_scores::SubScores;
-use crate::places::place::{Form, Place, given_at};
+use crate::places::form::Form;
+use crate::places::member::given_at;
+use crate::places::place::Place;
 use cvss_report::{Expected, Scores};
 use cvss_vector::Cvss;
 use serde_json::{Map, Value};
@@ -46,17 +48,6 @@ pub enum Said<'a> {
 pub(crate) struct Scored<'a> {
     pub(crate) cvss: &'a Cvss,
     pub(crate) scores: Scores,
-}
-
-/// What a member is to say.
-#[derive(Clone, Copy)]
-pub(crate) enum Claim {
-    /// So many tenths, if it is a number or a string that is written as one.
-    Number(u8),
-    /// This text.
-    Text(&'static str),
-    /// This severity, unless it is `unknown`.
-    Severity(&'static str),
 }
 
 /// The members of an object that say otherwise than the record of a vector, in the order of their
@@ -164,54 +155,6 @@ pub(crate) fn push_at<'a>(
     match given_at(object, name) {
         Some(said) => push_if_other(found, name, said, expected_by(claim, said)),
         None => Ok(()),
-    }
-}
-
-/// What is expected of a value by a claim, if anything is.
-fn expected_by(claim: Claim, said: &Value) -> Option<Expected>
-    ensures { option_map expected_view result ≡ expected_by (claim_view claim) (view said.now) }
-{
-    match claim {
-        Claim::Number(tenths) => {
-            if is_numeric(said) {
-                Some(Expected::Score(tenths))
-            } else {
-                None
-            }
-        }
-        Claim::Text(text) => Some(Expected::Text(text)),
-        Claim::Severity(text) => {
-            if said.as_str() == Some("unknown") {
-                None
-            } else {
-                Some(Expected::Text(text))
-            }
-        }
-    }
-}
-
-/// Whether a value is a number, or a string that is written as one.
-fn is_numeric(said: &Value) -> bool
-    ensures { result ≡ is_numeric (view said.now) }
-{
-    said.is_number() || is_number_text(said)
-}
-
-fn is_number_text(said: &Value) -> bool
-    ensures { result ≡ unwrap_or (option_map begins_with_digit (as_str (view said.now))) false }
-{
-    match said.as_str() {
-        Some(text) => begins_with_digit(text.as_bytes()),
-        None => false,
-    }
-}
-
-fn begins_with_digit(text: &[u8]) -> bool
-    ensures { result ≡ begins_with_digit text.now }
-{
-    match text {
-        [first, ..] => first.is_ascii_digit(),
-        [] => false,
     }
 }
 

@@ -6,10 +6,11 @@ ghost use Rattle.cvss_audit.specs.private.Views.{Adds};
 ghost use Rattle.cvss_audit.specs.Places.{text_at};
 ghost use Rattle.serde_json.specs.View.{members_view};
 
-use crate::disagreements::difference::{Claim, Difference, Scored, push_at, push_name};
+use crate::disagreements::claim::Claim;
+use crate::disagreements::difference::{Difference, Scored, push_at, push_name};
 use crate::disagreements::surroundings::push_parts;
 use crate::expected::sub_scores::SubScores;
-use crate::places::place::{object_at, text_at};
+use crate::places::member::{object_at, text_at};
 use cvss_base::TENTH;
 use cvss_vector::Cvss;
 use serde_json::{Map, Value};

@@ -7,7 +7,8 @@ ghost use Rattle.cvss_audit.specs.Places.{around_view, is_among};
 ghost use Rattle.cvss_audit.specs.private.Views.{Adds};
 ghost use Rattle.serde_json.specs.View.{members_view};
 
-use crate::disagreements::difference::{Claim, Difference, Scored, push_at, push_name};
+use crate::disagreements::claim::Claim;
+use crate::disagreements::difference::{Difference, Scored, push_at, push_name};
 use crate::expected::sub_scores::SubScores;
 use crate::places::place::Around;
 use cvss_report::severity_word;

@@ -4,7 +4,8 @@ ghost use Rattle.std.specs.Prelude.{◌≡◌, option_map};
 ghost use Rattle.cvss_audit.specs.Places.{context_view, id_of, own_context, text_within};
 ghost use Rattle.serde_json.specs.View.{members_view};
 
-use crate::places::place::{Context, object_at, text_at};
+use crate::places::member::{object_at, text_at};
+use crate::places::place::Context;
 use serde_json::{Map, Value};
 
 /// What is around an object's own vectors, by what is around the object.

@@ -8,8 +8,9 @@ ghost use Rattle.cvss_audit.specs.private.Walking.{Enters, Visits, level_of, poi
 ghost use Rattle.serde_json.specs.View.{members_view, view};
 ghost use Rattle.cvss_audit.specs.declared.places.walk.Rest.TheVariants.{Items, Object};
 
+use crate::places::form::{FORMS, Form, vector_as};
 use crate::places::ids::own_context;
-use crate::places::place::{Context, FORMS, Form, Place, member_context, vector_as};
+use crate::places::place::{Context, Place, member_context};
 use crate::places::pointer::{Step, push_step};
 use serde_json::{Map, Value};
 use std::alloc::{AllocError, Global};

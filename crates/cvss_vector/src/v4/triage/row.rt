@@ -5,8 +5,8 @@ ghost use Rattle.cvss_base.specs.SeverityScale.{severity_of_score};
 ghost use Rattle.cvss_vector.specs.v4.Vector.{v4};
 ghost use Rattle.cvss_base.specs.Version.{IsComplete};
 
-use crate::v4::{Nomenclature, Score, Vector};
-use cvss_base::Severity;
+use crate::v4::Vector;
+use cvss_base::{Severity, severity_of_score};
 use cvss_score::ranking::Ranked;
 use std::alloc::{AllocError, Global};
 
@@ -40,7 +40,7 @@ impl Row {
     pub fn severity(&self) -> Severity
         ensures { result ≡ severity_of_score self.now.score }
     {
-        Score::new(self.score, Nomenclature::CvssBE).severity()
+        severity_of_score(self.score)
     }
 }
 

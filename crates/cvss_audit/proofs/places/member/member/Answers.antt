@@ -1,7 +1,7 @@
 use Rattle.std.proofs.Common.{option_map, ap, ◌∙◌}
 use Rattle.serde_json.proofs.Views.{view_of_ref, view-lookup}
 use Rattle.serde_json.specs.View.{view}
-use Rattle.cvss_audit.proofs.places.place.member.Goals as goal
+use Rattle.cvss_audit.proofs.places.member.member.Goals as goal
 
 pub returns : goal.returns
 returns c =
