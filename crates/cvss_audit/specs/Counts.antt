@@ -1,19 +1,12 @@
 -- How many documents and vectors an audit has seen, and how many disagreements.
-use Rattle.std.specs.Prelude.{ℕ, ◌+◌, ◌-◌, ◌^◌, min, Option, None}
+use Rattle.std.specs.Prelude.{ℕ, ◌+◌, Option, None}
 use Rattle.cvss_base.specs.declared.severity.Severity.{Severity}
-use Rattle.cvss_report.specs.Tallies.{no_tally, with_one}
+use Rattle.cvss_report.specs.Tallies.{at_most, no_tally, one_more, with_one}
 use Rattle.cvss_audit.specs.declared.counts.Counts.{Counts}
 
 -- nothing is counted
 abbrev pub no_counts : Counts
 no_counts = record { documents = 0; vectors = 0; disagreements = 0; severities = no_tally }
-
--- up to the greatest number of 64 bits
-abbrev pub at_most : ℕ → ℕ
-at_most count = min count (2 ^ 64 - 1)
-
-abbrev pub one_more : ℕ → ℕ
-one_more count = at_most (count + 1)
 
 -- one more document is counted
 abbrev pub with_document : Counts → Counts

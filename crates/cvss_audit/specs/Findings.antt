@@ -12,7 +12,7 @@ use Rattle.cvss_vector.specs.Evaluation.{IsEvaluation}
 use Rattle.cvss_vector.specs.declared.evaluation.Evaluation.{Evaluation}
 use Rattle.cvss_vector.specs.declared.evaluation.Rated.{Rated}
 use Rattle.cvss_vector.specs.declared.vector.Cvss.{Cvss}
-use Rattle.cvss_audit.specs.Counts.{at_most}
+use Rattle.cvss_report.specs.Tallies.{at_most}
 use Rattle.cvss_audit.specs.Differences.{AreDifferencesAt, Difference, difference_view}
 use Rattle.cvss_audit.specs.Inputs.{Input}
 use Rattle.cvss_audit.specs.Places.{Place}

@@ -1,10 +1,10 @@
 //! How much an audit has found.
 
 ghost use Rattle.std.specs.Prelude.{◌≡◌};
-ghost use Rattle.cvss_audit.specs.Counts.{no_counts, one_more, with_document, with_rejected, with_vector};
+ghost use Rattle.cvss_audit.specs.Counts.{no_counts, with_document, with_rejected, with_vector};
 
 use cvss_base::Severity;
-use cvss_report::Tally;
+use cvss_report::{Tally, one_more};
 
 /// How many documents and vectors an audit has seen, and how many disagreements. No number grows beyond the
 /// greatest of its type.
@@ -66,11 +66,4 @@ impl Counts {
             ..self
         }
     }
-}
-
-/// One more, unless that is beyond the type.
-fn one_more(count: u64) -> u64
-    ensures { result ≡ one_more count }
-{
-    count.saturating_add(1)
 }

@@ -18,7 +18,7 @@ mod whole;
 
 pub use command_line::{CommandLine, arguments, arguments_of};
 pub use files::{Files, SystemFiles};
-pub use names::{is_plain, put_shown};
+pub use names::{is_plain, put_shown, shown_text};
 pub use operands::{are_many, serve_operands};
 pub use reading::read_whole;
 pub use report::{Report, report_error};

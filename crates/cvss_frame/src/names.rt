@@ -2,13 +2,14 @@
 
 ghost use Rattle.std.specs.Char.{digit_char};
 ghost use Rattle.std.specs.List.{list_all};
-ghost use Rattle.std.specs.Prelude.{◌≡◌, ◌<◌, ◌/◌, ◌%◌, [], ◌∷◌, flat_map};
+ghost use Rattle.std.specs.Prelude.{◌≡◌, ◌<◌, ◌/◌, ◌%◌, [], ◌∷◌, IfOk, flat_map};
 ghost use Rattle.std.specs.Str.{chars};
 ghost use Rattle.cvss_json.specs.Escapes.{is_from, is_hidden};
 ghost use Rattle.cvss_json.specs.Sinks.{Adds};
 ghost use Rattle.cvss_frame.specs.Names.{shown_byte, shown_bytes, shown_char, shown_name};
 
-use cvss_json::{Sink, put_escaped};
+use cvss_json::{Growing, Sink, put_escaped};
+use std::alloc::{AllocError, Global};
 
 /// Writes a name, with escapes for its control characters and for bytes that are not UTF-8.
 #[tactic(auto, using(crate::proofs::NamesLemmas::plain_shown))]
@@ -20,6 +21,19 @@ pub fn put_shown<S: Sink>(sink: &mut S, name: &[u8])
     } else {
         put_escapes(sink, name);
     }
+}
+
+/// A name with these escapes.
+///
+/// # Errors
+///
+/// Out of memory.
+pub fn shown_text(alloc: Global, name: &[u8]) -> Result<Vec<u8>, AllocError>
+    ensures { IfOk result (λ shown. shown.items ≡ shown_name name.now) }
+{
+    let mut shown = Growing::new(alloc);
+    put_shown(&mut shown, name);
+    shown.end()
 }
 
 /// Whether a name has printable ASCII characters alone.

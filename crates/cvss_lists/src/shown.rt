@@ -1,13 +1,12 @@
 //! Rejections without what breaks a line or a terminal.
 
-ghost use Rattle.std.specs.Prelude.{◌≡◌, ◌∷◌, ◌++◌, [], ℕ, List, IfOk, OnOk, length};
+ghost use Rattle.std.specs.Prelude.{◌≡◌, ◌∷◌, ◌++◌, [], ℕ, List, OnOk, length};
 ghost use Rattle.cvss_frame.specs.Names.{shown_name};
 ghost use Rattle.cvss_lists.specs.Shown.{IsShown, is_one_text_if_shown};
 
 use crate::gated::waiting_bytes;
 use crate::scored::Scored;
-use cvss_frame::{LineAnswer, is_plain, put_shown};
-use cvss_json::Growing;
+use cvss_frame::{LineAnswer, is_plain, shown_text};
 use cvss_lines::{Answering, OutputBuffer};
 use std::alloc::{AllocError, Global};
 
@@ -85,12 +84,4 @@ fn text_after(waiting: usize, bytes: &[u8]) -> &[u8]
         Some([text @ .., _]) => text,
         _ => bytes,
     }
-}
-
-fn shown_text(alloc: Global, text: &[u8]) -> Result<Vec<u8>, AllocError>
-    ensures { IfOk result (λ shown. shown.items ≡ shown_name text.now) }
-{
-    let mut shown = Growing::new(alloc);
-    put_shown(&mut shown, text);
-    shown.end()
 }

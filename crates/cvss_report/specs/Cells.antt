@@ -3,7 +3,7 @@ use Rattle.std.specs.Prelude.{ℕ, Bool, true, false, ◌&&◌, ◌||◌, ◌-�
 use Rattle.std.specs.Str.{is_utf8}
 use Rattle.cvss_json.specs.Escapes.{quoted as json_quoted}
 use Rattle.cvss_report.specs.declared.format.Format.{Format}
-use Rattle.cvss_report.specs.declared.format.Format.TheVariants.{Tsv, Json}
+use Rattle.cvss_report.specs.declared.format.Format.TheVariants.{GuardedTsv, Json, Tsv}
 
 -- what a cell holds: nothing, words that need no escape, any text, or the text of a number
 pub data Cell : Type 0 where
@@ -34,7 +34,8 @@ guard guarded text = if is_formula text && guarded then codes "'" else []
 
 -- what is around a string
 abbrev pub quote : Format → List ℕ
-quote (Tsv many guarded) = []
+quote Tsv = []
+quote GuardedTsv = []
 quote Json = codes "\""
 
 -- words that need no escape
@@ -43,12 +44,14 @@ quoted format text = quote format ++ (text ++ quote format)
 
 -- no value
 abbrev pub nothing : Format → List ℕ
-nothing (Tsv many guarded) = []
+nothing Tsv = []
+nothing GuardedTsv = []
 nothing Json = codes "null"
 
 -- any text, which may be no UTF-8: JSON has no value for it then
 abbrev pub given_text : Format → List ℕ → List ℕ
-given_text (Tsv many guarded) text = guard guarded text ++ escaped text
+given_text Tsv text = escaped text
+given_text GuardedTsv text = guard true text ++ escaped text
 given_text Json text = if is_utf8 text then json_quoted text else nothing Json
 
 abbrev pub cell_text : Format → Cell → List ℕ
@@ -66,18 +69,25 @@ abbrev pub object_start : List ℕ → List ℕ
 object_start [] = codes "{"
 object_start (byte ∷ bytes) = codes "{\"file\":" ++ (given_text Json (file_of (byte ∷ bytes)) ++ codes ",")
 
+-- the file in a column, where that comes first
+abbrev pub file_column : Bool → Format → List ℕ → List ℕ
+file_column false format prefix = []
+file_column true format prefix = given_text format (file_of prefix) ++ codes "\t"
+
 -- what is before the given text: the file, where there are several; for a vector that is an operand it is empty
-abbrev pub opening : Format → List ℕ → List ℕ
-opening (Tsv false guarded) prefix = []
-opening (Tsv true guarded) prefix = given_text (Tsv true guarded) (file_of prefix) ++ codes "\t"
-opening Json prefix = object_start prefix ++ codes "\"given\":"
+abbrev pub opening : Format → Bool → List ℕ → List ℕ
+opening Tsv named prefix = file_column named Tsv prefix
+opening GuardedTsv named prefix = file_column named GuardedTsv prefix
+opening Json named prefix = object_start prefix ++ codes "\"given\":"
 
 -- what is before each cell, whose column has this name
 abbrev pub before_cell : Format → List ℕ → List ℕ
-before_cell (Tsv many guarded) name = codes "\t"
+before_cell Tsv name = codes "\t"
+before_cell GuardedTsv name = codes "\t"
 before_cell Json name = codes ",\"" ++ (name ++ codes "\":")
 
 -- what is after the last cell
 abbrev pub closing : Format → List ℕ
-closing (Tsv many guarded) = []
+closing Tsv = []
+closing GuardedTsv = []
 closing Json = codes "}"

@@ -18,6 +18,7 @@ use Rattle.cvss_lines.specs.Prefixed.{IsPrefixed}
 use Rattle.cvss_vector.specs.v4.Nomenclature as nomenclature
 use Rattle.cvss_report.specs.Cells.{Cell, Nothing, Words, AnyText, Number, before_cell, cell_text, closing, given_text, opening}
 use Rattle.cvss_report.specs.declared.format.Format.{Format}
+use Rattle.cvss_report.specs.declared.format.Format.TheVariants.{GuardedTsv, Tsv}
 
 -- a score of so many tenths
 abbrev pub score_cell : ℕ → Cell
@@ -87,12 +88,17 @@ abbrev pub cells_rule : Format → Bool → Rule
 cells_rule format allow_incomplete =
     by_one_text (λ number. AreVectorCells format allow_incomplete) (λ number. AreErrorCells format allow_incomplete)
 
--- this is an answer to the line, which is read of an input whose answers have a prefix or an empty one: one row
-unfoldable pub IsRow : Format → Bool → List ℕ → Rule
-IsRow format allow_incomplete prefix number line =
-    IsPrefixed (opening format prefix ++ given_text format line) (cells_rule format allow_incomplete) number line
+-- this is an answer to the line, which is read of an input whose answers have a prefix or an empty one: one row, whose first
+-- column has the name of the file or not
+unfoldable pub IsRow : Format → Bool → Bool → List ℕ → Rule
+IsRow format named allow_incomplete prefix number line =
+    IsPrefixed (opening format named prefix ++ given_text format line) (cells_rule format allow_incomplete) number line
 
--- the names of the columns, where answers have a prefix or not
+-- values with tabs between them, guarded or not
+abbrev pub tsv_of : Bool → Format
+tsv_of guarded = if guarded then GuardedTsv else Tsv
+
+-- the names of the columns, where there are several files or not
 abbrev pub header_text : Bool → List ℕ
 header_text many =
     (if many then codes "file\t" else [])

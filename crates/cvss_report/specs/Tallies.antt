@@ -8,9 +8,12 @@ use Rattle.cvss_report.specs.declared.tally.Tally.{Tally}
 abbrev pub no_tally : Tally
 no_tally = record { critical = 0; high = 0; medium = 0; low = 0; none = 0; rejected = 0 }
 
--- one more, up to the greatest number of 64 bits
+-- up to the greatest number of 64 bits
+abbrev pub at_most : ℕ → ℕ
+at_most count = min count (2 ^ 64 - 1)
+
 abbrev pub one_more : ℕ → ℕ
-one_more count = min (count + 1) (2 ^ 64 - 1)
+one_more count = at_most (count + 1)
 
 -- one more text is counted, by the severity of its vector if it is accepted
 abbrev pub with_one : Option Severity → Tally → Tally

@@ -18,7 +18,8 @@ pub fn put_given<S: Sink>(sink: &mut S, format: Format, text: &[u8])
     ensures { Adds S.Holds (given_text format text.now) sink.old sink.new }
 {
     match format {
-        Format::Tsv { guarded, .. } => put_column(sink, guarded, text),
+        Format::Tsv => put_escaped(sink, text),
+        Format::GuardedTsv => put_guarded(sink, text),
         Format::Json => put_if_utf8(sink, text),
     }
 }
@@ -33,20 +34,20 @@ fn put_if_utf8<S: Sink>(sink: &mut S, text: &[u8])
     }
 }
 
-/// Writes a text in a column, which may be guarded.
+/// Writes a text in a column that is guarded.
 #[tactic(auto, using(cvss_json::proofs::AddsLemmas::join2))]
-fn put_column<S: Sink>(sink: &mut S, guarded: bool, text: &[u8])
-    ensures { Adds S.Holds (guard guarded text.now ++ escaped text.now) sink.old sink.new }
+fn put_guarded<S: Sink>(sink: &mut S, text: &[u8])
+    ensures { Adds S.Holds (guard true text.now ++ escaped text.now) sink.old sink.new }
 {
-    put_guard(sink, guarded, text);
+    put_guard(sink, text);
     put_escaped(sink, text);
 }
 
-/// Writes the apostrophe before a formula, where columns are guarded.
-fn put_guard<S: Sink>(sink: &mut S, guarded: bool, text: &[u8])
-    ensures { Adds S.Holds (guard guarded text.now) sink.old sink.new }
+/// Writes the apostrophe before a formula.
+fn put_guard<S: Sink>(sink: &mut S, text: &[u8])
+    ensures { Adds S.Holds (guard true text.now) sink.old sink.new }
 {
-    if is_formula(text) && guarded {
+    if is_formula(text) {
         sink.push(b"'");
     } else {
         sink.push(b"");

@@ -34,7 +34,7 @@ pub use line_score::{score_of, severity_of};
 pub use record::{has_member, put_record};
 pub use rows::{Rows, write_cells};
 pub use score::{Scores, severity_word};
-pub use tally::{Tally, count_text};
+pub use tally::{Tally, count_text, one_more};
 pub use text::{put_vector, spelled};
 pub use threshold::threshold_of;
 pub use writing::put_object_start;

@@ -19,6 +19,8 @@ use std::alloc::{AllocError, Global};
 #[derive(Drop)]
 pub struct Rows<'a> {
     pub format: Format,
+    /// Whether the first of values with tabs between them is the name of the file, since there are several.
+    pub named: bool,
     /// Whether a vector of CVSS v3 may lack base metrics.
     pub allow_incomplete: bool,
     /// The name of the file and a colon, where there are several files.
@@ -26,7 +28,7 @@ pub struct Rows<'a> {
 }
 
 impl Answering for Rows<'_> {
-    ghost rule = { λ rows. IsRow rows.format rows.allow_incomplete rows.prefix.now };
+    ghost rule = { λ rows. IsRow rows.format rows.named rows.allow_incomplete rows.prefix.now };
 
     fn answer_line(
         &self,
@@ -35,7 +37,7 @@ impl Answering for Rows<'_> {
         line: &[u8],
         answers: &mut OutputBuffer,
     ) -> Result<bool, AllocError> {
-        write_start(self.format, self.prefix, line, answers)?;
+        write_start(self.format, self.named, self.prefix, line, answers)?;
         write_cells(alloc, self.format, line, self.allow_incomplete, answers)
     }
 }

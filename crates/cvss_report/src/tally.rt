@@ -52,7 +52,7 @@ impl Tally {
 }
 
 /// One more, unless that is beyond the type.
-fn one_more(count: u64) -> u64
+pub fn one_more(count: u64) -> u64
     ensures { result ≡ one_more count }
 {
     count.saturating_add(1)

@@ -1,8 +1,8 @@
 //! How a row is written.
 
-ghost use Rattle.std.specs.Prelude.{◌≡◌, ◌++◌, [], ◌∷◌, map, OnOk};
+ghost use Rattle.std.specs.Prelude.{◌≡◌, ◌++◌, [], ◌∷◌, codes, map, OnOk};
 ghost use Rattle.cvss_json.specs.Sinks.{Adds};
-ghost use Rattle.cvss_report.specs.Cells.{before_cell, cell_text, closing, given_text, nothing, object_start, opening, quote};
+ghost use Rattle.cvss_report.specs.Cells.{before_cell, cell_text, closing, file_column, file_of, given_text, nothing, object_start, opening, quote};
 ghost use Rattle.cvss_report.specs.Rows.{cells_text, field_text};
 ghost use Rattle.cvss_report.specs.private.Views.{cell_view, field_view};
 
@@ -16,42 +16,68 @@ use std::alloc::AllocError;
 /// Writes what is before the fields.
 pub(crate) fn write_start(
     format: Format,
+    named: bool,
     prefix: &[u8],
     line: &[u8],
     answers: &mut OutputBuffer,
 ) -> Result<(), AllocError>
     ensures { OnOk result (answers.new.bytes.items
-        ≡ answers.old.bytes.items ++ (opening format prefix.now ++ given_text format line.now)) }
+        ≡ answers.old.bytes.items ++ (opening format named prefix.now ++ given_text format line.now)) }
 {
     let mut sink = Growing::begin_after(answers);
-    put_start(&mut sink, format, prefix, line);
+    put_start(&mut sink, format, named, prefix, line);
     sink.end_into(answers)
 }
 
 #[tactic(auto, using(cvss_json::proofs::AddsLemmas::join2))]
-fn put_start<S: Sink>(sink: &mut S, format: Format, prefix: &[u8], line: &[u8])
-    ensures { Adds S.Holds (opening format prefix.now ++ given_text format line.now)
+fn put_start<S: Sink>(sink: &mut S, format: Format, named: bool, prefix: &[u8], line: &[u8])
+    ensures { Adds S.Holds (opening format named prefix.now ++ given_text format line.now)
         sink.old sink.new }
 {
-    put_opening(sink, format, prefix);
+    put_opening(sink, format, named, prefix);
     put_given(sink, format, line);
 }
 
 #[tactic(auto, using(cvss_json::proofs::AddsLemmas::join2))]
-fn put_opening<S: Sink>(sink: &mut S, format: Format, prefix: &[u8])
-    ensures { Adds S.Holds (opening format prefix.now) sink.old sink.new }
+fn put_opening<S: Sink>(sink: &mut S, format: Format, named: bool, prefix: &[u8])
+    ensures { Adds S.Holds (opening format named prefix.now) sink.old sink.new }
 {
-    match (format, prefix) {
-        (Format::Tsv { many: false, .. }, _) => sink.push(b""),
-        (Format::Tsv { many: true, .. }, []) => sink.push(b"\t"),
-        (Format::Tsv { many: true, .. }, [file @ .., _]) => {
-            put_given(sink, format, file);
-            sink.push(b"\t");
-        }
-        (Format::Json, _) => {
+    match format {
+        Format::Json => {
             put_object_start(sink, prefix);
             sink.push(b"\"given\":");
         }
+        Format::Tsv | Format::GuardedTsv => put_file(sink, named, format, prefix),
+    }
+}
+
+/// Writes the name of the file in a column, where that comes first: what the prefix has before its colon.
+fn put_file<S: Sink>(sink: &mut S, named: bool, format: Format, prefix: &[u8])
+    ensures { Adds S.Holds (file_column named format prefix.now) sink.old sink.new }
+{
+    if named {
+        put_column(sink, format, file_of(prefix));
+    } else {
+        sink.push(b"");
+    }
+}
+
+/// Writes a text in a column, and the tab after it.
+#[tactic(auto, using(cvss_json::proofs::AddsLemmas::join2))]
+fn put_column<S: Sink>(sink: &mut S, format: Format, text: &[u8])
+    ensures { Adds S.Holds (given_text format text.now ++ codes "\t") sink.old sink.new }
+{
+    put_given(sink, format, text);
+    sink.push(b"\t");
+}
+
+/// The name of a file, which a prefix has before its colon.
+fn file_of(prefix: &[u8]) -> &[u8]
+    ensures { result.now ≡ file_of prefix.now }
+{
+    match prefix {
+        [file @ .., _] => file,
+        [] => prefix,
     }
 }
 
@@ -115,7 +141,7 @@ fn put_name<S: Sink>(sink: &mut S, format: Format, name: &'static str)
     ensures { Adds S.Holds (before_cell format name.now) sink.old sink.new }
 {
     match format {
-        Format::Tsv { .. } => sink.push(b"\t"),
+        Format::Tsv | Format::GuardedTsv => sink.push(b"\t"),
         Format::Json => {
             sink.push(b",\"");
             sink.push(name.as_bytes());
@@ -144,7 +170,7 @@ fn put_nothing<S: Sink>(sink: &mut S, format: Format)
     ensures { Adds S.Holds (nothing format) sink.old sink.new }
 {
     match format {
-        Format::Tsv { .. } => sink.push(b""),
+        Format::Tsv | Format::GuardedTsv => sink.push(b""),
         Format::Json => sink.push(b"null"),
     }
 }
@@ -153,7 +179,7 @@ fn put_quote<S: Sink>(sink: &mut S, format: Format)
     ensures { Adds S.Holds (quote format) sink.old sink.new }
 {
     match format {
-        Format::Tsv { .. } => sink.push(b""),
+        Format::Tsv | Format::GuardedTsv => sink.push(b""),
         Format::Json => sink.push(b"\""),
     }
 }
@@ -163,7 +189,7 @@ fn put_closing<S: Sink>(sink: &mut S, format: Format)
     ensures { Adds S.Holds (closing format ++ 10 ∷ []) sink.old sink.new }
 {
     match format {
-        Format::Tsv { .. } => sink.push(b"\n"),
+        Format::Tsv | Format::GuardedTsv => sink.push(b"\n"),
         Format::Json => sink.push(b"}\n"),
     }
 }

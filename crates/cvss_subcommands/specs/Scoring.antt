@@ -26,9 +26,9 @@ use Rattle.cvss_frame.specs.Operands.{Ending, Endings, ServesAll, many_files}
 use Rattle.cvss_frame.specs.Reports.{Reported, Reports}
 use Rattle.cvss_frame.specs.State.{State}
 use Rattle.cvss_frame.specs.declared.served.Served.{Served}
-use Rattle.cvss_report.specs.Rows.{IsRow, header_text}
+use Rattle.cvss_report.specs.Rows.{IsRow, header_text, tsv_of}
 use Rattle.cvss_report.specs.declared.format.Format.{Format}
-use Rattle.cvss_report.specs.declared.format.Format.TheVariants.{Tsv, Json}
+use Rattle.cvss_report.specs.declared.format.Format.TheVariants.{Json}
 
 -- the text is written, or a beginning of it where the writer fails
 abbrev pub WritesText : List ℕ → Option (List ℕ) → Option (List ℕ) → Served → Type 0
@@ -49,10 +49,10 @@ EndsThrough (Some gate) Reports rule = Ends (IsGated gate Reports rule)
 abbrev pub AnswersTexts : Option Gate → (List ℕ → ℕ → Type 0) → Rule → Endings
 AnswersTexts gate Reports rule prefix = EndsThrough gate (ReportsTrimmed Reports) (IsPrefixed (shown_name prefix) (trimmed_rule (IsShown rule)))
 
--- the text of each line is answered by a row
-abbrev pub AnswersRow : Option Gate → Format → Bool → Endings
-AnswersRow gate format allow_incomplete prefix =
-    EndsThrough gate (ReportsTrimmed (IsScoreOfLine Overall allow_incomplete)) (trimmed_rule (IsRow format allow_incomplete prefix))
+-- the text of each line is answered by a row, whose first column has the name of the file or not
+abbrev pub AnswersRow : Option Gate → Format → Bool → Bool → Endings
+AnswersRow gate format named allow_incomplete prefix =
+    EndsThrough gate (ReportsTrimmed (IsScoreOfLine Overall allow_incomplete)) (trimmed_rule (IsRow format named allow_incomplete prefix))
 
 -- the names of the columns, or nothing where nothing is to be printed
 abbrev pub header_if : Bool → Bool → List ℕ
@@ -64,7 +64,7 @@ header_if false many = header_text many
 abbrev pub ServesTable : Option Gate → Bool → Bool → List (Vec ℕ) → State → State → Served → Type 0
 ServesTable gate guarded allow_incomplete operands old new served =
     ((written : Option (List ℕ)) × Appends old.written written (header_if (is_quiet gate) (many_files operands))
-    × ServesAll (AnswersRow gate (Tsv (many_files operands) guarded) allow_incomplete) operands (record old { written = written }) new served)
+    × ServesAll (AnswersRow gate (tsv_of guarded) (many_files operands) allow_incomplete) operands (record old { written = written }) new served)
     ⊎ (((count : ℕ) × Appends old.written new.written (take count (header_if (is_quiet gate) (many_files operands))))
     × (new ≡ record old { written = new.written }) × (served ≡ after nothing_served (Err Write)))
 
@@ -87,7 +87,7 @@ ScoresOrCounts false flags = ServesAll (ScoresLines flags (gate_of flags))
 
 -- how the vectors are answered, by whether --json and --tsv are given, and by the other options
 abbrev pub ScoresBy : Bool → Bool → Flags → List (Vec ℕ) → State → State → Served → Type 0
-ScoresBy true tsv flags = ServesAll (AnswersRow (gate_of flags) Json flags.allow_incomplete)
+ScoresBy true tsv flags = ServesAll (AnswersRow (gate_of flags) Json false flags.allow_incomplete)
 ScoresBy false true flags = ServesTable (gate_of flags) flags.guard flags.allow_incomplete
 ScoresBy false false flags = ScoresOrCounts (counts_of flags) flags
 

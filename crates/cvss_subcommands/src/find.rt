@@ -1,6 +1,6 @@
 //! `cvss find`.
 
-ghost use Rattle.std.specs.Prelude.{◌≡◌, IfOk, true};
+ghost use Rattle.std.specs.Prelude.{◌≡◌, true};
 ghost use Rattle.cvss_subcommands.specs.Done.{FindsAll, FindsOrCounts, FindsVectors, MayHint, find_ends, form_of};
 ghost use Rattle.cvss_subcommands.specs.Flags.{counts_of};
 ghost use Rattle.cvss_frame.specs.Names.{shown_name};
@@ -13,13 +13,12 @@ ghost use Rattle.cvss_subcommands.specs.Hints.{prefix_hint};
 
 use crate::counting::print_count;
 use crate::flags::Flags;
-use cvss_frame::{Host, Report, Served, Streams, Task, is_plain, put_shown, serve_operands};
-use cvss_json::Growing;
+use cvss_frame::{Host, Report, Served, Streams, Task, is_plain, serve_operands, shown_text};
 use cvss_lines::{RunFault, Summary, run};
 use cvss_matches::{Finding, Form, PrefixHint};
 use cvss_report::{Gate, Tally};
 use cvss_vector::{Scoring, Version};
-use std::alloc::{AllocError, Global};
+use std::alloc::Global;
 use std::cell::Cell;
 use std::io::{Read, Write};
 
@@ -185,7 +184,7 @@ impl Find<'_> {
         if is_plain(prefix) {
             return self.find_after(alloc, prefix, reader, writer);
         }
-        match shown(alloc, prefix) {
+        match shown_text(alloc, prefix) {
             Ok(prefix) => self.find_after(alloc, &prefix, reader, writer),
             Err(_) => Err(RunFault::Memory),
         }
@@ -216,13 +215,4 @@ impl Find<'_> {
         };
         run(&finding, alloc, reader, writer)
     }
-}
-
-/// A name as it is shown.
-fn shown(alloc: Global, name: &[u8]) -> Result<Vec<u8>, AllocError>
-    ensures { IfOk result (λ shown. shown.items ≡ shown_name name.now) }
-{
-    let mut shown = Growing::new(alloc);
-    put_shown(&mut shown, name);
-    shown.end()
 }

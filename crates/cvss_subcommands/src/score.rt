@@ -69,9 +69,9 @@ fn serve<H: Host>(
 {
     let (gate, allow_incomplete) = (flags.gate(), flags.allow_incomplete);
     if flags.json {
-        let format = Format::Json;
         let task = ScoreRow {
-            format,
+            format: Format::Json,
+            named: false,
             allow_incomplete,
             gate,
             hint,
@@ -207,9 +207,9 @@ fn serve_table<H: Host>(
     let names = header_if(gate, many);
     match write_whole(&mut streams.output, names.as_bytes()) {
         Ok(()) => {
-            let guarded = flags.guard;
             let task = ScoreRow {
-                format: Format::Tsv { many, guarded },
+                format: Format::tsv(flags.guard),
+                named: many,
                 allow_incomplete: flags.allow_incomplete,
                 gate,
                 hint,

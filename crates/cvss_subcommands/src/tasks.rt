@@ -135,6 +135,8 @@ impl<A: LineAnswer + Scored> Task for GatedLines<A> {
 #[derive(Drop)]
 pub(crate) struct ScoreRow<'a> {
     pub(crate) format: Format,
+    /// Whether the first of values with tabs between them is the name of the file.
+    pub(crate) named: bool,
     /// A vector of CVSS v3 may lack base metrics.
     pub(crate) allow_incomplete: bool,
     /// Which vectors are shown and which fail.
@@ -144,7 +146,7 @@ pub(crate) struct ScoreRow<'a> {
 }
 
 impl Task for ScoreRow<'_> {
-    ghost ends = { λ row. AnswersRow row.gate row.format row.allow_incomplete };
+    ghost ends = { λ row. AnswersRow row.gate row.format row.named row.allow_incomplete };
 
     fn serve_input<R: Read, W: Write>(
         &self,
@@ -155,6 +157,7 @@ impl Task for ScoreRow<'_> {
     ) -> Result<Summary, RunFault> {
         let answer = Rows {
             format: self.format,
+            named: self.named,
             allow_incomplete: self.allow_incomplete,
             prefix,
         };

@@ -2,7 +2,7 @@
 
 ghost use Rattle.std.specs.Prelude.{◌≡◌, ◌&&◌, IfOk, Some, map};
 ghost use Rattle.cvss_audit.specs.Differences.{difference_view};
-ghost use Rattle.cvss_audit.specs.Counts.{at_most};
+ghost use Rattle.cvss_report.specs.Tallies.{at_most};
 ghost use Rattle.cvss_audit.specs.Findings.{HasScoreIn, IsFinding, IsFoundFor, IsRatedIf, IsRatedIn, agrees, finding_view, is_allowed, lines_about, nothing_differs};
 ghost use Rattle.cvss_audit.specs.Inputs.{input_view};
 ghost use Rattle.cvss_audit.specs.Places.{place_view};

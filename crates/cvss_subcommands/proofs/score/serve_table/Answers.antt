@@ -9,4 +9,4 @@ returns-in-Ok g c =
     let before = g.H.Output.Write.contents c.args.streams.now.output.writer in
     let after = g.H.Output.Write.contents c.write_whole.new.writer.writer in
     let is = c.as_bytes.ensures.value ∙ c.header_if-names.ensures ∙ ap (header_if (is_quiet c.args.gate)) c.are_many-many.ensures in
-    inl (after, subst (λ text. Appends before after text) is c.in-Ok.ensures.ok, rw c.are_many-many.ensures at c.serve_operands.ensures)
+    inl (after, subst (λ text. Appends before after text) is c.in-Ok.ensures.ok, rw c.are_many-many.ensures at (rw c.tsv.ensures at c.serve_operands.ensures))

@@ -14,7 +14,7 @@ returns c =
     IfOk-weaker c.write_cells.result _ _
     (λ accepted written.
     let row = WritesAnswer-prefixed (cells_rule rows.format rows.allow_incomplete) (is_one_text _ _)
-    (opening rows.format rows.prefix.now ++ given_text rows.format line) c.args.number line c.args.answers.now.bytes.items _ _ accepted
+    (opening rows.format rows.named rows.prefix.now ++ given_text rows.format line) c.args.number line c.args.answers.now.bytes.items _ _ accepted
     c.in_ok-write_start.ensures written in
     record { answer = row.answer; answers = row.answers; reported = row.reported; written = row.written })
     (c.write_cells.ensures c.args.number)

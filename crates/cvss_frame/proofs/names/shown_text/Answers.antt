@@ -1,5 +1,5 @@
 use Rattle.std.proofs.lemmas.Result.{IfOk-weaker}
-use Rattle.cvss_lists.proofs.shown.shown_text.Goals as goal
+use Rattle.cvss_frame.proofs.names.shown_text.Goals as goal
 
 pub returns : goal.returns
 returns c = IfOk-weaker c.end.result _ _ (λ text all. all _ (c.put_shown.ensures.held _ c.new-shown.ensures)) c.end.ensures

@@ -1,5 +1,0 @@
-use Rattle.std.proofs.lemmas.Result.{IfOk-weaker}
-use Rattle.cvss_subcommands.proofs.find.shown.Goals as goal
-
-pub returns : goal.returns
-returns c = IfOk-weaker c.end.result _ _ (λ text all. all _ (c.put_shown.ensures.held _ c.new-shown.ensures)) c.end.ensures
