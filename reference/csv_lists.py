@@ -1,10 +1,12 @@
 #!/usr/bin/env python3
-"""A second implementation of what `cvss score --csv` prints, written from RFC 4180 and the public standards alone.
+"""A second implementation of what `cvss score --csv` and `cvss find --csv` print, written from RFC 4180 and the public
+standards alone.
 
 Reads CSV on standard input and writes it on standard output with six cells after those of each record: the canonical
-vector, its version, its score and severity, its base score, and why it is rejected.
+vector, its version, its score and severity, its base score, and why it is rejected. With --each, as `cvss find --csv`, a
+record is written once for each vector in it, and not at all without one.
 
-usage: reference/csv_lists.py [--column=NAME|N] [--allow-incomplete] [--base] [--guard] < TEXT
+usage: reference/csv_lists.py [--column=NAME|N] [--allow-incomplete] [--base] [--guard] [--each] < TEXT
 """
 import re
 import sys
@@ -84,6 +86,14 @@ def vectors_in(fields):
     return [mention for field in fields for _, mention, _ in finding.found(value(field))]
 
 
+def cells_each(fields, index, allow_incomplete, base):
+    """The six cells of each vector of a record, of those that count as one vector for the first."""
+    found = {}
+    for text in vectors_in(fields if index is None else fields[index:index + 1]):
+        found.setdefault(canonical(text), text)
+    return [cells_of(complete.answer(text, allow_incomplete=allow_incomplete, base=base), text) for text in found.values()]
+
+
 def cells(fields, index, allow_incomplete, base):
     """The six cells of a record, whose vector is in any field or in that with the index."""
     searched = fields if index is None else fields[index:index + 1]
@@ -99,9 +109,9 @@ def cells(fields, index, allow_incomplete, base):
     return cells_of(complete.answer(found[0], allow_incomplete=allow_incomplete, base=base), found[0])
 
 
-def answer(text, column=None, allow_incomplete=False, base=False, guard=False):
-    """The text, without the mark with which it may begin, and six cells after those of each record. The column is a name,
-    an index from 0, or none. Fields may be guarded."""
+def answer(text, column=None, allow_incomplete=False, base=False, guard=False, each=False):
+    """The text, without the mark with which it may begin, and six cells after those of each record, which may be written
+    once for each vector. The column is a name, an index from 0, or none. Fields may be guarded."""
     index, written = column, []
     for number, (fields, line_end, is_open) in enumerate(records(text.removeprefix(MARK))):
         is_header = number == 0 and not vectors_in(fields)
@@ -112,13 +122,18 @@ def answer(text, column=None, allow_incomplete=False, base=False, guard=False):
             is_header = True
         body = b",".join(fields)
         if not body:
-            appended = b""
+            appended = [] if each else [b""]
         elif is_open:
-            appended = b'",,,,,,a quoted field is not closed'
+            appended = [b'",,,,,,a quoted field is not closed']
+        elif is_header:
+            appended = [NAMES]
+        elif each:
+            appended = cells_each(fields, index, allow_incomplete, base)
         else:
-            appended = NAMES if is_header else cells(fields, index, allow_incomplete, base)
+            appended = [cells(fields, index, allow_incomplete, base)]
         shown = b",".join(map(guarded, fields)) if guard else body
-        written.append(shown + appended + line_end)
+        each_row = [shown + six for six in appended]
+        written += (line_end or b"\n").join(each_row), line_end if each_row else b""
     return b"".join(written)
 
 
@@ -128,7 +143,7 @@ def main():
         column = int(column) - 1 if column.isdecimal() else column.encode()
     try:
         answered = answer(sys.stdin.buffer.read(), column, "--allow-incomplete" in sys.argv, "--base" in sys.argv,
-                          "--guard" in sys.argv)
+                          "--guard" in sys.argv, "--each" in sys.argv)
     except UnknownColumn as name:
         sys.exit(f"no column has the name {name}")
     sys.stdout.buffer.write(answered)

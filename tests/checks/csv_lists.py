@@ -1,7 +1,7 @@
 #!/usr/bin/env python3
-"""Compares what the built `cvss score --csv` writes with reference/csv_lists.py, over drawn CSV: quoted fields, doubled
-quotes, line breaks, empty cells, ragged records, several vectors and marks. What is read back of the answers by Python's
-csv module is compared with what it reads of the input.
+"""Compares what the built `cvss score --csv` and `cvss find --csv` write with reference/csv_lists.py, over drawn CSV: quoted
+fields, doubled quotes, line breaks, empty cells, ragged records, several vectors and marks. What is read back of the
+answers by Python's csv module is compared with what it reads of the input.
 
 With --reference, no program is needed: the implementation is compared with the csv module alone.
 
@@ -70,29 +70,47 @@ def read_back(text):
     return list(csv.reader(io.StringIO(text.removeprefix(csv_lists.MARK).decode("latin-1"), newline="")))
 
 
-def try_reference(text, expected):
+def try_each(given, answered):
+    """Each record of the answers is one of the input with six values more, in their order."""
+    left = iter(given)
+    before = next(left, [])
+    for after in answered:
+        while before != after[:-6]:
+            before = next(left)
+
+
+def try_reference(text, expected, each):
     """The records of the answers are those of the input with six values more, where Python reads them alike."""
     if b"\r" in text.replace(b"\r\n", b"") or b"\x00" in text or b"a quoted field" in expected:
         return 0
     given, answered = read_back(text), read_back(expected)
+    if each:
+        try_each(given, answered)
+        return 1
     assert len(given) == len(answered), (text, expected)
     for before, after in zip(given, answered):
         assert not before or (after[:-6] == before and len(after) == len(before) + 6), (text, expected)
     return 1
 
 
-def compare(text, file, column, allow_incomplete, base, guard):
+def has_rejected(expected):
+    """Whether the last cell of a record is a reason: the five before it are empty then."""
+    return any(fields[-1] and not any(fields[-6:-1]) for fields, _, _ in csv_lists.records(expected) if len(fields) > 6)
+
+
+def compare(text, file, column, allow_incomplete, base, guard, each):
     """The program's answers to a text, in a file, are the expected ones."""
-    words = ["--csv"]
+    words = ["find" if each else "score", "--csv"]
     if column is not None:
         words += ["--column", column.decode() if isinstance(column, bytes) else str(column + 1)]
     words += ["--allow-incomplete"] * allow_incomplete + ["--base"] * base + ["--guard"] * guard
     file.write_bytes(text)
-    done = subprocess.run([PROGRAM, "score", *words, file], capture_output=True)
-    expected = expected_of(text, column, allow_incomplete, base, guard)
+    done = subprocess.run([PROGRAM, *words, file], capture_output=True)
+    expected = expected_of(text, column, allow_incomplete, base, guard, each)
     assert done.stdout == (expected or b""), (words, text, expected, done)
     missing = f"cvss: no column is named '{column.decode()}'\n".encode() if expected is None else b""
-    assert done.stderr == missing and (done.returncode == 2) == bool(missing), (words, text, done)
+    assert done.stderr == missing, (words, text, done)
+    assert done.returncode == (2 if missing else int(has_rejected(expected))), (words, text, done)
 
 
 def main():
@@ -104,13 +122,13 @@ def main():
         for _ in range(count):
             text, column = drawn_text(draw), draw.choice([None, None, b"vector", b"other", 0, 1, 2, 5])
             flags = draw.random() < 0.3, draw.random() < 0.3
-            expected = expected_of(text, column, *flags)
-            guard = draw.random() < 0.3
-            read += expected is not None and try_reference(text, expected)
+            guard, each = draw.random() < 0.3, draw.random() < 0.5
+            expected = expected_of(text, column, *flags, False, each)
+            read += expected is not None and try_reference(text, expected, each)
             if "--reference" not in sys.argv:
-                compare(text, Path(folder) / "list.csv", column, *flags, guard)
+                compare(text, Path(folder) / "list.csv", column, *flags, guard, each)
     assert read > count / 4, f"Python reads only {read} of the drawn texts: that tries too little"
-    print(f"cvss score --csv: {count} drawn texts, whose answers are those of csv_lists.py, of which csv reads {read}")
+    print(f"cvss score and find --csv: {count} drawn texts, whose answers are those of csv_lists.py, of which csv reads {read}")
 
 
 if __name__ == "__main__":

@@ -1,10 +1,13 @@
+mod CountingLemmas
 mod CuttingLemmas
+mod DifferentLemmas
 mod FieldLemmas
 mod HeaderLemmas
 mod JoiningLemmas
 mod ReadingLemmas
 mod ReadsLemmas
 mod RecordFacts
+mod RowsLemmas
 mod RunLemmas
 mod SearchLemmas
 mod StepsLemmas

@@ -1,4 +1,4 @@
--- What a search has found after each of its steps.
+-- What a search has found after each of its steps, and noted.
 use Rattle.std.proofs.Common.{◌≡◌, ℕ, Bool, false, List, [], ◌∷◌, ◌++◌, map, Option, Result, IfOk, refl, sym, subst, append_assoc, append-nil}
 use Rattle.std.proofs.lemmas.List.{map-append}
 use Rattle.cvss_matches.specs.CandidatesLeft.{IsFirstFound, NoneFound}
@@ -14,87 +14,88 @@ use Rattle.cvss_csv.specs.private.Searching.{FindsIn, FindsInAll, HasFound, HasF
 use Rattle.cvss_csv.specs.Tallies.{Adds, IsTally}
 use Rattle.cvss_csv.proofs.WritingLemmas.{Writes-weaker}
 
-adds_none : (tally : Tally) → Adds [] tally tally
-adds_none tally texts is = subst (IsTally tally) (sym (append-nil texts)) is
+module _ {N : Type 0} (IsOf : N → List (List ℕ) → Type 0) where
+  adds_none : (note : N) → Adds IsOf [] note note
+  adds_none note texts is = subst (IsOf note) (sym (append-nil texts)) is
 
-adds_more : (own more : List (List ℕ)) (old middle new : Tally) → Adds own old middle → Adds more middle new → Adds (own ++ more) old new
-adds_more own more old middle new first last texts is = subst (IsTally new) (append_assoc texts own more) (last (texts ++ own) (first texts is))
+  adds_more : (own more : List (List ℕ)) (old middle new : N) → Adds IsOf own old middle → Adds IsOf more middle new → Adds IsOf (own ++ more) old new
+  adds_more own more old middle new first last texts is = subst (IsOf new) (append_assoc texts own more) (last (texts ++ own) (first texts is))
 
--- ---- in a value
+  -- ---- in a value
 
-pub found_start : (all left : List Placed) (tally : Tally) → left ≡ all → HasFound all left tally tally
-found_start all left tally is = record {
-  found = [];
-  are_found = λ more are. subst (λ candidates. AreFound candidates more) is are;
-  adds = adds_none tally;
-}
+  pub found_start : (all left : List Placed) (note : N) → left ≡ all → HasFound IsOf all left note note
+  found_start all left note is = record {
+    found = [];
+    are_found = λ more are. subst (λ candidates. AreFound candidates more) is are;
+    adds = adds_none note;
+  }
 
-pub found_next : (all left after : List Placed) (candidate : Placed) (old middle new : Tally)
-    → HasFound all left old middle → IsFirstFound left candidate after → Adds (candidate.text ∷ []) middle new → HasFound all after old new
-found_next all left after candidate old middle new before first noted = record {
-  found = before.found ++ candidate ∷ [];
-  are_found = λ more are. subst (AreFound all) (sym (append_assoc before.found (candidate ∷ []) more))
-      (before.are_found (candidate ∷ more) (AreFound-first left after candidate more first are));
-  adds = subst (λ own. Adds own old new) (sym (map-append (λ (each : Placed). each.text) before.found (candidate ∷ [])))
-      (adds_more (map (λ (each : Placed). each.text) before.found) (candidate.text ∷ []) old middle new before.adds noted);
-}
+  pub found_next : (all left after : List Placed) (candidate : Placed) (old middle new : N)
+      → HasFound IsOf all left old middle → IsFirstFound left candidate after → Adds IsOf (candidate.text ∷ []) middle new → HasFound IsOf all after old new
+  found_next all left after candidate old middle new before first noted = record {
+    found = before.found ++ candidate ∷ [];
+    are_found = λ more are. subst (AreFound all) (sym (append_assoc before.found (candidate ∷ []) more))
+        (before.are_found (candidate ∷ more) (AreFound-first left after candidate more first are));
+    adds = subst (λ own. Adds IsOf own old new) (sym (map-append (λ (each : Placed). each.text) before.found (candidate ∷ [])))
+        (adds_more (map (λ (each : Placed). each.text) before.found) (candidate.text ∷ []) old middle new before.adds noted);
+  }
 
-pub found_all : (text : List ℕ) (left : List Placed) (old new : Tally) → HasFound (candidates_of text) left old new → NoneFound left → FindsIn text old new
-found_all text left old new has none = record {
-  own = map (λ (each : Placed). each.text) has.found;
-  are_texts = record {
-    found = has.found;
-    are_found = subst (AreFound (candidates_of text)) (append-nil has.found) (has.are_found [] (AreFound-none left none));
-    are = refl;
-  };
-  adds = has.adds;
-}
+  pub found_all : (text : List ℕ) (left : List Placed) (old new : N) → HasFound IsOf (candidates_of text) left old new → NoneFound left → FindsIn IsOf text old new
+  found_all text left old new has none = record {
+    own = map (λ (each : Placed). each.text) has.found;
+    are_texts = record {
+      found = has.found;
+      are_found = subst (AreFound (candidates_of text)) (append-nil has.found) (has.are_found [] (AreFound-none left none));
+      are = refl;
+    };
+    adds = has.adds;
+  }
 
--- ---- in fields
+  -- ---- in fields
 
-pub fields_start : (all left : List (List ℕ)) (tally : Tally) → left ≡ all → HasFoundInAll all left tally tally
-fields_start all left tally is = record {
-  own = [];
-  are_texts = λ more are. subst (λ fields. AreTextsOf fields more) is are;
-  adds = adds_none tally;
-}
+  pub fields_start : (all left : List (List ℕ)) (note : N) → left ≡ all → HasFoundInAll IsOf all left note note
+  fields_start all left note is = record {
+    own = [];
+    are_texts = λ more are. subst (λ fields. AreTextsOf fields more) is are;
+    adds = adds_none note;
+  }
 
-pub fields_next : (all left after : List (List ℕ)) (field : List ℕ) (old middle new : Tally)
-    → HasFoundInAll all left old middle → left ≡ field ∷ after → FindsIn (value field) middle new → HasFoundInAll all after old new
-fields_next all left after field old middle new before is finds = record {
-  own = before.own ++ finds.own;
-  are_texts = λ more are. subst (AreTextsOf all) (sym (append_assoc before.own finds.own more))
-      (before.are_texts (finds.own ++ more) (subst (λ fields. AreTextsOf fields (finds.own ++ more)) (sym is) (finds.own, more, finds.are_texts, are, refl)));
-  adds = adds_more before.own finds.own old middle new before.adds finds.adds;
-}
+  pub fields_next : (all left after : List (List ℕ)) (field : List ℕ) (old middle new : N)
+      → HasFoundInAll IsOf all left old middle → left ≡ field ∷ after → FindsIn IsOf (value field) middle new → HasFoundInAll IsOf all after old new
+  fields_next all left after field old middle new before is finds = record {
+    own = before.own ++ finds.own;
+    are_texts = λ more are. subst (AreTextsOf all) (sym (append_assoc before.own finds.own more))
+        (before.are_texts (finds.own ++ more) (subst (λ fields. AreTextsOf fields (finds.own ++ more)) (sym is) (finds.own, more, finds.are_texts, are, refl)));
+    adds = adds_more before.own finds.own old middle new before.adds finds.adds;
+  }
 
-pub fields_all : (all left : List (List ℕ)) (old new : Tally) → HasFoundInAll all left old new → left ≡ [] → FindsInAll all old new
-fields_all all left old new has none = record {
-  own = has.own;
-  are_texts = subst (AreTextsOf all) (append-nil has.own) (has.are_texts [] (subst (λ fields. AreTextsOf fields []) (sym none) refl));
-  adds = has.adds;
-}
+  pub fields_all : (all left : List (List ℕ)) (old new : N) → HasFoundInAll IsOf all left old new → left ≡ [] → FindsInAll IsOf all old new
+  fields_all all left old new has none = record {
+    own = has.own;
+    are_texts = subst (AreTextsOf all) (append-nil has.own) (has.are_texts [] (subst (λ fields. AreTextsOf fields []) (sym none) refl));
+    adds = has.adds;
+  }
 
--- in one field, or in none
-pub finds_in_one : (fields : List (List ℕ)) (field : List ℕ) (old new : Tally) → fields ≡ field ∷ [] → FindsIn (value field) old new → FindsInAll fields old new
-finds_in_one fields field old new is finds = record {
-  own = finds.own;
-  are_texts = subst (λ all. AreTextsOf all finds.own) (sym is) (finds.own, [], finds.are_texts, refl, sym (append-nil finds.own));
-  adds = finds.adds;
-}
+  -- in one field, or in none
+  pub finds_in_one : (fields : List (List ℕ)) (field : List ℕ) (old new : N) → fields ≡ field ∷ [] → FindsIn IsOf (value field) old new → FindsInAll IsOf fields old new
+  finds_in_one fields field old new is finds = record {
+    own = finds.own;
+    are_texts = subst (λ all. AreTextsOf all finds.own) (sym is) (finds.own, [], finds.are_texts, refl, sym (append-nil finds.own));
+    adds = finds.adds;
+  }
 
-pub finds_in_none : (fields : List (List ℕ)) (tally : Tally) → fields ≡ [] → FindsInAll fields tally tally
-finds_in_none fields tally is = record {
-  own = [];
-  are_texts = subst (λ all. AreTextsOf all []) (sym is) refl;
-  adds = adds_none tally;
-}
+  pub finds_in_none : (fields : List (List ℕ)) (note : N) → fields ≡ [] → FindsInAll IsOf fields note note
+  finds_in_none fields note is = record {
+    own = [];
+    are_texts = subst (λ all. AreTextsOf all []) (sym is) refl;
+    adds = adds_none note;
+  }
 
 -- ---- in a record
 
 -- the verdict by what is found is that on the record, where it is closed and no header
 pub found_cells : {E : Type 0} (asked : Asked) (allow unclosed is_header : Bool) (cells : Cells) (body old new : List ℕ) (result : Result (Option Bool) E) (empty full : Tally)
-    → unclosed ≡ false → is_header ≡ false → IsTally empty [] → FindsInAll (searched cells (fields body)) empty full
+    → unclosed ≡ false → is_header ≡ false → IsTally empty [] → FindsInAll IsTally (searched cells (fields body)) empty full
     → ((texts : List (List ℕ)) → IsTally full texts → IfOk result (Writes asked (IsVerdictBy allow cells (fields body) texts) old new))
     → IfOk result (Writes asked (IsVerdictOf unclosed is_header allow cells body) old new)
 found_cells asked allow unclosed is_header cells body old new result empty full closed plain none finds writes =

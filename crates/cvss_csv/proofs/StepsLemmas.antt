@@ -1,17 +1,18 @@
 -- What the steps of a run do together.
-use Rattle.std.proofs.Common.{◌≡◌, ℕ, ◌+◌, ◌-◌, ◌^◌, Bool, true, false, cond, if◌then◌else◌, min, List, [], ◌∷◌, ◌++◌, Some, Option, sym, ap, ◌∙◌, subst, append_assoc, append-nil, arith, count_by, inl, inr}
-use Rattle.std.proofs.lemmas.List.Sums.{sum_by-append}
+use Rattle.std.proofs.Common.{◌≡◌, ℕ, Bool, false, List, [], ◌∷◌, ◌++◌, Some, Option, sym, ap, ◌∙◌, subst, append_assoc, append-nil, inl, inr}
 use Rattle.std.proofs.lemmas.Grind.{flat_map-append}
 use Rattle.cvss_lines.specs.declared.summary.Summary.{Summary}
 use Rattle.cvss_csv.specs.Answers.{Answered, IsAnswerTo}
 use Rattle.cvss_csv.specs.Records.{Record}
-use Rattle.cvss_csv.specs.Runs.{AreAllAnswers, AreAnswers, LacksColumn, SaysFirst, answer_bytes, is_accepted, is_rejected, saturating_count, summary_of}
-use Rattle.cvss_csv.specs.private.Steps.{AnswersRecord, CannotAnswer, Counts, IsKnown, IsKnownBy, HasAnswered, Stops}
+use Rattle.cvss_csv.specs.Runs.{AreAllAnswers, AreAnswers, LacksColumn, SaysFirst, answer_bytes, counted_in, summary_by, summary_of}
+use Rattle.cvss_csv.specs.private.Counting.{CountsAll}
+use Rattle.cvss_csv.specs.private.Steps.{AnswersRecord, CannotAnswer, IsKnown, IsKnownBy, HasAnswered, Stops}
 use Rattle.cvss_csv.specs.declared.asked.Asked.{Asked}
 use Rattle.cvss_csv.specs.declared.asked.Cells.{Cells}
 use Rattle.cvss_csv.specs.declared.asked.Column.{Column}
 use Rattle.cvss_csv.specs.declared.fault.CsvFault.{CsvFault}
 use Rattle.cvss_csv.specs.declared.progress.Progress.{Progress}
+use Rattle.cvss_csv.proofs.CountingLemmas.{summary_by-append}
 
 -- ---- one answer more
 
@@ -19,22 +20,12 @@ answer_bytes-push : (xs : List Answered) (x : Answered) → answer_bytes (xs ++ 
 answer_bytes-push xs x =
     flat_map-append (λ (each : Answered). each.bytes) xs (x ∷ []) ∙ ap (λ more. answer_bytes xs ++ more) (append-nil x.bytes)
 
-saturating_count-push : (test : Option Bool → Bool) (xs : List Answered) (x : Answered)
-    → saturating_count test (xs ++ x ∷ []) ≡ (if test x.counted then min (saturating_count test xs + 1) (2 ^ 64 - 1) else saturating_count test xs)
-saturating_count-push test xs x = by_test (test x.counted) (sum_by-append (λ (y : Answered). cond (test y.counted) 1 0) xs (x ∷ [])) where
-  count : List Answered → ℕ
-  count ys = count_by (λ (y : Answered). test y.counted) ys
+counted_in-push : (xs : List Answered) (x : Answered) → counted_in (xs ++ x ∷ []) ≡ counted_in xs ++ x.counted
+counted_in-push xs x =
+    flat_map-append (λ (each : Answered). each.counted) xs (x ∷ []) ∙ ap (λ more. counted_in xs ++ more) (append-nil x.counted)
 
-  by_test : (b : Bool) → count_by (λ (y : Answered). test y.counted) (xs ++ x ∷ []) ≡ count_by (λ (y : Answered). test y.counted) xs + (0 + cond b 1 0)
-      → saturating_count test (xs ++ x ∷ []) ≡ (if b then min (saturating_count test xs + 1) (2 ^ 64 - 1) else saturating_count test xs)
-  by_test true sum = omega (arith, sum)
-  by_test false sum = omega (arith, sum)
-
-summary_of-push : (old new : Summary) (xs : List Answered) (x : Answered) → old ≡ summary_of xs → Counts old x.counted new → new ≡ summary_of (xs ++ x ∷ [])
-summary_of-push old new xs x is counts =
-    let one : Counts (summary_of xs) x.counted new = subst (λ (s : Summary). Counts s x.counted new) is counts in
-    ap (λ n. record new { accepted = n }) (one.accepted ∙ sym (saturating_count-push is_accepted xs x))
-    ∙ ap (λ n. record (summary_of (xs ++ x ∷ [])) { rejected = n }) (one.rejected ∙ sym (saturating_count-push is_rejected xs x))
+summary_of-push : (old new : Summary) (xs : List Answered) (x : Answered) → old ≡ summary_of xs → CountsAll old x.counted new → new ≡ summary_of (xs ++ x ∷ [])
+summary_of-push old new xs x is counts = summary_by-append old new (counted_in xs) x.counted is counts ∙ ap summary_by (sym (counted_in-push xs x))
 
 AreAnswers-push : (asked : Asked) (cells : Cells) (rs : List Record) (xs : List Answered) (r : Record) (x : Answered)
     → AreAnswers asked cells rs xs → IsAnswerTo asked cells false r.body r.line_end x → AreAnswers asked cells (rs ++ r ∷ []) (xs ++ x ∷ [])

@@ -1,6 +1,6 @@
 -- What is written of a verdict.
 use Rattle.std.proofs.Common.{◌≡◌, ◌≢◌, ◌∙◌, ℕ, Bool, List, [], ◌∷◌, ◌++◌, None, Option, Result, Ok, Err, IfOk, ap, append_assoc, if◌then◌else◌, length, refl, subst, sym}
-use Rattle.cvss_csv.specs.Answers.{Answered, IsAnswer, IsAnswerTo, IsCellAs, IsCellOf, IsVerdictOf, IsWithout, closing, searched}
+use Rattle.cvss_csv.specs.Answers.{Answered, IsAnswer, IsCellAs, IsCellOf, IsOneAnswer, IsVerdictOf, IsWithout, closing, counted_once, searched}
 use Rattle.cvss_csv.specs.Cells.{IsReadAs, Nothing, Verdict}
 use Rattle.cvss_csv.specs.Fields.{quote}
 use Rattle.cvss_csv.specs.Guards.{shown_record}
@@ -41,7 +41,7 @@ module _ {E : Type 0} (asked : Asked) (allow : Bool) (index : ℕ) (all : List (
 -- ---- the answer to a record
 
 module _ (asked : Asked) (cells : Cells) (is_header : Bool) where
-  answer_some : (body line_end : List ℕ) (answered : Answered) → length body ≢ 0 → IsAnswer asked cells is_header body line_end answered → IsAnswerTo asked cells is_header body line_end answered
+  answer_some : (body line_end : List ℕ) (answered : Answered) → length body ≢ 0 → IsAnswer asked cells is_header body line_end answered → IsOneAnswer asked cells is_header body line_end answered
   answer_some [] line_end answered some is = absurd (some refl)
   answer_some (byte ∷ bytes) line_end answered some is = is
 
@@ -49,8 +49,8 @@ module _ (asked : Asked) (cells : Cells) (is_header : Bool) where
     -- an empty record stays as it is
     pub empty_answer : (new : List ℕ) → body ≡ [] → new ≡ old ++ line_end → WritesAnswer asked cells is_header body line_end old new None
     empty_answer new none ended = record {
-      answered = record { bytes = line_end; counted = None };
-      is_answer = subst (λ (record_body : List ℕ). IsAnswerTo asked cells is_header record_body line_end (record { bytes = line_end; counted = None })) (sym none) refl;
+      answered = record { bytes = line_end; counted = [] };
+      is_answer = subst (λ (record_body : List ℕ). IsOneAnswer asked cells is_header record_body line_end (record { bytes = line_end; counted = [] })) (sym none) refl;
       written = ended;
       counts = refl;
     }
@@ -64,14 +64,14 @@ module _ (asked : Asked) (cells : Cells) (is_header : Bool) where
         let all = shown_record asked.guarded body ++ (closing body ++ (writes.cells ++ line_end)) in
         let closed_by : closed ≡ middle ++ closing body = closes ∙ ap (λ (is_unclosed : Bool). middle ++ (if is_unclosed then quote ∷ [] else [])) is in
         record {
-          answered = record { bytes = all; counted = counted };
-          is_answer = answer_some body line_end (record { bytes = all; counted = counted }) some (record {
+          answered = record { bytes = all; counted = counted_once counted };
+          is_answer = answer_some body line_end (record { bytes = all; counted = counted_once counted }) some (record {
             verdict = writes.verdict;
             is = subst (λ (is_unclosed : Bool). IsVerdictOf is_unclosed is_header asked.allow_incomplete cells body writes.verdict) is writes.is_it;
             appended = writes.cells;
             are = writes.are;
             bytes = refl;
-            counts = writes.counts;
+            counts = ap counted_once writes.counts;
           });
           written = ended ∙ ap (λ ys. ys ++ line_end) (writes.written ∙ ap (λ ys. ys ++ writes.cells) (closed_by ∙ ap (λ ys. ys ++ closing body) pushed)) ∙ simp append_assoc;
           counts = refl;

@@ -1,4 +1,4 @@
--- The answer to a record: its bytes, and six cells after them.
+-- The answer to a record: its bytes, and six cells after them; or a row for each of its vectors.
 use Rattle.std.specs.Prelude.{◌≡◌, ◌⊎◌, ℕ, suc, Bool, true, false, List, [], ◌∷◌, ◌++◌, bytes_eq, codes, drop, map, take, Option, None, Some, option_map, if◌then◌else◌}
 use Rattle.std.specs.Str.{IsTrimAscii}
 use Rattle.cvss_matches.specs.Matches.{AreFound, Placed, candidates_of}
@@ -6,6 +6,7 @@ use Rattle.cvss_csv.specs.Cells.{AreAllEqual, AreCells, IsReadAs, Names, Nothing
 use Rattle.cvss_csv.specs.Fields.{fields, quote, value}
 use Rattle.cvss_csv.specs.Guards.{shown_record}
 use Rattle.cvss_csv.specs.Records.{is_open}
+use Rattle.cvss_csv.specs.Rows.{AreDifferent, AreRows, Row, rows_text}
 use Rattle.cvss_csv.specs.declared.asked.Asked.{Asked}
 use Rattle.cvss_csv.specs.declared.asked.Cells.{Cells}
 use Rattle.cvss_csv.specs.declared.asked.Cells.TheVariants.{Any, At}
@@ -105,10 +106,16 @@ IsHeader (Named name) all is_header = is_header ≡ true
 abbrev pub closing : List ℕ → List ℕ
 closing body = if is_open body then quote ∷ [] else []
 
--- the bytes of a record's answer, and whether it is counted as accepted or rejected
+-- the bytes of a record's answer, and what is counted: for each vector whether it is accepted, and a record without one that
+-- is rejected
 pub record Answered : Type 0 where
   pub bytes : List ℕ
-  pub counted : Option Bool
+  pub counted : List Bool
+
+-- what is counted of a record that is answered once
+abbrev pub counted_once : Option Bool → List Bool
+counted_once None = []
+counted_once (Some accepted) = accepted ∷ []
 
 -- the record, the cells after it, and its line end
 pub record IsAnswer (asked : Asked) (cells : Cells) (is_header : Bool) (body line_end : List ℕ) (answered : Answered) : Type 0 where
@@ -117,9 +124,36 @@ pub record IsAnswer (asked : Asked) (cells : Cells) (is_header : Bool) (body lin
   pub appended : List ℕ
   pub are : AreCells asked verdict appended
   pub bytes : answered.bytes ≡ shown_record asked.guarded body ++ (closing body ++ (appended ++ line_end))
-  pub counts : answered.counted ≡ counted_as verdict
+  pub counts : answered.counted ≡ counted_once (counted_as verdict)
 
--- an empty record stays as it is
+-- the answer where a record has one: an empty record stays as it is
+abbrev pub IsOneAnswer : Asked → Cells → Bool → List ℕ → List ℕ → Answered → Type 0
+IsOneAnswer asked cells is_header [] line_end answered = answered ≡ record { bytes = line_end; counted = [] }
+IsOneAnswer asked cells is_header (byte ∷ bytes) line_end answered = IsAnswer asked cells is_header (byte ∷ bytes) line_end answered
+
+-- a row for each vector that is found, of those that count as one for the first
+pub record HasRows (asked : Asked) (cells : Cells) (body line_end : List ℕ) (answered : Answered) : Type 0 where
+  pub texts : List (List ℕ)
+  pub are_texts : AreTextsOf (searched cells (fields body)) texts
+  pub different : List (List ℕ)
+  pub are_different : AreDifferent [] texts different
+  pub rows : List Row
+  pub are_rows : AreRows asked body line_end different rows
+  pub bytes : answered.bytes ≡ rows_text line_end rows
+  pub counts : answered.counted ≡ map (λ row. row.accepted) rows
+
+-- where each vector has a row: a header, and a record whose last field is not closed, have one answer
+abbrev pub IsEachAnswer : (is_open is_header : Bool) → Asked → Cells → List ℕ → List ℕ → Answered → Type 0
+IsEachAnswer true is_header asked cells body line_end answered = IsAnswer asked cells is_header body line_end answered
+IsEachAnswer false true asked cells body line_end answered = IsAnswer asked cells true body line_end answered
+IsEachAnswer false false asked cells body line_end answered = HasRows asked cells body line_end answered
+
+-- by whether each vector has a row of its own. An empty record is not written then.
+abbrev pub IsAnswerBy : (each : Bool) → Asked → Cells → Bool → List ℕ → List ℕ → Answered → Type 0
+IsAnswerBy false asked cells is_header body line_end answered = IsOneAnswer asked cells is_header body line_end answered
+IsAnswerBy true asked cells is_header [] line_end answered = answered ≡ record { bytes = []; counted = [] }
+IsAnswerBy true asked cells is_header (byte ∷ bytes) line_end answered =
+    IsEachAnswer (is_open (byte ∷ bytes)) is_header asked cells (byte ∷ bytes) line_end answered
+
 abbrev pub IsAnswerTo : Asked → Cells → Bool → List ℕ → List ℕ → Answered → Type 0
-IsAnswerTo asked cells is_header [] line_end answered = answered ≡ record { bytes = line_end; counted = None }
-IsAnswerTo asked cells is_header (byte ∷ bytes) line_end answered = IsAnswer asked cells is_header (byte ∷ bytes) line_end answered
+IsAnswerTo asked cells is_header body line_end answered = IsAnswerBy asked.each asked cells is_header body line_end answered

@@ -4,6 +4,7 @@ pub mod Fields
 pub mod Guards
 pub mod Quoting
 pub mod Records
+pub mod Rows
 pub mod Runs
 pub mod Tallies
 pub mod Tasks

@@ -1,5 +1,5 @@
 -- The answers to the records of a text, and what a run has read and written when it ends, well or with a fault.
-use Rattle.std.specs.Prelude.{◌≡◌, ℕ, ◌-◌, ◌^◌, ◌⊎◌, min, Bool, true, false, List, [], ◌∷◌, flat_map, take, Option, None, Some, ⊤, count_by, Result, IfOk, IsErrOf}
+use Rattle.std.specs.Prelude.{◌≡◌, ℕ, ◌-◌, ◌^◌, ◌⊎◌, min, not, Bool, false, List, [], ◌∷◌, flat_map, take, Option, None, Some, ⊤, count_by, Result, IfOk, IsErrOf}
 use Rattle.std.specs.Io.KnownBytes.{Appends, Consumes, IsAtEnd}
 use Rattle.cvss_lines.specs.declared.fault.RunFault.TheVariants.{Read, Write, Memory}
 use Rattle.cvss_lines.specs.declared.summary.Summary.{Summary}
@@ -45,26 +45,25 @@ LacksColumn column (first ∷ more) = cells_by column (fields first.body) ≡ No
 abbrev pub answer_bytes : List Answered → List ℕ
 answer_bytes answers = flat_map (λ answer. answer.bytes) answers
 
--- ---- how many records are accepted and rejected
+-- ---- how many records, or vectors of them, are accepted and rejected
 
-abbrev pub is_accepted : Option Bool → Bool
-is_accepted None = false
-is_accepted (Some accepted) = accepted
+-- what is counted of all answers
+abbrev pub counted_in : List Answered → List Bool
+counted_in answers = flat_map (λ answer. answer.counted) answers
 
-abbrev pub is_rejected : Option Bool → Bool
-is_rejected None = false
-is_rejected (Some true) = false
-is_rejected (Some false) = true
+-- how many are counted so, as a `u64` that stops at its maximum
+abbrev pub saturating_count : (Bool → Bool) → List Bool → ℕ
+saturating_count test counted = min (count_by test counted) (2 ^ 64 - 1)
 
--- how many answers are counted so, as a `u64` that stops at its maximum
-abbrev pub saturating_count : (Option Bool → Bool) → List Answered → ℕ
-saturating_count test answers = min (count_by (λ answer. test answer.counted) answers) (2 ^ 64 - 1)
+-- how many of these are accepted, and how many rejected
+abbrev pub summary_by : List Bool → Summary
+summary_by counted = record {
+  accepted = saturating_count (λ accepted. accepted) counted;
+  rejected = saturating_count (λ accepted. not accepted) counted;
+}
 
 abbrev pub summary_of : List Answered → Summary
-summary_of answers = record {
-  accepted = saturating_count is_accepted answers;
-  rejected = saturating_count is_rejected answers;
-}
+summary_of answers = summary_by (counted_in answers)
 
 -- ---- how a run ends
 

@@ -1,4 +1,5 @@
 pub mod Answering
+pub mod Counting
 pub mod Cutting
 pub mod Searching
 pub mod Steps

@@ -10,6 +10,7 @@ ghost use Rattle.cvss_csv.specs.Writing.{Writes};
 
 use crate::asked::{Asked, Cells};
 use crate::cells::{push_names, push_nothing, push_read, push_reason};
+use crate::different::Different;
 use crate::fields::field_at;
 use crate::guarding::push_shown;
 use crate::search::search;
@@ -24,10 +25,12 @@ pub(crate) struct Answerer {
     pub(crate) asked: Asked,
     /// The vectors that are found.
     pub(crate) tally: Tally,
+    /// The vectors that have rows of their own.
+    pub(crate) different: Different,
     /// Room for the value of a field.
     pub(crate) value: Vec<u8>,
     /// Room for a reason.
-    reason: OutputBuffer,
+    pub(crate) reason: OutputBuffer,
 }
 
 impl Answerer {
@@ -38,6 +41,7 @@ impl Answerer {
         Answerer {
             asked,
             tally: Tally::new(alloc),
+            different: Different::new(alloc),
             value: Vec::new(alloc),
             reason: OutputBuffer {
                 bytes: Vec::new(alloc),
@@ -45,7 +49,7 @@ impl Answerer {
         }
     }
 
-    /// Appends the answer to a record: the record, six cells and its line end. The record may be a header,
+    /// Appends the one answer to a record: the record, six cells and its line end. The record may be a header,
     /// and is given by whether its last field is quoted and not closed. Returns whether it is accepted or
     /// rejected; neither, where it is a header or empty, or where the cell of its vector is.
     ///

@@ -21,7 +21,7 @@ pub enum Cells {
     At(usize),
 }
 
-/// How vectors are read and scored.
+/// How vectors are read and scored, and how records are written.
 #[derive(Clone, Copy, Drop)]
 pub struct Asked {
     pub scoring: Scoring,
@@ -30,4 +30,6 @@ pub struct Asked {
     /// Whether a cell has an apostrophe before its text where a spreadsheet would take it for a formula,
     /// since it begins with `=`, `+`, `-` or `@`.
     pub guarded: bool,
+    /// Whether each vector of a record has a row of its own. A record without a vector is left out then.
+    pub each: bool,
 }

@@ -1,8 +1,8 @@
-//! How many records are accepted and rejected.
+//! How many records, or vectors of them, are accepted and rejected.
 
 ghost use Rattle.std.specs.Prelude.{◌≡◌, []};
 ghost use Rattle.cvss_csv.specs.Runs.{summary_of};
-ghost use Rattle.cvss_csv.specs.private.Steps.{Counts};
+ghost use Rattle.cvss_csv.specs.private.Counting.{Counts};
 
 use cvss_lines::Summary;
 
@@ -16,7 +16,7 @@ pub(crate) fn nothing_counted() -> Summary
     }
 }
 
-/// Counts one more record, if it is accepted or rejected.
+/// Counts one more, if it is accepted or rejected.
 pub(crate) fn count(summary: &mut Summary, counted: Option<bool>)
     ensures { Counts summary.old counted summary.new }
 {

@@ -1,5 +1,5 @@
 //! CSV (RFC 4180) with six cells after those of each record: the vector that is found in the record, its
-//! version and its scores, or why there is none.
+//! version and its scores, or why there is none. A record may be written once for each of its vectors.
 #![tactic(auto)]
 
 mod answer;
@@ -7,15 +7,18 @@ mod asked;
 mod cells;
 mod counting;
 mod cutting;
+mod different;
 mod fault;
 mod fields;
 mod guarding;
 mod header;
 pub mod laws;
+mod notes;
 mod pending;
 mod place;
 mod progress;
 mod quoting;
+mod rows;
 mod running;
 mod search;
 mod tally;

@@ -1,10 +1,11 @@
 //! How far a run has come.
 
 ghost use Rattle.std.specs.Prelude.{◌≡◌, None, [], IfErr, OnOk};
+ghost use Rattle.cvss_csv.specs.Answers.{HasRows, IsOneAnswer};
 ghost use Rattle.cvss_csv.specs.Records.{is_open};
 ghost use Rattle.cvss_csv.specs.Runs.{summary_of};
 ghost use Rattle.cvss_csv.specs.declared.fault.CsvFault.TheVariants.{Run};
-ghost use Rattle.cvss_csv.specs.private.Steps.{AnswersNext, AnswersRecord, CannotAnswer};
+ghost use Rattle.cvss_csv.specs.private.Steps.{AnswersAs, AnswersNext, AnswersRecord, CannotAnswer};
 ghost use Rattle.cvss_lines.specs.declared.fault.RunFault.TheVariants.{Memory};
 
 use crate::answer::Answerer;
@@ -96,6 +97,33 @@ impl Progress {
             (AnswersNext cells is_header body.now line_end.now self.old self.new) }
         ensures stopped { IfErr result (λ fault. fault ≡ Run Memory) }
     {
+        if !self.answerer.asked.each {
+            return self.answer_once(cells, is_header, body, unclosed, line_end);
+        }
+        if body.is_empty() {
+            return Ok(());
+        }
+        if unclosed || is_header {
+            return self.answer_once(cells, is_header, body, unclosed, line_end);
+        }
+        self.answer_each(cells, body, line_end)
+    }
+
+    /// Answers a record once.
+    fn answer_once(
+        &mut self,
+        cells: Cells,
+        is_header: bool,
+        body: &[u8],
+        unclosed: bool,
+        line_end: &[u8],
+    ) -> Result<(), CsvFault>
+        requires { unclosed ≡ is_open body.now }
+        ensures answered { OnOk result
+            (AnswersAs (IsOneAnswer self.old.answerer.asked cells is_header body.now line_end.now)
+            self.old self.new) }
+        ensures stopped { IfErr result (λ fault. fault ≡ Run Memory) }
+    {
         let counted = self.answerer.push_record(
             cells,
             is_header,
@@ -105,6 +133,16 @@ impl Progress {
             &mut self.answers,
         )?;
         count(&mut self.summary, counted);
+        Ok(())
+    }
+
+    /// Answers a record by a row for each of its vectors.
+    fn answer_each(&mut self, cells: Cells, body: &[u8], line_end: &[u8]) -> Result<(), CsvFault>
+        ensures answered { OnOk result
+            (AnswersAs (HasRows self.old.answerer.asked cells body.now line_end.now) self.old self.new) }
+        ensures stopped { IfErr result (λ fault. fault ≡ Run Memory) }
+    {
+        self.answerer.push_rows(cells, body, line_end, &mut self.summary, &mut self.answers)?;
         Ok(())
     }
 }

@@ -7,57 +7,58 @@ ghost use Rattle.cvss_csv.specs.private.Searching.{FindsIn, FindsInAll};
 
 use crate::asked::Cells;
 use crate::fields::{Fields, field_at};
-use crate::tally::Tally;
+use crate::notes::Notes;
 use crate::value::{decode, value_as_is};
 use cvss_matches::Matches;
 use std::alloc::AllocError;
 
-/// Searches the cells of a record. The room is for values that are decoded.
-pub(crate) fn search(
+/// Searches the cells of a record, and notes what is found. The room is for values that are decoded.
+pub(crate) fn search<N: Notes>(
     cells: Cells,
     body: &[u8],
     room: &mut Vec<u8>,
-    tally: &mut Tally,
+    notes: &mut N,
 ) -> Result<(), AllocError>
-    ensures { OnOk result (FindsInAll (searched cells (fields body.now)) tally.old tally.new) }
+    ensures { OnOk result
+        (FindsInAll N.is_of (searched cells (fields body.now)) notes.old notes.new) }
 {
     match cells {
-        Cells::Any => search_all(body, room, tally),
+        Cells::Any => search_all(body, room, notes),
         Cells::At(index) => match field_at(index, body) {
-            Some(field) => search_field(field, room, tally),
+            Some(field) => search_field(field, room, notes),
             None => Ok(()),
         },
     }
 }
 
-fn search_all(body: &[u8], room: &mut Vec<u8>, tally: &mut Tally) -> Result<(), AllocError>
-    ensures { OnOk result (FindsInAll (fields body.now) tally.old tally.new) }
+fn search_all<N: Notes>(body: &[u8], room: &mut Vec<u8>, notes: &mut N) -> Result<(), AllocError>
+    ensures { OnOk result (FindsInAll N.is_of (fields body.now) notes.old notes.new) }
 {
     let mut fields = Fields::of(body);
     while let Some(field) = fields.next() {
-        search_field(field, room, tally)?;
+        search_field(field, room, notes)?;
     }
     Ok(())
 }
 
-fn search_field(field: &[u8], room: &mut Vec<u8>, tally: &mut Tally) -> Result<(), AllocError>
-    ensures { OnOk result (FindsIn (value field.now) tally.old tally.new) }
+fn search_field<N: Notes>(field: &[u8], room: &mut Vec<u8>, notes: &mut N) -> Result<(), AllocError>
+    ensures { OnOk result (FindsIn N.is_of (value field.now) notes.old notes.new) }
 {
     match value_as_is(field) {
-        Some(text) => search_value(text, tally),
+        Some(text) => search_value(text, notes),
         None => {
             decode(field, room)?;
-            search_value(room, tally)
+            search_value(room, notes)
         }
     }
 }
 
-fn search_value(text: &[u8], tally: &mut Tally) -> Result<(), AllocError>
-    ensures { OnOk result (FindsIn text.now tally.old tally.new) }
+fn search_value<N: Notes>(text: &[u8], notes: &mut N) -> Result<(), AllocError>
+    ensures { OnOk result (FindsIn N.is_of text.now notes.old notes.new) }
 {
     let mut matches = Matches::of(text);
     while let Some(found) = matches.next() {
-        tally.note(found.text)?;
+        notes.note(found.text)?;
     }
     Ok(())
 }

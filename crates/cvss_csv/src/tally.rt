@@ -1,10 +1,11 @@
 //! The vectors that are found in a record.
 
-ghost use Rattle.std.specs.Prelude.{◌≡◌, [], ◌∷◌, IfOk, OnOk, IsTrue, ◌↔◌};
+ghost use Rattle.std.specs.Prelude.{◌≡◌, [], IfOk, IsTrue, ◌↔◌};
 ghost use Rattle.cvss_csv.specs.Cells.{AreEqual, DenoteOneVector};
 ghost use Rattle.cvss_vector.specs.Answers.{text_of};
-ghost use Rattle.cvss_csv.specs.Tallies.{Adds, IsTally};
+ghost use Rattle.cvss_csv.specs.Tallies.{IsTally};
 
+use crate::notes::Notes;
 use crate::vector::push_canonical;
 use cvss_lines::OutputBuffer;
 use cvss_vector::Cvss;
@@ -51,10 +52,23 @@ impl Tally {
         self.count = Count::None;
     }
 
-    /// Notes the text of a vector that is found.
-    pub(crate) fn note(&mut self, text: &[u8]) -> Result<(), AllocError>
-        ensures { OnOk result (Adds (text.now ∷ []) self.old self.new) }
+    /// Whether a text counts as one vector with the first.
+    fn is_equal(&mut self, text: &[u8]) -> Result<bool, AllocError>
+        ensures equal { IfOk result (λ equal. IsTrue equal ↔ AreEqual self.old.first.items text.now) }
+        ensures first { self.new.first ≡ self.old.first }
+        ensures count { self.new.count ≡ self.old.count }
     {
+        if self.first.as_slice() == text {
+            return Ok(true);
+        }
+        denote_one_vector(&self.first, text, &mut self.canonical, &mut self.other)
+    }
+}
+
+impl Notes for Tally {
+    ghost is_of = { IsTally };
+
+    fn note(&mut self, text: &[u8]) -> Result<(), AllocError> {
         match self.count {
             Count::None => {
                 self.first.clear();
@@ -69,18 +83,6 @@ impl Tally {
             Count::Several => {}
         }
         Ok(())
-    }
-
-    /// Whether a text counts as one vector with the first.
-    fn is_equal(&mut self, text: &[u8]) -> Result<bool, AllocError>
-        ensures equal { IfOk result (λ equal. IsTrue equal ↔ AreEqual self.old.first.items text.now) }
-        ensures first { self.new.first ≡ self.old.first }
-        ensures count { self.new.count ≡ self.old.count }
-    {
-        if self.first.as_slice() == text {
-            return Ok(true);
-        }
-        denote_one_vector(&self.first, text, &mut self.canonical, &mut self.other)
     }
 }
 
@@ -118,7 +120,7 @@ fn have_one_text(
     Ok(are_same(&canonical.bytes, &other_canonical.bytes))
 }
 
-fn are_same(one: &[u8], other: &[u8]) -> bool
+pub(crate) fn are_same(one: &[u8], other: &[u8]) -> bool
     ensures { IsTrue result ↔ (one.now ≡ other.now) }
 {
     one == other

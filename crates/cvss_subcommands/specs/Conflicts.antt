@@ -1,9 +1,9 @@
 -- Options and operands that do not go together.
-use Rattle.std.specs.Prelude.{ℕ, ◌==◌, ◌&&◌, not, Option, Some, None, if◌then◌else◌}
+use Rattle.std.specs.Prelude.{ℕ, ◌==◌, ◌&&◌, not, is_some, Option, Some, None, if◌then◌else◌}
 use Rattle.std.specs.Option.{option_map, option_or}
 use Rattle.cvss_subcommands.specs.Flags.{all_scores_of, gate_flag}
 use Rattle.cvss_subcommands.specs.declared.flags.Flag.{Flag}
-use Rattle.cvss_subcommands.specs.declared.flags.Flag.TheVariants.{Annotate, Column, Count, Csv, Differing, Guard, Json, Standard, Tsv}
+use Rattle.cvss_subcommands.specs.declared.flags.Flag.TheVariants.{Annotate, Assume, Column, Count, Csv, Differing, Guard, Json, Standard, Tsv}
 use Rattle.cvss_subcommands.specs.declared.flags.Flags.{Flags}
 use Rattle.cvss_subcommands.specs.declared.subcommand.Subcommand.{Subcommand}
 use Rattle.cvss_subcommands.specs.declared.subcommand.Subcommand.TheVariants.{Audit, Diff, Find, Score, Triage}
@@ -23,7 +23,7 @@ rows_of flags = if flags.json then Some Json else if flags.tsv then Some Tsv els
 abbrev pub without_rows : Flags → Option Flag
 without_rows flags = if flags.standard then Some Standard else if flags.count then Some Count else None
 
--- the option that does not go with --csv
+-- the option of `cvss score` that does not go with --csv
 abbrev pub without_csv : Flags → Option Flag
 without_csv flags = elim (rows_of flags) [
   | Some rows ↦ Some rows
@@ -41,22 +41,41 @@ lines_conflict flags = elim (without_rows flags) [
 abbrev pub score_conflict : Flags → Option UsageError
 score_conflict flags =
     if flags.csv then option_map (λ other. NotWith Score Csv other) (without_csv flags)
-    else if flags.column then Some (NeedsTable Column)
-    else if flags.guard && not flags.tsv then Some (NeedsTable Guard)
+    else if flags.column then Some (NeedsTable Score Column)
+    else if flags.guard && not flags.tsv then Some (NeedsTable Score Guard)
     else lines_conflict flags
 
 -- numbers of vectors have one form
 abbrev pub count_conflict : Subcommand → Flags → Option UsageError
 count_conflict subcommand flags = if flags.count && flags.json then Some (NotWith subcommand Count Json) else None
 
--- what is wrong with the options of `cvss find` that are given together: --annotate repeats all lines
-abbrev pub find_conflict : Flags → Option UsageError
-find_conflict flags =
+-- what is wrong with the options of `cvss find` that are given together, without --csv: --annotate repeats all lines
+abbrev pub texts_conflict : Flags → Option UsageError
+texts_conflict flags =
     if flags.annotate then elim (gate_flag flags) [
       | Some flag ↦ Some (NotWith Find flag Annotate)
       | None ↦ all_scores_error Find (all_scores_of flags)
     ]
     else option_or (count_conflict Find flags) (all_scores_error Find (all_scores_of flags))
+
+-- the option of `cvss find` that says in which version vectors are read
+abbrev pub assume_flag : Flags → Option Flag
+assume_flag flags = if is_some flags.assumed then Some Assume else None
+
+-- the option of `cvss find` that does not go with --csv
+abbrev pub find_without_csv : Flags → Option Flag
+find_without_csv flags =
+    if flags.json then Some Json
+    else if flags.annotate then Some Annotate
+    else option_or (gate_flag flags) (assume_flag flags)
+
+-- and with it, or without
+abbrev pub find_conflict : Flags → Option UsageError
+find_conflict flags =
+    if flags.csv then option_map (λ other. NotWith Find Csv other) (find_without_csv flags)
+    else if flags.column then Some (NeedsTable Find Column)
+    else if flags.guard then Some (NeedsTable Find Guard)
+    else texts_conflict flags
 
 -- what is wrong with what is given together: options, and so many operands. Where `cvss triage` prints all scores, --base
 -- says by which it ranks.

@@ -1,5 +1,5 @@
--- What `cvss score --csv` does.
-use Rattle.std.specs.Prelude.{◌≡◌, ◌⊎◌, ◌+◌, true, ◌-◌, ◌*◌, ◌&&◌, ℕ, zero, suc, List, [], ◌∷◌, ◌++◌, codes, Option, None, Some, if◌then◌else◌}
+-- What `cvss score --csv` and `cvss find --csv` do.
+use Rattle.std.specs.Prelude.{◌≡◌, ◌⊎◌, ◌+◌, Bool, true, false, ◌-◌, ◌*◌, ◌&&◌, ℕ, zero, suc, List, [], ◌∷◌, ◌++◌, codes, Option, None, Some, if◌then◌else◌}
 use Rattle.std.specs.Char.{is_ascii_digit}
 use Rattle.std.specs.Global.{Vec}
 use denote.Ref.{Bor}
@@ -16,22 +16,23 @@ use Rattle.cvss_subcommands.specs.Requests.{flag_of}
 use Rattle.cvss_subcommands.specs.declared.flags.Flag.{Flag}
 use Rattle.cvss_subcommands.specs.declared.flags.Flag.TheVariants.{Column}
 use Rattle.cvss_subcommands.specs.declared.flags.Flags.{Flags}
-use Rattle.cvss_subcommands.specs.declared.subcommand.Subcommand.TheVariants.{Score}
+use Rattle.cvss_subcommands.specs.declared.subcommand.Subcommand.{Subcommand}
+use Rattle.cvss_subcommands.specs.declared.subcommand.Subcommand.TheVariants.{Find}
 
 -- the option whose value comes after a word, if it is one
-abbrev pub due_after : List ℕ → Option Flag
-due_after word = elim (flag_of Score word) [ Some flag ↦ value_due flag | None ↦ None ]
+abbrev pub due_after : Subcommand → List ℕ → Option Flag
+due_after subcommand word = elim (flag_of subcommand word) [ Some flag ↦ value_due flag | None ↦ None ]
 
 -- the value after the last --column among words, of which the first is the value of an option if one is due, or else the
 -- value that was found before them
-abbrev pub column_after : Option Flag → Option (List ℕ) → List (Vec ℕ) → Option (List ℕ)
-column_after due found [] = found
-column_after (Some Column) found (word ∷ words) = column_after None (Some word.items) words
-column_after (Some _) found (word ∷ words) = column_after None found words
-column_after None found (word ∷ words) = column_after (due_after word.items) found words
+abbrev pub column_after : Subcommand → Option Flag → Option (List ℕ) → List (Vec ℕ) → Option (List ℕ)
+column_after subcommand due found [] = found
+column_after subcommand (Some Column) found (word ∷ words) = column_after subcommand None (Some word.items) words
+column_after subcommand (Some _) found (word ∷ words) = column_after subcommand None found words
+column_after subcommand None found (word ∷ words) = column_after subcommand (due_after subcommand word.items) found words
 
-abbrev pub column_text : List (Vec ℕ) → Option (List ℕ)
-column_text words = column_after None None words
+abbrev pub column_text : Subcommand → List (Vec ℕ) → Option (List ℕ)
+column_text subcommand words = column_after subcommand None None words
 
 -- the number of three digits
 abbrev pub by_three : ℕ → ℕ → ℕ → Option ℕ
@@ -61,8 +62,17 @@ abbrev pub IsColumn : Option (List ℕ) → column.Column → Type 0
 IsColumn None given = given ≡ AnyColumn
 IsColumn (Some text) given = IsColumnBy (index_by (number_of text)) text given
 
-abbrev pub asked_of : Flags → Asked
-asked_of flags = record { scoring = scoring_of flags.base; allow_incomplete = flags.allow_incomplete; guarded = flags.guard }
+-- each vector of a record has a row of its own in `cvss find`
+abbrev pub finds_each : Subcommand → Bool
+finds_each = elim [ Find ↦ true | _ ↦ false ]
+
+abbrev pub asked_of : Subcommand → Flags → Asked
+asked_of subcommand flags = record {
+  scoring = scoring_of flags.base;
+  allow_incomplete = flags.allow_incomplete;
+  guarded = flags.guard;
+  each = finds_each subcommand;
+}
 
 -- an input has no column of this name: that is reported, and counts as an input that cannot be read
 abbrev pub Misses : Option (List ℕ) → Served → Reported → Reported → Served → Type 0
@@ -77,10 +87,10 @@ MayMiss name served report report' served' =
 
 -- the records of the operands are answered, and a report may follow: a cell keeps whether a column was not found, of which
 -- no contract speaks
-pub record ScoresCsv (flags : Flags) (words : List (Vec ℕ)) (operands : List (Vec ℕ)) (old new : State) (served : Served) : Type 0 where
+pub record AnswersCsv (subcommand : Subcommand) (flags : Flags) (words : List (Vec ℕ)) (operands : List (Vec ℕ)) (old new : State) (served : Served) : Type 0 where
   pub given : column.Column
-  pub is_given : IsColumn (column_text words) given
+  pub is_given : IsColumn (column_text subcommand words) given
   pub middle : Reported
   pub found : Served
-  pub answered : ServesAll (λ prefix. TaskEnds (asked_of flags) given) operands old (record new { reported = middle }) found
-  pub missed : MayMiss (column_text words) found middle new.reported served
+  pub answered : ServesAll (λ prefix. TaskEnds (asked_of subcommand flags) given) operands old (record new { reported = middle }) found
+  pub missed : MayMiss (column_text subcommand words) found middle new.reported served

@@ -4,7 +4,7 @@ use Rattle.std.specs.Global.{Vec}
 use Rattle.std.specs.Str.{IsUtf8}
 use Rattle.cvss_subcommands.specs.Arguments.{metrics_in, operands_of, words_of}
 use Rattle.cvss_subcommands.specs.Auditing.{Audits}
-use Rattle.cvss_subcommands.specs.Csv.{ScoresCsv}
+use Rattle.cvss_subcommands.specs.Csv.{AnswersCsv}
 use Rattle.cvss_subcommands.specs.Counting.{ServesAndCounts}
 use Rattle.cvss_subcommands.specs.Flags.{counts_of, gate_by, scoring_of}
 use Rattle.cvss_subcommands.specs.Comparing.{Compares}
@@ -126,15 +126,20 @@ explain_ends false what_if = ExplainsByTexts what_if
 
 -- what `cvss score` does, by whether --csv is given
 abbrev pub ScoresOf : Bool → Flags → List (Vec ℕ) → List (Vec ℕ) → State → State → Served → Type 0
-ScoresOf true flags words = ScoresCsv flags words
+ScoresOf true flags words = AnswersCsv Score flags words
 ScoresOf false flags words = ScoresHinted flags
+
+-- and `cvss find`
+abbrev pub FindsOf : Bool → Flags → List (Vec ℕ) → List (Vec ℕ) → State → State → Served → Type 0
+FindsOf true flags words = AnswersCsv Find flags words
+FindsOf false flags words = FindsAll flags
 
 -- what each subcommand does
 abbrev pub Runs : Subcommand → Options → List (Vec ℕ) → State → State → Result Served UsageError → Type 0
 Runs Score options arguments old new result =
     IsOkAnd result (ScoresOf options.flags.csv options.flags (words_of options.words arguments) (operands_of options.operands arguments) old new)
 Runs Find options arguments old new result =
-    IsOkAnd result (FindsAll options.flags (operands_of options.operands arguments) old new)
+    IsOkAnd result (FindsOf options.flags.csv options.flags (words_of options.words arguments) (operands_of options.operands arguments) old new)
 Runs Explain options arguments old new result =
     Answers (explain_ends options.flags.json options.flags.what_if options.flags.allow_incomplete) options arguments old new result
 Runs Set options arguments old new result =

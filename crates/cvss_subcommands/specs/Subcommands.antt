@@ -21,7 +21,7 @@ name_of Diff = codes "diff"
 -- the options that it has
 unfoldable pub flags_of : Subcommand → List Flag
 flags_of Score = Json ∷ Tsv ∷ Csv ∷ Column ∷ Guard ∷ Base ∷ Standard ∷ Min ∷ FailOn ∷ Count ∷ Quiet ∷ AllowIncomplete ∷ []
-flags_of Find = Json ∷ Annotate ∷ All ∷ Base ∷ Min ∷ FailOn ∷ Count ∷ Quiet ∷ AllowIncomplete ∷ Assume ∷ []
+flags_of Find = Json ∷ Csv ∷ Column ∷ Guard ∷ Annotate ∷ All ∷ Base ∷ Min ∷ FailOn ∷ Count ∷ Quiet ∷ AllowIncomplete ∷ Assume ∷ []
 flags_of Explain = Json ∷ WhatIf ∷ AllowIncomplete ∷ []
 flags_of Set = Base ∷ AllowIncomplete ∷ []
 flags_of Triage = flag.Set ∷ Profile ∷ KeepGoing ∷ Header ∷ Json ∷ Base ∷ Min ∷ FailOn ∷ Count ∷ Quiet ∷ AllowIncomplete ∷ []

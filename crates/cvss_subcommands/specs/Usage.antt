@@ -10,9 +10,9 @@ usage_of Score =
     ++ codes "                  [--guard] [--base] [--min SCORE] [--fail-on SCORE] [--quiet]\n"
     ++ codes "                  [--allow-incomplete] [VECTOR|FILE].."
 usage_of Find =
-    codes "cvss find [--json|[--annotate [--all]|--count] [--base]] [--min SCORE]\n"
-    ++ codes "                 [--fail-on SCORE] [--quiet] [--allow-incomplete]\n"
-    ++ codes "                 [--assume 3.0|3.1] [FILE].."
+    codes "cvss find [--json|--csv [--column C]|--annotate [--all]|--count]\n"
+    ++ codes "                 [--guard] [--base] [--min SCORE] [--fail-on SCORE] [--quiet]\n"
+    ++ codes "                 [--allow-incomplete] [--assume 3.0|3.1] [FILE].."
 usage_of Explain = codes "cvss explain [--json|--what-if] [--allow-incomplete] [VECTOR|FILE].."
 usage_of Set = codes "cvss set METRIC:VALUE.. [--base] [--allow-incomplete] [VECTOR|FILE].."
 usage_of Triage =

@@ -5,7 +5,7 @@ use Rattle.cvss_subcommands.specs.Arguments.{operands_of}
 use Rattle.cvss_subcommands.specs.Flags.{flag_name}
 use Rattle.cvss_subcommands.specs.Subcommands.{name_of}
 use Rattle.cvss_subcommands.specs.declared.flags.Flag.{Flag}
-use Rattle.cvss_subcommands.specs.declared.flags.Flag.TheVariants.{Annotate, Column, Count, FailOn, Json, Min, Quiet, Standard}
+use Rattle.cvss_subcommands.specs.declared.flags.Flag.TheVariants.{Annotate, Assume, Count, FailOn, Guard, Json, Min, Quiet, Standard}
 use Rattle.cvss_subcommands.specs.declared.subcommand.Subcommand.{Subcommand}
 use Rattle.cvss_subcommands.specs.declared.subcommand.Subcommand.TheVariants.{Score, Set}
 use Rattle.cvss_subcommands.specs.declared.usage_error.UsageError.{UsageError}
@@ -38,12 +38,13 @@ not_with_text Min = codes "' does not go with --min; see '"
 not_with_text FailOn = codes "' does not go with --fail-on; see '"
 not_with_text Quiet = codes "' does not go with --quiet; see '"
 not_with_text Annotate = codes "' does not go with --annotate; see '"
+not_with_text Assume = codes "' does not go with --assume; see '"
 not_with_text _ = codes "' does not go with --tsv; see '"
 
 -- what is said of an option that needs a table
-abbrev pub needs_text : Flag → List ℕ
-needs_text Column = codes "' needs --csv; see '"
-needs_text _ = codes "' needs --csv or --tsv; see '"
+abbrev pub needs_text : Subcommand → Flag → List ℕ
+needs_text Score Guard = codes "' needs --csv or --tsv; see '"
+needs_text _ _ = codes "' needs --csv; see '"
 
 -- what is reported: without an argument the general help, else a line
 abbrev pub usage_report : List ℕ → UsageError → List (Vec ℕ) → List ℕ
@@ -66,8 +67,8 @@ usage_report usage NoMetric arguments = codes "cvss: no metric to set; see 'cvss
 usage_report usage NotUtf8 arguments = codes "cvss: a metric is not UTF-8; see 'cvss help set'\n"
 usage_report usage (AllScores subcommand flag) arguments =
     line_about (codes "cvss: --base does not go with '") (flag_name flag) (codes "', which prints all scores; see '") (Some subcommand)
-usage_report usage (NeedsTable flag) arguments =
-    line_about (codes "cvss: option '") (flag_name flag) (needs_text flag) (Some Score)
+usage_report usage (NeedsTable subcommand flag) arguments =
+    line_about (codes "cvss: option '") (flag_name flag) (needs_text subcommand flag) (Some subcommand)
 usage_report usage NotTwo arguments = codes "cvss: two vectors are compared; see 'cvss help diff'\n"
 usage_report usage (NotWith subcommand flag other) arguments =
     line_about (codes "cvss: option '") (flag_name flag) (not_with_text other) (Some subcommand)

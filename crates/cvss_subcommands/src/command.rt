@@ -3,12 +3,12 @@
 ghost use Rattle.std.specs.Prelude.{◌≡◌, ◌++◌, IfOk, OnOk};
 ghost use Rattle.cvss_frame.specs.Streams.{state};
 ghost use Rattle.cvss_subcommands.specs.Arguments.{metric_part, metrics_in, operands_of, words_of};
-ghost use Rattle.cvss_subcommands.specs.Done.{Does, Runs, ScoresOf, SetsGiven, SetsMetrics, help_of};
+ghost use Rattle.cvss_subcommands.specs.Done.{Does, FindsOf, Runs, ScoresOf, SetsGiven, SetsMetrics, help_of};
 ghost use Rattle.cvss_subcommands.specs.Requests.{request_of};
 ghost use Rattle.cvss_subcommands.specs.Scoring.{WritesText};
 
 use crate::audit::audit;
-use crate::csv::score_csv;
+use crate::csv::answer_csv;
 use crate::diff::diff;
 use crate::explain::explain;
 use crate::find::find_vectors;
@@ -54,7 +54,10 @@ pub(crate) fn run_command<H: Host>(
                     let words = words_of(arguments, options.words);
                     Ok(score_any(alloc, options.flags, words, operands, streams))
                 }
-                Subcommand::Find => { Ok(find_vectors(alloc, options.flags, operands, streams)) }
+                Subcommand::Find => {
+                    let words = words_of(arguments, options.words);
+                    Ok(find_any(alloc, options.flags, words, operands, streams))
+                }
                 Subcommand::Explain => { Ok(explain(alloc, options.flags, operands, streams)) }
                 Subcommand::Set => set_metrics(alloc, arguments, options, streams),
                 Subcommand::Triage => Ok(triage_lines(
@@ -82,9 +85,26 @@ fn score_any<H: Host>(
     ensures { ScoresOf flags.csv flags words.now operands.now (state streams.old) (state streams.new) result }
 {
     if flags.csv {
-        score_csv(alloc, flags, words, operands, streams)
+        answer_csv(alloc, Subcommand::Score, flags, words, operands, streams)
     } else {
         score(alloc, flags, operands, streams)
+    }
+}
+
+/// Finds the vectors in the operands, in any text or in CSV.
+fn find_any<H: Host>(
+    alloc: Global,
+    flags: Flags,
+    words: &[Vec<u8>],
+    operands: &[Vec<u8>],
+    streams: &mut Streams<H>,
+) -> Served
+    ensures { FindsOf flags.csv flags words.now operands.now (state streams.old) (state streams.new) result }
+{
+    if flags.csv {
+        answer_csv(alloc, Subcommand::Find, flags, words, operands, streams)
+    } else {
+        find_vectors(alloc, flags, operands, streams)
     }
 }
 

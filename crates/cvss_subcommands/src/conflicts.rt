@@ -1,7 +1,7 @@
 //! Options and operands that do not go together.
 
 ghost use Rattle.std.specs.Prelude.{◌≡◌};
-ghost use Rattle.cvss_subcommands.specs.Conflicts.{all_scores_error, conflict_of, count_conflict, find_conflict, lines_conflict, rows_of, score_conflict, without_csv, without_rows};
+ghost use Rattle.cvss_subcommands.specs.Conflicts.{all_scores_error, assume_flag, conflict_of, count_conflict, find_conflict, find_without_csv, lines_conflict, rows_of, score_conflict, texts_conflict, without_csv, without_rows};
 ghost use Rattle.cvss_subcommands.specs.Flags.{all_scores_of};
 
 use crate::flags::{Flag, Flags};
@@ -41,15 +41,15 @@ fn score_conflict(flags: Flags) -> Option<UsageError>
             None => None,
         }
     } else if flags.column {
-        Some(UsageError::NeedsTable(Flag::Column))
+        Some(UsageError::NeedsTable(Subcommand::Score, Flag::Column))
     } else if flags.guard && !flags.tsv {
-        Some(UsageError::NeedsTable(Flag::Guard))
+        Some(UsageError::NeedsTable(Subcommand::Score, Flag::Guard))
     } else {
         lines_conflict(flags)
     }
 }
 
-/// The option that does not go with `--csv`.
+/// The option of `cvss score` that does not go with `--csv`.
 fn without_csv(flags: Flags) -> Option<Flag>
     ensures { result ≡ without_csv flags }
 {
@@ -73,9 +73,51 @@ fn lines_conflict(flags: Flags) -> Option<UsageError>
     }
 }
 
-/// What is wrong with the options of `cvss find` that are given together: `--annotate` repeats all lines.
+/// What is wrong with the options of `cvss find` that are given together.
 fn find_conflict(flags: Flags) -> Option<UsageError>
     ensures { result ≡ find_conflict flags }
+{
+    if flags.csv {
+        match find_without_csv(flags) {
+            Some(other) => Some(UsageError::NotWith(Subcommand::Find, Flag::Csv, other)),
+            None => None,
+        }
+    } else if flags.column {
+        Some(UsageError::NeedsTable(Subcommand::Find, Flag::Column))
+    } else if flags.guard {
+        Some(UsageError::NeedsTable(Subcommand::Find, Flag::Guard))
+    } else {
+        texts_conflict(flags)
+    }
+}
+
+/// The option of `cvss find` that does not go with `--csv`.
+fn find_without_csv(flags: Flags) -> Option<Flag>
+    ensures { result ≡ find_without_csv flags }
+{
+    if flags.json {
+        Some(Flag::Json)
+    } else if flags.annotate {
+        Some(Flag::Annotate)
+    } else {
+        match flags.gate_flag() {
+            Some(flag) => Some(flag),
+            None => assume_flag(flags),
+        }
+    }
+}
+
+/// The option of `cvss find` that says in which version vectors are read, if it is given.
+fn assume_flag(flags: Flags) -> Option<Flag>
+    ensures { result ≡ assume_flag flags }
+{
+    flags.assumed.is_some().then_some(Flag::Assume)
+}
+
+/// What is wrong with the options of `cvss find` that are given together, without `--csv`: `--annotate`
+/// repeats all lines.
+fn texts_conflict(flags: Flags) -> Option<UsageError>
+    ensures { result ≡ texts_conflict flags }
 {
     if flags.annotate
         && let Some(flag) = flags.gate_flag()

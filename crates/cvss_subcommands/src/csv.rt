@@ -1,10 +1,10 @@
-//! `cvss score --csv`.
+//! `cvss score --csv` and `cvss find --csv`.
 
 ghost use Rattle.std.specs.Prelude.{◌≡◌, ◌-◌, option_copied, true};
 ghost use Rattle.std.specs.Char.{is_ascii_digit};
 ghost use Rattle.cvss_frame.specs.Reports.{reported};
 ghost use Rattle.cvss_frame.specs.Streams.{state};
-ghost use Rattle.cvss_subcommands.specs.Csv.{IsColumn, MayMiss, ScoresCsv, asked_of, by_three, column_text, due_after, index_by, number_of};
+ghost use Rattle.cvss_subcommands.specs.Csv.{AnswersCsv, IsColumn, MayMiss, asked_of, by_three, column_text, due_after, finds_each, index_by, number_of};
 
 use crate::flags::{Flag, Flags};
 use crate::requests::flag_of;
@@ -15,20 +15,23 @@ use std::alloc::Global;
 use std::cell::Cell;
 use std::io::Write;
 
-/// Scores the vectors in the records of the operands. An input that lacks the column is reported.
-pub(crate) fn score_csv<H: Host>(
+/// Scores the vectors in the records of the operands, and writes each record once, or once for each vector
+/// that is found. An input that lacks the column is reported.
+pub(crate) fn answer_csv<H: Host>(
     alloc: Global,
+    subcommand: Subcommand,
     flags: Flags,
     words: &[Vec<u8>],
     operands: &[Vec<u8>],
     streams: &mut Streams<H>,
 ) -> Served
-    ensures { ScoresCsv flags words.now operands.now (state streams.old) (state streams.new) result }
+    ensures { AnswersCsv subcommand flags words.now operands.now
+        (state streams.old) (state streams.new) result }
 {
-    let name = column_text(words);
+    let name = column_text(subcommand, words);
     let lacks_column = Cell::new(false);
     let task = CsvTask {
-        asked: asked_of(flags),
+        asked: asked_of(subcommand, flags),
         column: column_of(name),
         lacks_column: &lacks_column,
     };
@@ -36,14 +39,22 @@ pub(crate) fn score_csv<H: Host>(
     report_missing(name, lacks_column.get(), found, &mut streams.errors)
 }
 
-fn asked_of(flags: Flags) -> Asked
-    ensures { result ≡ asked_of flags }
+fn asked_of(subcommand: Subcommand, flags: Flags) -> Asked
+    ensures { result ≡ asked_of subcommand flags }
 {
     Asked {
         scoring: flags.scoring(),
         allow_incomplete: flags.allow_incomplete,
         guarded: flags.guard,
+        each: finds_each(subcommand),
     }
+}
+
+/// Whether each vector of a record has a row of its own.
+fn finds_each(subcommand: Subcommand) -> bool
+    ensures { result ≡ finds_each subcommand }
+{
+    matches!(subcommand, Subcommand::Find)
 }
 
 /// Reports that no column has the name, if that is so, which counts as an input that cannot be read.
@@ -69,8 +80,8 @@ fn report_missing<E: Write>(
 }
 
 /// The value after the last `--column` among the words of the options.
-fn column_text(words: &[Vec<u8>]) -> Option<&[u8]>
-    ensures { option_copied result ≡ column_text words.now }
+fn column_text(subcommand: Subcommand, words: &[Vec<u8>]) -> Option<&[u8]>
+    ensures { option_copied result ≡ column_text subcommand words.now }
 {
     let mut found = None;
     let mut due = None;
@@ -82,7 +93,7 @@ fn column_text(words: &[Vec<u8>]) -> Option<&[u8]>
                 due = None;
             }
             Some(_) => due = None,
-            None => due = due_after(word),
+            None => due = due_after(subcommand, word),
         }
         left = rest;
     }
@@ -90,10 +101,10 @@ fn column_text(words: &[Vec<u8>]) -> Option<&[u8]>
 }
 
 /// The option whose value comes after a word, if it is one.
-fn due_after(word: &[u8]) -> Option<Flag>
-    ensures { result ≡ due_after word.now }
+fn due_after(subcommand: Subcommand, word: &[u8]) -> Option<Flag>
+    ensures { result ≡ due_after subcommand word.now }
 {
-    match flag_of(Subcommand::Score, word) {
+    match flag_of(subcommand, word) {
         Some(flag) => flag.value_due(),
         None => None,
     }

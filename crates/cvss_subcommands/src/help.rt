@@ -1,6 +1,6 @@
 //! What the command prints of itself.
 
-ghost use Rattle.std.specs.Prelude.{◌≡◌};
+ghost use Rattle.std.specs.Prelude.{◌≡◌, Some};
 ghost use Rattle.std.specs.Io.{StartsWith};
 ghost use Rattle.cvss_subcommands.specs.Done.{help_of};
 ghost use Rattle.cvss_subcommands.specs.Usage.{help_start};
@@ -63,26 +63,26 @@ Exit status: 0 on success; 1 if a line is rejected; 2 on usage or I/O errors.
 
 /// What `help find` prints.
 pub(crate) const FIND_USAGE: &str = "\
-usage: cvss find [--json|[--annotate [--all]|--count] [--base]] [--min SCORE]
-                 [--fail-on SCORE] [--quiet] [--allow-incomplete]
-                 [--assume 3.0|3.1] [FILE]..
+usage: cvss find [--json|--csv [--column C]|--annotate [--all]|--count]
+                 [--guard] [--base] [--min SCORE] [--fail-on SCORE] [--quiet]
+                 [--allow-incomplete] [--assume 3.0|3.1] [FILE]..
 
 Finds the vectors in any text, of any bytes, also in links and JSON. For each it
 prints LINE:COLUMN (both from 1, in bytes), a space and the line of cvss score;
 with several files the name of the file and a colon before that. Rejected are
 vectors without a prefix, as AV:N/AC:L/PR:N.. (unless --assume or a link says
 their version), with a misspelled one, as cvss:3.1/ and CVSS3.1/, and before a
-slash that ends the line, since a vector may go on in the next line.
+slash that ends the line: the vector may go on in the next.
 
   --annotate           repeat each line, then a tab and what is printed for its
                        first vector; with --all for each of its vectors
-  --json               one object for each vector: line, column, text, and the
-                       members of cvss score --json
-  --base               print base scores (--json prints all scores)
+  --json               objects: line, column, text, and as cvss score --json
+  --csv                a row of CSV for each vector: its record and six cells;
+  --column, --guard    as cvss score --csv
+  --base               print base scores (--json: all)
   --min, --fail-on     pass over vectors, or fail, by their scores, and
   --count, --quiet     print numbers or nothing, as cvss score; not annotated
-  --allow-incomplete   score vectors before such a slash, and v3 vectors that
-                       lack base metrics
+  --allow-incomplete   score incomplete vectors of v3, and before such a slash
   --assume VERSION     read v3 vectors without a prefix as of v3.0 or v3.1
 
   cvss find --annotate findings.tsv
@@ -211,12 +211,22 @@ pub(crate) fn help_of(topic: Option<Subcommand>) -> &'static str
 {
     match topic {
         None => USAGE,
-        Some(Subcommand::Score) => SCORE_USAGE,
-        Some(Subcommand::Find) => FIND_USAGE,
-        Some(Subcommand::Explain) => EXPLAIN_USAGE,
-        Some(Subcommand::Set) => SET_USAGE,
-        Some(Subcommand::Triage) => TRIAGE_USAGE,
-        Some(Subcommand::Audit) => AUDIT_USAGE,
-        Some(Subcommand::Diff) => DIFF_USAGE,
+        Some(subcommand) => help_on(subcommand),
+    }
+}
+
+/// The help on a subcommand.
+fn help_on(subcommand: Subcommand) -> &'static str
+    ensures text { result.now ≡ help_of USAGE.now SCORE_USAGE.now FIND_USAGE.now EXPLAIN_USAGE.now SET_USAGE.now TRIAGE_USAGE.now AUDIT_USAGE.now DIFF_USAGE.now (Some subcommand) }
+    ensures start { StartsWith result.now (help_start (Some subcommand)) }
+{
+    match subcommand {
+        Subcommand::Score => SCORE_USAGE,
+        Subcommand::Find => FIND_USAGE,
+        Subcommand::Explain => EXPLAIN_USAGE,
+        Subcommand::Set => SET_USAGE,
+        Subcommand::Triage => TRIAGE_USAGE,
+        Subcommand::Audit => AUDIT_USAGE,
+        Subcommand::Diff => DIFF_USAGE,
     }
 }

@@ -67,6 +67,9 @@ impl Subcommand {
             Subcommand::Find => {
                 &[
                     Flag::Json,
+                    Flag::Csv,
+                    Flag::Column,
+                    Flag::Guard,
                     Flag::Annotate,
                     Flag::All,
                     Flag::Base,

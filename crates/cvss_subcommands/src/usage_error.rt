@@ -37,7 +37,7 @@ pub(crate) enum UsageError {
     /// `--base` is given with an option whose output has all scores.
     AllScores(Subcommand, Flag),
     /// The option is given without `--csv`, which it is of.
-    NeedsTable(Flag),
+    NeedsTable(Subcommand, Flag),
     /// The option is given with one with which it does not go.
     NotWith(Subcommand, Flag, Flag),
     /// There are more or fewer than two vectors to compare.
@@ -109,10 +109,9 @@ pub(crate) fn report_usage<E: Write>(
             let (word, after) = (flag.name().as_bytes(), "', which prints all scores; see '");
             report_about(before, word, after, Some(subcommand), report);
         }
-        UsageError::NeedsTable(flag) => {
-            let (word, after) = (flag.name().as_bytes(), needs_text(flag));
-            let topic = Some(Subcommand::Score);
-            report_about("cvss: option '", word, after, topic, report);
+        UsageError::NeedsTable(subcommand, flag) => {
+            let (word, after) = (flag.name().as_bytes(), needs_text(subcommand, flag));
+            report_about("cvss: option '", word, after, Some(subcommand), report);
         }
         UsageError::NotTwo => {
             report.write(b"cvss: two vectors are compared; see 'cvss help diff'\n");
@@ -140,17 +139,18 @@ fn not_with_text(other: Flag) -> &'static str
         Flag::FailOn => "' does not go with --fail-on; see '",
         Flag::Quiet => "' does not go with --quiet; see '",
         Flag::Annotate => "' does not go with --annotate; see '",
+        Flag::Assume => "' does not go with --assume; see '",
         _ => "' does not go with --tsv; see '",
     }
 }
 
 /// What is said of an option that needs a table.
-fn needs_text(flag: Flag) -> &'static str
-    ensures { result.now ≡ needs_text flag }
+fn needs_text(subcommand: Subcommand, flag: Flag) -> &'static str
+    ensures { result.now ≡ needs_text subcommand flag }
 {
-    match flag {
-        Flag::Column => "' needs --csv; see '",
-        _ => "' needs --csv or --tsv; see '",
+    match (subcommand, flag) {
+        (Subcommand::Score, Flag::Guard) => "' needs --csv or --tsv; see '",
+        _ => "' needs --csv; see '",
     }
 }
 

@@ -1,12 +1,11 @@
 -- The state of a run between two steps, and what its private code does in each. No public clause cites it.
-use Rattle.std.specs.Prelude.{◌≡◌, ℕ, ◌+◌, ◌-◌, ◌^◌, ◌⊎◌, min, Bool, false, if◌then◌else◌, List, [], ◌∷◌, ◌++◌, Option, None, Some}
+use Rattle.std.specs.Prelude.{◌≡◌, ℕ, ◌⊎◌, Bool, false, List, [], ◌∷◌, ◌++◌, Option, None, Some}
 use Rattle.cvss_lines.specs.Lines.{last_piece}
 use Rattle.cvss_lines.specs.declared.fault.RunFault.TheVariants.{Memory}
-use Rattle.cvss_lines.specs.declared.summary.Summary.{Summary}
 use Rattle.cvss_csv.specs.Answers.{Answered, IsAnswerTo, cells_by}
 use Rattle.cvss_csv.specs.Fields.{fields, place_after}
 use Rattle.cvss_csv.specs.Records.{Record, ended_records, pieces, records}
-use Rattle.cvss_csv.specs.Runs.{AreAllAnswers, LacksColumn, SaysFirst, answer_bytes, is_accepted, is_rejected, summary_of}
+use Rattle.cvss_csv.specs.Runs.{AreAllAnswers, LacksColumn, SaysFirst, answer_bytes, summary_of}
 use Rattle.cvss_csv.specs.declared.asked.Asked.{Asked}
 use Rattle.cvss_csv.specs.declared.asked.Cells.{Cells}
 use Rattle.cvss_csv.specs.declared.asked.Column.{Column}
@@ -15,20 +14,19 @@ use Rattle.cvss_csv.specs.declared.fault.CsvFault.TheVariants.{Run, UnknownColum
 use Rattle.cvss_csv.specs.declared.pending.Pending.{Pending}
 use Rattle.cvss_csv.specs.declared.place.Place.TheVariants.{Start}
 use Rattle.cvss_csv.specs.declared.progress.Progress.{Progress}
+use Rattle.cvss_csv.specs.private.Counting.{CountsAll}
 
--- one more record is counted, by a `u64` that stops at its maximum
-pub record Counts (old : Summary) (counted : Option Bool) (new : Summary) : Type 0 where
-  pub accepted : new.accepted ≡ (if is_accepted counted then min (old.accepted + 1) (2 ^ 64 - 1) else old.accepted)
-  pub rejected : new.rejected ≡ (if is_rejected counted then min (old.rejected + 1) (2 ^ 64 - 1) else old.rejected)
-
--- one more record is answered, of which it is known which cells are searched
-pub record AnswersNext (cells : Cells) (is_header : Bool) (body line_end : List ℕ) (old new : Progress) : Type 0 where
+-- one more record is answered so, of which it is known which cells are searched
+pub record AnswersAs (IsIt : Answered → Type 0) (old new : Progress) : Type 0 where
   pub answered : Answered
-  pub is_answer : IsAnswerTo old.answerer.asked cells is_header body line_end answered
+  pub is_answer : IsIt answered
   pub written : new.answers.bytes.items ≡ old.answers.bytes.items ++ answered.bytes
-  pub counts : Counts old.summary answered.counted new.summary
+  pub counts : CountsAll old.summary answered.counted new.summary
   pub asked : new.answerer.asked ≡ old.answerer.asked
   pub known : new.cells ≡ old.cells
+
+abbrev pub AnswersNext : Cells → Bool → List ℕ → List ℕ → Progress → Progress → Type 0
+AnswersNext cells is_header body line_end old new = AnswersAs (IsAnswerTo old.answerer.asked cells is_header body line_end) old new
 
 -- the first record, which says which cells are searched, or another
 abbrev pub IsKnownBy : Column → List ℕ → Option Cells → Cells → Bool → Type 0
@@ -43,7 +41,7 @@ pub record AnswersRecord (column : Column) (body line_end : List ℕ) (old new :
   pub answered : Answered
   pub is_answer : IsAnswerTo old.answerer.asked cells is_header body line_end answered
   pub written : new.answers.bytes.items ≡ old.answers.bytes.items ++ answered.bytes
-  pub counts : Counts old.summary answered.counted new.summary
+  pub counts : CountsAll old.summary answered.counted new.summary
   pub asked : new.answerer.asked ≡ old.answerer.asked
   pub known : new.cells ≡ Some cells
 

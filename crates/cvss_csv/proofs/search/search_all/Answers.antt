@@ -4,12 +4,12 @@ use Rattle.cvss_csv.proofs.SearchLemmas.{fields_all, fields_next, fields_start}
 use Rattle.cvss_csv.proofs.search.search_all.Goals as goal
 
 pub loop-field-init : goal.loop-field-init
-loop-field-init c = fields_start (fields c.args.body.now) (fields_left c.of-fields.result) c.args.tally.now c.of-fields.ensures
+loop-field-init g c = fields_start g.N.Notes.is_of (fields c.args.body.now) (fields_left c.of-fields.result) c.args.notes.now c.of-fields.ensures
 
 pub loop-field-preserved : goal.loop-field-preserved
-loop-field-preserved c =
-    fields_next (fields c.args.body.now) (fields_left c.loop-field.fields) _ c.in-Some.field.now c.args.tally.now c.loop-field.tally _
+loop-field-preserved g c =
+    fields_next g.N.Notes.is_of (fields c.args.body.now) (fields_left c.loop-field.fields) _ c.in-Some.field.now c.args.notes.now c.loop-field.notes _
     c.loop-field.invariant c.in-Some.ensures.steps c.in_ok-search_field.ensures
 
 pub returns : goal.returns
-returns c = fields_all (fields c.args.body.now) (fields_left c.loop-field.fields) c.args.tally.now c.loop-field.tally c.loop-field.invariant c.in_default.ensures.steps
+returns g c = fields_all g.N.Notes.is_of (fields c.args.body.now) (fields_left c.loop-field.fields) c.args.notes.now c.loop-field.notes c.loop-field.invariant c.in_default.ensures.steps

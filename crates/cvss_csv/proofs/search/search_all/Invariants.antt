@@ -5,7 +5,7 @@ use Rattle.cvss_csv.specs.private.Searching.{HasFoundInAll}
 use Rattle.cvss_csv.proofs.search.search_all.Given as goal
 
 abbrev pub invariant-loop-field : goal.invariant-loop-field
-invariant-loop-field l = HasFoundInAll (fields l.fn.body) (fields_left l.fields) l.fn.tally l.tally
+invariant-loop-field g l = HasFoundInAll g.N.Notes.is_of (fields l.fn.body) (fields_left l.fields) l.fn.notes l.notes
 
 abbrev pub decreases-loop-field : goal.decreases-loop-field
-decreases-loop-field l = length (fields_left l.fields)
+decreases-loop-field g l = length (fields_left l.fields)

@@ -5,5 +5,5 @@ use Rattle.cvss_subcommands.proofs.command.score_any.Goals as goal
 
 pub returns-then-flags : goal.returns-then-flags
 returns-then-flags g c =
-    subst (λ csv. ScoresOf csv c.args.flags c.args.words.now c.args.operands.now (state c.args.streams.now) (state c.score_csv.new.streams) c.score_csv.result)
-    (sym c.if-flags.true) c.score_csv.ensures
+    subst (λ csv. ScoresOf csv c.args.flags c.args.words.now c.args.operands.now (state c.args.streams.now) (state c.answer_csv.new.streams) c.answer_csv.result)
+    (sym c.if-flags.true) c.answer_csv.ensures

@@ -81,8 +81,8 @@ returns-in-NeedsTable g c =
     let old = reported g.E.Write.contents c.args.report.now in
     let new = reported g.E.Write.contents c.report_about-in-NeedsTable.new.report in
     subst (λ error. Reports old new (usage_report USAGE.now error c.args.arguments.now)) (sym c.in-NeedsTable.is)
-    (subst (λ after. Reports old new (line_about (codes "cvss: option '") (flag_name c.in-NeedsTable.flag) after (Some Score))) c.needs_text-after.ensures
-    (subst (λ word. Reports old new (line_about (codes "cvss: option '") word c.needs_text-after.result.now (Some Score)))
+    (subst (λ after. Reports old new (line_about (codes "cvss: option '") (flag_name c.in-NeedsTable.flag) after (Some c.in-NeedsTable.subcommand))) c.needs_text-after.ensures
+    (subst (λ word. Reports old new (line_about (codes "cvss: option '") word c.needs_text-after.result.now (Some c.in-NeedsTable.subcommand)))
     (c.as_bytes-word-in-NeedsTable.ensures.value ∙ c.name-in-NeedsTable.ensures) c.report_about-in-NeedsTable.ensures))
 
 pub returns-in-NotTwo : goal.returns-in-NotTwo

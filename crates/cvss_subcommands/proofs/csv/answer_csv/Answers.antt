@@ -4,7 +4,7 @@ use Rattle.cvss_frame.specs.Operands.{ServesAll}
 use Rattle.cvss_frame.specs.Reports.{reported}
 use Rattle.cvss_frame.specs.Streams.{state}
 use Rattle.cvss_subcommands.specs.Csv.{IsColumn, MayMiss}
-use Rattle.cvss_subcommands.proofs.csv.score_csv.Goals as goal
+use Rattle.cvss_subcommands.proofs.csv.answer_csv.Goals as goal
 
 pub returns : goal.returns
 returns g c =

@@ -4,7 +4,7 @@ use Rattle.std.proofs.lemmas.Bool.{iff_false}
 use Rattle.cvss_csv.specs.Tallies.{IsCountOf}
 use Rattle.cvss_csv.specs.declared.tally.Count.TheVariants as count
 use Rattle.cvss_csv.proofs.TallyLemmas.{adds_equal, adds_other, adds_several}
-use Rattle.cvss_csv.proofs.tally.Tally.note.Goals as goal
+use Rattle.cvss_csv.proofs.tally.TallyNotes.note.Goals as goal
 
 pub returns-then-not-branch : goal.returns-then-not-branch
 returns-then-not-branch c = λ texts is.
