@@ -1,12 +1,14 @@
 #!/usr/bin/env python3
 """A second implementation of what `cvss triage` prints, written from the public standards alone.
 
-usage: reference/ranking.py [--set METRIC:VALUE].. [--profile FILE].. [--keep-going] [--header] [--base] [--min SCORE]
-                            [--fail-on SCORE] [--count] [--quiet] [--allow-incomplete] [FILE]..
+usage: reference/ranking.py [--set METRIC:VALUE].. [--profile FILE].. [--keep-going] [--header] [--prefer VERSION|highest]
+                            [--base] [--min SCORE] [--fail-on SCORE] [--count] [--quiet] [--allow-incomplete]
+                            [--csv [--guard]] [FILE]..
 """
 import sys
 
 import complete
+import csv_lists
 import finding
 import lists
 import reference
@@ -18,6 +20,7 @@ from scores import base as base_score, overall
 EXAMPLES = {2: b"AV:N/AC:L/Au:N/C:N/I:N/A:N", 3: b"CVSS:3.1/AV:N",
             4: b"CVSS:4.0/AV:N/AC:L/AT:N/PR:N/UI:N/VC:N/VI:N/VA:N/SC:N/SI:N/SA:N"}
 PREFIXES = {b"CVSS:4.0/": 4, b"CVSS:3.1/": 3, b"CVSS:3.0/": 3}
+VERSIONS = {b"4.0": 40, b"3.1": 31, b"3.0": 30, b"2.0": 20}
 
 
 def family(text):
@@ -50,15 +53,30 @@ def canonical(text):
         return None
 
 
-def vector_of(line):
-    """The canonical text of the vector that each match in the line is, or the reason why there is none."""
+def picked(texts, prefer, score):
+    """The one of the vectors that is preferred, by the score of each that has one, or None."""
+    if None in texts or prefer is None:
+        return None
+    if prefer == b"highest":
+        scores = [score(text) for text in texts]
+        return None if None in scores else texts[scores.index(max(scores))]
+    of_version = {text for text in texts if setting.read(text)[0] == VERSIONS[prefer]}
+    return of_version.pop() if len(of_version) == 1 else None
+
+
+def vector_of(line, prefer, score):
+    """The canonical text of the vector that each match in the line is, or the one that is preferred of several, or the
+    reason why there is none."""
     found = list(finding.found(line))
     if not found:
         raise Refused("none", "no vector")
-    texts = {canonical(text) for _, text, *_ in found}
-    if len(found) > 1 and (len(texts) > 1 or None in texts):
+    texts = [canonical(text) for _, text, *_ in found]
+    if len(found) == 1 or (None not in texts and len(set(texts)) == 1):
+        return reference.read(reference.text_of(found[0][1]))[0]
+    text = picked(texts, prefer, score)
+    if text is None:
         raise Refused("several", "more than one vector on this line")
-    return reference.read(reference.text_of(found[0][1]))[0]
+    return text
 
 
 def with_overrides(text, overrides, allow_incomplete):
@@ -70,17 +88,30 @@ def with_overrides(text, overrides, allow_incomplete):
     return text
 
 
-def rank(lines, overrides, allow_incomplete, base=False):
-    """The rows of the lines in their order, and the lines that have none with their indices."""
+def rank(lines, overrides, allow_incomplete, base=False, prefer=None):
+    """The rows of the lines in their order, and the lines that have none with their indices. `None` is a record that is
+    not closed."""
+
+    def rated(text):
+        return (base_score if base else overall)(*setting.read(text))
+
+    def score(text):
+        try:
+            return rated(with_overrides(text, overrides, allow_incomplete))[0]
+        except Refused:
+            return None
+
     rows, bad = [], []
     for index, line in enumerate(lines):
         try:
-            text = with_overrides(vector_of(line), overrides, allow_incomplete)
+            if line is None:
+                raise Refused("open", "a quoted field is not closed")
+            text = with_overrides(vector_of(line, prefer, score), overrides, allow_incomplete)
         except Refused as reason:
             bad.append((index, str(reason)))
             continue
-        score, severity = (base_score if base else overall)(*setting.read(text))
-        rows.append((-score, line, severity, text))
+        tenths, severity = rated(text)
+        rows.append((-tenths, line, severity, text))
     return sorted(rows), bad
 
 
@@ -101,6 +132,21 @@ def row_text(row):
     return f"{-score // 10}.{-score % 10} {severity} {text}\t".encode("utf-8") + line + b"\n"
 
 
+def guarded_fields(record):
+    """A record with guarded fields."""
+    (fields, _, _), = csv_lists.records(record)
+    return b",".join(map(csv_lists.guarded, fields))
+
+
+def record_text(row, guard, line_end):
+    """The record of a row, and the six cells of its vector."""
+    score, record, severity, text = row
+    version, metrics = setting.read(text)
+    base, _ = base_score(version, metrics)
+    cells = f",{text},{version // 10}.{version % 10},{-score // 10}.{-score % 10},{severity},{base // 10}.{base % 10},"
+    return (guarded_fields(record) if guard else record) + cells.encode() + line_end
+
+
 def options(words):
     """The settings in their order, the other options with their values if they have any, and the operands."""
     words, settings, given = list(words), [], {}
@@ -110,6 +156,8 @@ def options(words):
             settings.append((word, words.pop(0)))
         elif word in (b"--min", b"--fail-on"):
             given[word] = lists.threshold(words.pop(0).decode())
+        elif word == b"--prefer":
+            given[word] = words.pop(0)
         else:
             given[word] = True
     return settings, given, words[words[:1] == [b"--"]:]
@@ -126,13 +174,28 @@ def overrides_of(settings, read):
                 yield word + b": line %d: no CVSS version has " % number + line, override(line)
 
 
-def shown(rows, bad, top, given):
+def records_in(text):
+    """The header of a table and what its rows end with, and each record that is to be ranked with its number."""
+    records = list(csv_lists.records(text.removeprefix(csv_lists.MARK)))
+    bodies = [None if is_open else b",".join(fields) for fields, _, is_open in records]
+    header = bodies[0] if bodies and bodies[0] and not list(finding.found(bodies[0])) else None
+    line_end = b"\r\n" if records and records[0][1] == b"\r\n" else b"\n"
+    return header, line_end, [(number, body) for number, body in enumerate(bodies, 1) if body != b""][header is not None:]
+
+
+def lines_in(text, headers):
+    """The header of a list, and each other line with its number."""
+    lines = list(enumerate(reference.lines_of_file(text), 1))
+    return lines[0][1] if headers and lines else None, b"\n", lines[headers:]
+
+
+def shown(rows, bad, top, text_of, given):
     """What is printed of ranked rows after a header, and whether one that is shown scores as much as triage fails on."""
     kept = [row for row in rows if -row[0] >= given.get(b"--min", 0)]
     fails = any(-row[0] >= given.get(b"--fail-on", 101) for row in kept)
     if b"--quiet" in given:
         return b"", fails
-    return count_text(kept, bad) if b"--count" in given else top + b"".join(map(row_text, kept)), fails
+    return count_text(kept, bad) if b"--count" in given else top + b"".join(map(text_of, kept)), fails
 
 
 def run(words, read):
@@ -142,17 +205,24 @@ def run(words, read):
     unknown = [report for report, override in overrides if not is_known(override)]
     if unknown:
         return 2, b"", b"".join(b"cvss: " + report + b"\n" for report in unknown)
-    places, lines, top, headers = [], [], b"", int(b"--header" in given)
-    for index, name in enumerate(operands or [b"-"]):
-        own = reference.lines_of_file(read(name))
-        if index == 0 and headers and own:
-            top = b"score severity vector\t" + own[0] + b"\n"
-        front = name + b": " if len(operands) > 1 else b""
-        places += [front + b"line %d: " % number for number in range(1 + headers, len(own) + 1)]
-        lines += own[headers:]
-    rows, bad = rank(lines, [override for _, override in overrides], b"--allow-incomplete" in given, b"--base" in given)
-    reports = b"".join(b"cvss: " + places[index] + reason.encode("utf-8") + b"\n" for index, reason in bad)
-    written, fails = shown(rows, bad, top, given) if not bad or b"--keep-going" in given else (b"", False)
+    csv, guard = b"--csv" in given, b"--guard" in given
+    places, lines, tops = [], [], []
+    for name in operands or [b"-"]:
+        header, line_end, own = records_in(read(name)) if csv else lines_in(read(name), b"--header" in given)
+        tops.append((header, line_end))
+        front = (name + b": " if len(operands) > 1 else b"") + (b"record" if csv else b"line")
+        places += [front + b" %d: " % number for number, _ in own]
+        lines += [line for _, line in own]
+    header, line_end = tops[0]
+    top = b"" if header is None else b"score severity vector\t" + header + b"\n"
+    if csv and header is not None:
+        top = (guarded_fields(header) if guard else header) + csv_lists.NAMES + line_end
+    rows, bad = rank(lines, [override for _, override in overrides], b"--allow-incomplete" in given, b"--base" in given,
+                     given.get(b"--prefer"))
+    reasons = [reason.replace("on this line", "in this record") if csv else reason for _, reason in bad]
+    reports = b"".join(b"cvss: " + places[index] + reason.encode("utf-8") + b"\n" for (index, _), reason in zip(bad, reasons))
+    text_of = (lambda row: record_text(row, guard, line_end)) if csv else row_text
+    written, fails = shown(rows, bad, top, text_of, given) if not bad or b"--keep-going" in given else (b"", False)
     return int(bool(bad) or fails), written, reports
 
 

@@ -88,6 +88,12 @@ def try_usage_errors():
             (["triage", V2, "--fail-on"], "option '--fail-on' needs a value", "triage"),
             (["triage", "--count", "--json", V2], "option '--count' does not go with --json", "triage"),
             (["triage", "--set"], "option '--set' needs a value", "triage"),
+            (["triage", "--prefer"], "option '--prefer' needs a value", "triage"),
+            (["triage", "--prefer=3.2", V2], "'3.2' is not 4.0, 3.1, 3.0, 2.0 or highest", "triage"),
+            (["triage", "--prefer", "Highest"], "'Highest' is not 4.0, 3.1, 3.0, 2.0 or highest", "triage"),
+            (["find", "--prefer", "3.1"], "unknown option '--prefer'", "find"),
+            (["triage", V2, "--header"], "option '--header' is for files and standard input", "triage"),
+            (["triage", "--json", "--count", "--header", "-", V2], "option '--header' is for files and standard input", "triage"),
             (["triage", "--keep-going", "--profile"], "option '--profile' needs a value", "triage"),
             (["triage", V2, "--set"], "option '--set' needs a value", "triage"),
             (["find", "gone", "--assume"], "option '--assume' needs a value", "find"),
@@ -355,6 +361,8 @@ def try_completion():
     assert complete_words("score", "VERS") == ["VERSION"] and set(complete_words("-")) == {"-h", "-V", "--help", "--version"}
     for words in (["--assume", ""], ["--assume", "="], ["--assume", "=", "3"]):
         assert complete_words("find", *words) == ["3.0", "3.1"], words
+    for words in (["--prefer", "h"], ["--prefer", "=", "hi"]):
+        assert complete_words("triage", *words) == ["highest"], words
     for words in (["--min", "h"], ["--fail-on", "=", "hi"]):
         assert complete_words("score", *words) == ["high"], words
     usage = subprocess.run([PROGRAM, "help"], stdout=subprocess.PIPE, text=True, check=True).stdout

@@ -4,7 +4,8 @@
 A list has lines of all versions with ids before or after the vector, and some lines without a vector, with several,
 with a rejected one or of any bytes; it is split over files, or comes from standard input. Metrics are set by words and
 by profiles in any order, some of which no version has. Some rows are passed over for their scores, some fail, and some
-are counted; files may have a header each.
+are counted; files may have a header each. Of several vectors in a line one may be preferred, by its version or by its
+score.
 
 usage: tests/checks/compare_ranked.py [COUNT [SEED]]
 """
@@ -28,15 +29,18 @@ import v4
 PROGRAM = ROOT / "crates/cvss_command/out/cvss_command"
 FRONTS = [("", v2.METRICS), ("CVSS:3.0/", v3.METRICS), ("CVSS:3.1/", v3.METRICS), ("CVSS:4.0/", v4.METRICS)]
 WRONG = "E:Q", "x", "cvss:3.1/CR:H", "CVSS:4.0/CDP:H", "CR:H/CR:L", "CVSS:3.1/E:A", "MAV"
+VERSIONS = "v2", "v3.0", "v3.1", "v4"
 IDS = "CVE-2024-%d", "GHSA-%d\t", "%d,", '{"id":%d}', "\u00e9%d", "--%d"
 
 V2 = b"AV:N/AC:L/Au:N/C:N/I:N/A:C"
 V3 = b"CVSS:3.1/AV:N/AC:L/PR:N/UI:N/S:U/C:H/I:H/A:H"
 V4 = b"CVSS:4.0/AV:N/AC:L/AT:N/PR:N/UI:N/VC:L/VI:H/VA:N/SC:N/SI:N/SA:N"
 CUT = b"CVSS:3.1/AV:N/AC:L/PR:N/UI:N/S:U/C:H"
+V30 = b"CVSS:3.0/AV:N/AC:L/PR:N/UI:N/S:U/C:H/I:H/A:H"
 ROW_V2, ROW_V3, ROW_V4 = b"7.8 high " + V2, b"9.8 critical " + V3, b"8.8 high " + V4
 COUNTS = b"critical %d\nhigh %d\nmedium %d\nlow %d\nnone %d\nrejected %d\n"
 TOP = b"score severity vector\t"
+SEVERAL = (1, b"", b"cvss: line 1: more than one vector on this line\n")
 UNKNOWN = b"no CVSS version has "
 # Arguments, standard input, and the status, standard output and standard error, by hand.
 CASES = [
@@ -76,11 +80,34 @@ CASES = [
     ([b"--header", b"--keep-going"], b"id\nx\n" + V2, (1, TOP + b"id\n" + ROW_V2 + b"\t" + V2 + b"\n", b"cvss: line 2: no vector\n")),
     ([b"--header", b"--count"], b"id\n" + V2, (0, COUNTS % (0, 1, 0, 0, 0, 0), b"")),
     ([b"--header", b"--quiet"], b"id\n" + V2, (0, b"", b"")),
-    ([b"--header", b"--keep-going", b"-", V2], b"id\n" + V4 + b"\nx",
-     (1, TOP + b"id\n" + ROW_V4 + b"\t" + V4 + b"\n", b"cvss: line 3: no vector\n")),
+    ([b"--header", b"-", V2], b"id\n" + V4, (2, b"", b"cvss: option '--header' is for files and standard input; see 'cvss help triage'\n")),
     ([b"--header", b"--keep-going", b"no such file", b"-"], b"id\n" + V4,
      (2, ROW_V4 + b"\t" + V4 + b"\n", b"cvss: no such file: No such file or directory (os error 2)\n")),
     ([b"--quiet", b"--keep-going"], V4 + b"\nx", (1, b"", b"cvss: line 2: no vector\n")),
+    ([b"--prefer", b"4.0"], V2 + b" " + V4, (0, ROW_V4 + b"\t" + V2 + b" " + V4 + b"\n", b"")),
+    ([b"--prefer", b"2.0"], V2 + b" " + V4, (0, ROW_V2 + b"\t" + V2 + b" " + V4 + b"\n", b"")),
+    ([b"--prefer", b"3.1"], V2 + b" " + V4, SEVERAL),
+    ([b"--prefer", b"3.1"], V2 + b"\n" + V2 + b"," + V2, (0, ROW_V2 + b"\t" + V2 + b"\n" + ROW_V2 + b"\t" + V2 + b"," + V2 + b"\n", b"")),
+    ([b"--prefer", b"3.1"], b"", (0, b"", b"")),
+    ([b"--prefer", b"3.1"], b"x", (1, b"", b"cvss: line 1: no vector\n")),
+    ([b"--prefer", b"3.1"], V3 + b" " + V2 + b" " + V3, (0, ROW_V3 + b"\t" + V3 + b" " + V2 + b" " + V3 + b"\n", b"")),
+    ([b"--prefer", b"3.1"], V3 + b"/E:U " + V2 + b" " + V3, SEVERAL),
+    ([b"--prefer", b"2.0"], V2 + b" " + V3 + b" CVSS:3.1/x", SEVERAL),
+    ([b"--prefer", b"2.0"], b"CVSS:3.1/x " + V2 + b" " + V3, SEVERAL),
+    ([b"--prefer", b"highest"], b"CVSS:3.1/x " + V2 + b" " + V3, SEVERAL),
+    ([b"--prefer", b"highest"], V2 + b" " + V4 + b" " + V3, (0, ROW_V3 + b"\t" + V2 + b" " + V4 + b" " + V3 + b"\n", b"")),
+    ([b"--prefer", b"highest"], V2 + b" " + V3 + b" " + V30, (0, ROW_V3 + b"\t" + V2 + b" " + V3 + b" " + V30 + b"\n", b"")),
+    ([b"--prefer", b"highest"], V30 + b" " + V3, (0, b"9.8 critical " + V30 + b"\t" + V30 + b" " + V3 + b"\n", b"")),
+    ([b"--prefer", b"highest", b"--set", b"e:u"], V4 + b" " + V2, (0, ROW_V2 + b"\t" + V4 + b" " + V2 + b"\n", b"")),
+    ([b"--prefer", b"highest", b"--set", b"e:u", b"--base"], V4 + b" " + V2,
+     (0, b"8.8 high " + V4 + b"/E:U\t" + V4 + b" " + V2 + b"\n", b"")),
+    ([b"--prefer", b"highest"], V2 + b" " + CUT, SEVERAL),
+    ([b"--prefer", b"2.0"], V2 + b" " + CUT, (0, ROW_V2 + b"\t" + V2 + b" " + CUT + b"\n", b"")),
+    ([b"--prefer", b"3.1"], V2 + b" " + CUT, (1, b"", b"cvss: line 1: missing mandatory CVSSv3 I (Integrity Impact) metric\n")),
+    ([b"--prefer", b"highest", b"--allow-incomplete"], CUT + b" " + V2, (0, ROW_V2 + b"\t" + CUT + b" " + V2 + b"\n", b"")),
+    ([b"--prefer", b"highest", b"--set", b"I:H/A:H"], CUT + b" " + V2, (0, ROW_V3 + b"\t" + CUT + b" " + V2 + b"\n", b"")),
+    ([b"--prefer", b"2.0", b"--prefer=highest"], V2 + b" " + V4, (0, ROW_V4 + b"\t" + V2 + b" " + V4 + b"\n", b"")),
+    ([b"--prefer", b"2"], V2, (2, b"", b"cvss: '2' is not 4.0, 3.1, 3.0, 2.0 or highest; see 'cvss help triage'\n")),
     ([b"--profile", b"-"], b"\n \t\r\nCVSS:4.0/E:U\nCVSS:2.0/E:U\n",
      (2, b"", b"cvss: -: line 4: " + UNKNOWN + b"CVSS:2.0/E:U\n")),
     ([b"--profile", b"CVSS:4.0/E:U", V4], b"", (0, b"6.7 medium " + V4 + b"/E:U\t" + V4 + b"\n", b"")),
@@ -112,10 +139,21 @@ def gates(draw):
     return [word for option in given for word in option] + [flag for flag in (b"--quiet", b"--count") if draw.random() < 0.1]
 
 
+def several(draw):
+    """Vectors of some versions, of which one may be there twice, be cut off, or be rejected."""
+    found = [lines.line(draw, version, draw.choice(("base", "full", "any"))) for version in draw.sample(VERSIONS, 2)]
+    if draw.random() < 0.4:
+        found.append(draw.choice(found))
+    if draw.random() < 0.2:
+        found.append(draw.choice((CUT.decode(), "CVSS:3.1/x", lines.line(draw, "all", "full"))))
+    draw.shuffle(found)
+    return draw.choice((" ", ", ", "\t", ") (")).join(found).encode()
+
+
 def line(draw, rejected):
     """A line with an id, of which some have no row."""
     if draw.random() < rejected:
-        return draw.choice((texts.text, hostile.line))(draw).replace(b"\n", b"")
+        return draw.choice((texts.text, hostile.line, several, several))(draw).replace(b"\n", b"")
     text = lines.line(draw, "all", draw.choice(("base", "full", "any")))
     name = draw.choice(IDS) % draw.randrange(100_000)
     link = f"{name} {text} https://www.first.org/cvss/calculator/3.1#{text}"
@@ -157,6 +195,7 @@ def try_list(draw, room):
         else:
             arguments += [b"--profile", file(profile(draw, wrong))]
     arguments += [flag for flag in (b"--keep-going", b"--allow-incomplete", b"--base", b"--header") if draw.random() < 0.4]
+    arguments += draw.choice(([], [b"--prefer", draw.choice((b"4.0", b"3.1", b"3.0", b"2.0", b"highest", b"highest"))]))
     arguments += gates(draw)
     rejected = draw.choice((0, 0.02, 0.3))
     parts = [[line(draw, rejected) for _ in range(draw.randrange(80))] for _ in range(draw.choice((1, 1, 2, 3)))]

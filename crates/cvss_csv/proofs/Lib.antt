@@ -7,6 +7,7 @@ mod JoiningLemmas
 mod ReadingLemmas
 mod ReadsLemmas
 mod RecordFacts
+mod RecordLemmas
 mod RowsLemmas
 mod RunLemmas
 mod SearchLemmas

@@ -55,8 +55,12 @@ pub record AreVectorCells (asked : Asked) (cvss : Cvss) (cells : List ℕ) : Typ
       ++ (tenths_text tenths ++ (codes "," ++ (severity_text (severity_by cvss (score_of_tenths tenths)) ++ (codes ","
       ++ (tenths_text base ++ codes ",")))))))))
 
+-- the names of the six columns, each after a comma
+abbrev pub names : List ℕ
+names = codes ",vector,version,score,severity,base,error"
+
 abbrev pub AreCells : Asked → Verdict → List ℕ → Type 0
-AreCells asked Names cells = cells ≡ codes ",vector,version,score,severity,base,error"
+AreCells asked Names cells = cells ≡ names
 AreCells asked Nothing cells = cells ≡ codes ",,,,,,"
 AreCells asked (VectorIs cvss) cells = AreVectorCells asked cvss cells
 AreCells asked (Reason reason) cells = cells ≡ codes ",,,,,," ++ field_of reason

@@ -1,10 +1,11 @@
 -- The records of a text: RFC 4180, section 2, rules 1, 2 and 6.
-use Rattle.std.specs.Prelude.{ℕ, Bool, true, false, List, [], ◌∷◌, ◌++◌, map, if◌then◌else◌}
+use Rattle.std.specs.Prelude.{◌≡◌, ◌<◌, ℕ, Bool, true, false, List, [], ◌∷◌, ◌++◌, length, map, if◌then◌else◌}
 use Rattle.std.specs.Io.BufRead.{ends_with_byte, strip_last}
 use Rattle.cvss_lines.specs.Lines.{all_but_last, last_piece}
 use Rattle.cvss_csv.specs.Fields.{cut, line_feed, place_after}
 use Rattle.cvss_csv.specs.declared.place.Place.{Place}
 use Rattle.cvss_csv.specs.declared.place.Place.TheVariants.{Start, Plain, Quoted, Closing}
+use Rattle.cvss_csv.specs.declared.record.CutRecord.{CutRecord}
 
 -- a record: its fields with the commas between them, and its line end
 pub record Record : Type 0 where
@@ -49,3 +50,13 @@ is_quoted Closing = false
 -- the last field of a record is quoted and not closed
 abbrev pub is_open : List ℕ → Bool
 is_open body = is_quoted (place_after Start body)
+
+-- a record that is cut off a text
+abbrev pub as_record : CutRecord → Record
+as_record cut = record { body = cut.body.now; line_end = cut.line_end.now }
+
+-- this is the first record of a text, before these bytes
+pub record IsFirstRecord (text : List ℕ) (first : CutRecord) (rest : List ℕ) : Type 0 where
+  pub are : records text ≡ as_record first ∷ records rest
+  pub unclosed : first.unclosed ≡ is_open first.body.now
+  pub shorter : length rest < length text

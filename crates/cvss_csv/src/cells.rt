@@ -13,6 +13,9 @@ use cvss_lines::OutputBuffer;
 use cvss_vector::{Cvss, ReadError, write_error};
 use std::alloc::AllocError;
 
+/// The names of the six columns, each after a comma.
+pub const NAMES: &[u8] = b",vector,version,score,severity,base,error";
+
 /// Appends the names of the six columns, after those of a header.
 ///
 /// # Errors
@@ -22,7 +25,7 @@ pub(crate) fn push_names(asked: Asked, out: &mut OutputBuffer) -> Result<Option<
     ensures { IfOk result (Writes asked (λ verdict. verdict ≡ Names)
         out.old.bytes.items out.new.bytes.items) }
 {
-    out.push(b",vector,version,score,severity,base,error")?;
+    out.push(NAMES)?;
     Ok(None)
 }
 

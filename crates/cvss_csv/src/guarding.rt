@@ -16,11 +16,7 @@ use std::alloc::AllocError;
 /// # Errors
 ///
 /// Out of memory. A beginning of the record may be written then.
-pub(crate) fn push_shown(
-    guarded: bool,
-    body: &[u8],
-    out: &mut OutputBuffer,
-) -> Result<(), AllocError>
+pub fn push_shown(guarded: bool, body: &[u8], out: &mut OutputBuffer) -> Result<(), AllocError>
     ensures { OnOk result
         (out.new.bytes.items ≡ out.old.bytes.items ++ shown_record guarded body.now) }
 {

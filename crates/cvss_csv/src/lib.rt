@@ -18,6 +18,7 @@ mod pending;
 mod place;
 mod progress;
 mod quoting;
+mod record;
 mod rows;
 mod running;
 mod search;
@@ -27,6 +28,10 @@ mod value;
 mod vector;
 
 pub use asked::{Asked, Cells, Column};
+pub use cells::NAMES;
 pub use fault::CsvFault;
+pub use guarding::push_shown;
+pub use record::{CutRecord, first_record};
 pub use running::run_csv;
 pub use task::CsvTask;
+pub use vector::push_vector;

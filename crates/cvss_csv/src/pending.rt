@@ -12,6 +12,7 @@ use crate::cutting::cut_first;
 use crate::fault::CsvFault;
 use crate::place::{LINE_FEED, Place};
 use crate::progress::Progress;
+use crate::record::cut_line_end;
 use std::alloc::{AllocError, Global};
 
 /// What a run keeps from one read to the next.
@@ -110,15 +111,4 @@ fn answer_ended(progress: &mut Progress, column: Column<'_>, piece: &[u8]) -> Re
 {
     let (body, line_end) = cut_line_end(piece);
     progress.answer_record(column, body, false, line_end)
-}
-
-/// The record that a line feed ends: its fields, and its line end.
-fn cut_line_end(piece: &[u8]) -> (&[u8], &'static [u8])
-    ensures body { result.0.now ≡ (ended_record piece.now).body }
-    ensures line_end { result.1.now ≡ (ended_record piece.now).line_end }
-{
-    match piece.split_last() {
-        Some((b'\r', body)) => (body, b"\r\n"),
-        _ => (piece, b"\n"),
-    }
 }

@@ -40,11 +40,7 @@ fn write_text(cvss: &Cvss, out: &mut OutputBuffer) -> fmt::Result
 /// # Errors
 ///
 /// Out of memory.
-pub(crate) fn push_vector(
-    asked: Asked,
-    cvss: &Cvss,
-    out: &mut OutputBuffer,
-) -> Result<(), AllocError>
+pub fn push_vector(asked: Asked, cvss: &Cvss, out: &mut OutputBuffer) -> Result<(), AllocError>
     requires { HasScore cvss.now }
     ensures { OnOk result (WritesVector asked cvss.now out.old.bytes.items out.new.bytes.items) }
 {

@@ -1,14 +1,17 @@
 -- Options and operands that do not go together.
-use Rattle.std.specs.Prelude.{ℕ, ◌==◌, ◌&&◌, not, is_some, Option, Some, None, if◌then◌else◌}
+use Rattle.std.specs.Prelude.{ℕ, ◌==◌, ◌&&◌, Bool, not, is_some, List, length, Option, Some, None, if◌then◌else◌}
+use Rattle.std.specs.Global.{Vec}
+use Rattle.std.specs.List.{list_any}
 use Rattle.std.specs.Option.{option_map, option_or}
+use Rattle.cvss_frame.specs.Sources.{has_name, source_of}
 use Rattle.cvss_subcommands.specs.Flags.{all_scores_of, gate_flag}
 use Rattle.cvss_subcommands.specs.declared.flags.Flag.{Flag}
-use Rattle.cvss_subcommands.specs.declared.flags.Flag.TheVariants.{Annotate, Assume, Column, Count, Csv, Differing, Guard, Json, Standard, Tsv}
+use Rattle.cvss_subcommands.specs.declared.flags.Flag.TheVariants.{Annotate, Assume, Column, Count, Csv, Differing, Guard, Header, Json, Standard, Tsv}
 use Rattle.cvss_subcommands.specs.declared.flags.Flags.{Flags}
 use Rattle.cvss_subcommands.specs.declared.subcommand.Subcommand.{Subcommand}
 use Rattle.cvss_subcommands.specs.declared.subcommand.Subcommand.TheVariants.{Audit, Diff, Find, Score, Triage}
 use Rattle.cvss_subcommands.specs.declared.usage_error.UsageError.{UsageError}
-use Rattle.cvss_subcommands.specs.declared.usage_error.UsageError.TheVariants.{AllScores, NeedsJson, NeedsTable, NotTwo, NotWith}
+use Rattle.cvss_subcommands.specs.declared.usage_error.UsageError.TheVariants.{AllScores, NeedsJson, NeedsTable, NotForVectors, NotTwo, NotWith}
 
 -- the option whose output has all scores, if it is given with --base
 abbrev pub all_scores_error : Subcommand → Option Flag → Option UsageError
@@ -49,6 +52,21 @@ score_conflict flags =
 abbrev pub count_conflict : Subcommand → Flags → Option UsageError
 count_conflict subcommand flags = if flags.count && flags.json then Some (NotWith subcommand Count Json) else None
 
+-- the option that does not go with the rows of tables: these are records, which say themselves whether they are headers
+abbrev pub without_records : Flags → Option Flag
+without_records flags =
+    if flags.json then Some Json
+    else if flags.count then Some Count
+    else if flags.header then Some Header
+    else None
+
+-- what is wrong with the options of `cvss triage` that are given together
+abbrev pub triage_conflict : Flags → Option UsageError
+triage_conflict flags =
+    if flags.csv then option_map (λ other. NotWith Triage Csv other) (without_records flags)
+    else if flags.guard then Some (NeedsTable Triage Guard)
+    else count_conflict Triage flags
+
 -- what is wrong with the options of `cvss find` that are given together, without --csv: --annotate repeats all lines
 abbrev pub texts_conflict : Flags → Option UsageError
 texts_conflict flags =
@@ -77,14 +95,22 @@ find_conflict flags =
     else if flags.guard then Some (NeedsTable Find Guard)
     else texts_conflict flags
 
--- what is wrong with what is given together: options, and so many operands. Where `cvss triage` prints all scores, --base
--- says by which it ranks.
-abbrev pub conflict_of : Subcommand → Flags → ℕ → Option UsageError
-conflict_of Triage flags operands = count_conflict Triage flags
+-- one of the operands is a vector
+abbrev pub has_vector : List (Vec ℕ) → Bool
+has_vector operands = list_any (λ operand. not (has_name (source_of operand.items))) operands
+
+-- a vector that is an operand has no header
+abbrev pub header_conflict : Flags → List (Vec ℕ) → Option UsageError
+header_conflict flags operands = if flags.header && has_vector operands then Some (NotForVectors Triage Header) else None
+
+-- what is wrong with what is given together: options and operands. Where `cvss triage` prints all scores, --base says by
+-- which it ranks.
+abbrev pub conflict_of : Subcommand → Flags → List (Vec ℕ) → Option UsageError
+conflict_of Triage flags operands = option_or (header_conflict flags operands) (triage_conflict flags)
 conflict_of Score flags operands = score_conflict flags
 conflict_of Find flags operands = find_conflict flags
 conflict_of Audit flags operands =
     if flags.differing && not flags.json then Some (NeedsJson Audit Differing)
     else count_conflict Audit flags
-conflict_of Diff flags operands = if operands == 2 then None else Some NotTwo
+conflict_of Diff flags operands = if length operands == 2 then None else Some NotTwo
 conflict_of subcommand flags operands = all_scores_error subcommand (all_scores_of flags)

@@ -3,8 +3,9 @@ use Rattle.std.specs.Prelude.{◌&&◌, ◌||◌, Bool, true, false, not, is_som
 use Rattle.std.specs.Option.{option_map}
 use Rattle.cvss_report.specs.Thresholds.{threshold}
 use Rattle.cvss_report.specs.declared.gate.Gate.{Gate}
+use Rattle.cvss_subcommands.specs.Preferences.{preference_of}
 use Rattle.cvss_subcommands.specs.declared.flags.Flag.{Flag}
-use Rattle.cvss_subcommands.specs.declared.flags.Flag.TheVariants.{Json, Tsv, Base, AllowIncomplete, Assume, Annotate, All, WhatIf, KeepGoing, Header, Document, Differing, Min, FailOn, Quiet, Count, Standard, Csv, Column, Guard, Set, Profile}
+use Rattle.cvss_subcommands.specs.declared.flags.Flag.TheVariants.{Json, Tsv, Base, AllowIncomplete, Assume, Annotate, All, WhatIf, KeepGoing, Header, Document, Differing, Min, FailOn, Quiet, Count, Standard, Csv, Column, Guard, Set, Profile, Prefer}
 use Rattle.cvss_subcommands.specs.declared.flags.Flags.{Flags}
 use Rattle.cvss_vector.specs.declared.scoring.Scoring.{Scoring}
 use Rattle.cvss_vector.specs.declared.setting.Version.{Version}
@@ -35,10 +36,11 @@ flag_name Column = codes "--column"
 flag_name Guard = codes "--guard"
 flag_name Set = codes "--set"
 flag_name Profile = codes "--profile"
+flag_name Prefer = codes "--prefer"
 
 -- the word after it is its value
 abbrev pub has_value : Flag → Bool
-has_value = elim [ Assume ↦ true | Min ↦ true | FailOn ↦ true | Column ↦ true | Set ↦ true | Profile ↦ true | _ ↦ false ]
+has_value = elim [ Assume ↦ true | Min ↦ true | FailOn ↦ true | Column ↦ true | Set ↦ true | Profile ↦ true | Prefer ↦ true | _ ↦ false ]
 
 -- the option whose value comes next
 abbrev pub value_due : Flag → Option Flag
@@ -66,6 +68,7 @@ no_flags = record {
   csv = false;
   column = false;
   guard = false;
+  prefer = None;
 }
 
 -- one more option is given, which may have a value after it
@@ -92,6 +95,7 @@ with_flag Column flags = record flags { column = true }
 with_flag Guard flags = record flags { guard = true }
 with_flag Set flags = flags
 with_flag Profile flags = flags
+with_flag Prefer flags = flags
 
 -- the version that vectors without their prefix can have
 abbrev pub version_of : List ℕ → Option Version
@@ -105,6 +109,7 @@ abbrev pub with_value : Flag → List ℕ → Flags → Option Flags
 with_value Assume value flags = option_map (λ version. record flags { assumed = Some version }) (version_of value)
 with_value Min value flags = option_map (λ tenths. record flags { minimum = Some tenths }) (threshold value)
 with_value FailOn value flags = option_map (λ tenths. record flags { fail_on = Some tenths }) (threshold value)
+with_value Prefer value flags = option_map (λ preference. record flags { prefer = Some preference }) (preference_of value)
 with_value _ value flags = Some flags
 
 -- the option whose output has all scores, where it is given with the one that chooses the base score

@@ -10,6 +10,7 @@ pub mod Explaining
 pub mod Flags
 pub mod Hints
 pub mod Ordering
+pub mod Preferences
 pub mod Requests
 pub mod Scoring
 pub mod Setting

@@ -7,7 +7,7 @@ use Rattle.cvss_subcommands.specs.Conflicts.{conflict_of}
 use Rattle.cvss_subcommands.specs.Flags.{flag_name, no_flags, value_due, with_flag, with_value}
 use Rattle.cvss_subcommands.specs.Subcommands.{flags_of, name_of, sets_metrics, subcommands}
 use Rattle.cvss_subcommands.specs.declared.flags.Flag.{Flag}
-use Rattle.cvss_subcommands.specs.declared.flags.Flag.TheVariants.{Assume}
+use Rattle.cvss_subcommands.specs.declared.flags.Flag.TheVariants.{Assume, Prefer}
 use Rattle.cvss_subcommands.specs.declared.flags.Flags.{Flags}
 use Rattle.cvss_subcommands.specs.declared.requests.Request.{Request}
 use Rattle.cvss_subcommands.specs.declared.requests.Request.TheVariants.{Help, Version, Wrong, Run}
@@ -15,7 +15,7 @@ use Rattle.cvss_subcommands.specs.declared.requests.Word.{Word}
 use Rattle.cvss_subcommands.specs.declared.requests.Word.TheVariants as kind
 use Rattle.cvss_subcommands.specs.declared.subcommand.Subcommand.{Subcommand}
 use Rattle.cvss_subcommands.specs.declared.usage_error.UsageError.{UsageError}
-use Rattle.cvss_subcommands.specs.declared.usage_error.UsageError.TheVariants.{NoCommand, NotMetric, NotScore, NoValue, Unexpected, UnknownCommand, UnknownOption, UnknownVersion}
+use Rattle.cvss_subcommands.specs.declared.usage_error.UsageError.TheVariants.{NoCommand, NotMetric, NotPreference, NotScore, NoValue, Unexpected, UnknownCommand, UnknownOption, UnknownVersion}
 
 -- the flag of this name that a subcommand has
 abbrev pub flag_of : Subcommand → List ℕ → Option Flag
@@ -57,35 +57,36 @@ word_of subcommand word =
     else if sets_metrics subcommand then metric_word word
     else kind.Operand
 
--- a subcommand after so many words of options and metrics, with so many operands
-abbrev pub found : Subcommand → Flags → ℕ → ℕ → Request
+-- a subcommand after so many words of options and metrics, with these operands
+abbrev pub found : Subcommand → Flags → ℕ → List (Vec ℕ) → Request
 found subcommand flags words operands = elim (conflict_of subcommand flags operands) [
   | Some error ↦ Wrong error
-  | None ↦ Run subcommand (record { flags = flags; words = words; operands = operands })
+  | None ↦ Run subcommand (record { flags = flags; words = words; operands = length operands })
 ]
 
 -- a value that an option cannot have is so many words from the end
 abbrev pub value_error : Flag → Subcommand → ℕ → UsageError
 value_error Assume subcommand left = UnknownVersion subcommand left
+value_error Prefer subcommand left = NotPreference left
 value_error _ subcommand left = NotScore subcommand left
 
 -- the words after a subcommand, of which there are so many: options with their values, metrics, and after these or after
 -- `--` the operands, which are counted. The option: its value comes first.
 abbrev pub read_words : Subcommand → ℕ → Flags → Option Flag → List (Vec ℕ) → Request
 read_words subcommand count flags (Some flag) [] = Wrong (NoValue subcommand)
-read_words subcommand count flags None [] = found subcommand flags count 0
+read_words subcommand count flags None [] = found subcommand flags count []
 read_words subcommand count flags (Some flag) (value ∷ words) = elim (with_value flag value.items flags) [
   | Some given ↦ read_words subcommand count given None words
   | None ↦ Wrong (value_error flag subcommand (suc (length words)))
 ]
 read_words subcommand count flags None (word ∷ words) = elim (word_of subcommand word.items) [
-  | kind.End ↦ found subcommand flags (count - suc (length words)) (length words)
+  | kind.End ↦ found subcommand flags (count - suc (length words)) words
   | kind.Help ↦ Help (Some subcommand)
   | kind.Flag flag ↦ read_words subcommand count (with_flag flag flags) (value_due flag) words
   | kind.Unknown ↦ Wrong (UnknownOption (Some subcommand) (suc (length words)))
   | kind.Metric ↦ read_words subcommand count flags None words
   | kind.NotMetric ↦ Wrong (NotMetric (suc (length words)))
-  | kind.Operand ↦ found subcommand flags (count - suc (length words)) (suc (length words))
+  | kind.Operand ↦ found subcommand flags (count - suc (length words)) (word ∷ words)
 ]
 
 -- the subcommand of this name

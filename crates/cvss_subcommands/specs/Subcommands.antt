@@ -1,7 +1,7 @@
 -- The subcommands, with their names and options.
 use Rattle.std.specs.Prelude.{Bool, true, false, ℕ, List, [], ◌∷◌, codes}
 use Rattle.cvss_subcommands.specs.declared.flags.Flag.{Flag}
-use Rattle.cvss_subcommands.specs.declared.flags.Flag.TheVariants.{All, AllowIncomplete, Annotate, Assume, Base, Column, Count, Csv, Differing, Document, FailOn, Guard, Header, Json, KeepGoing, Min, Profile, Quiet, Standard, Tsv, WhatIf}
+use Rattle.cvss_subcommands.specs.declared.flags.Flag.TheVariants.{All, AllowIncomplete, Annotate, Assume, Base, Column, Count, Csv, Differing, Document, FailOn, Guard, Header, Json, KeepGoing, Min, Prefer, Profile, Quiet, Standard, Tsv, WhatIf}
 use Rattle.cvss_subcommands.specs.declared.flags.Flag.TheVariants as flag
 use Rattle.cvss_subcommands.specs.declared.subcommand.Subcommand.{Subcommand}
 use Rattle.cvss_subcommands.specs.declared.subcommand.Subcommand.TheVariants.{Score, Find, Explain, Set, Triage, Audit, Diff}
@@ -24,7 +24,7 @@ flags_of Score = Json ∷ Tsv ∷ Csv ∷ Column ∷ Guard ∷ Base ∷ Standard
 flags_of Find = Json ∷ Csv ∷ Column ∷ Guard ∷ Annotate ∷ All ∷ Base ∷ Min ∷ FailOn ∷ Count ∷ Quiet ∷ AllowIncomplete ∷ Assume ∷ []
 flags_of Explain = Json ∷ WhatIf ∷ AllowIncomplete ∷ []
 flags_of Set = Base ∷ AllowIncomplete ∷ []
-flags_of Triage = flag.Set ∷ Profile ∷ KeepGoing ∷ Header ∷ Json ∷ Base ∷ Min ∷ FailOn ∷ Count ∷ Quiet ∷ AllowIncomplete ∷ []
+flags_of Triage = flag.Set ∷ Profile ∷ KeepGoing ∷ Header ∷ Prefer ∷ Json ∷ Csv ∷ Guard ∷ Base ∷ Min ∷ FailOn ∷ Count ∷ Quiet ∷ AllowIncomplete ∷ []
 flags_of Audit = Json ∷ Differing ∷ Min ∷ FailOn ∷ Count ∷ Quiet ∷ AllowIncomplete ∷ Document ∷ []
 flags_of Diff = Base ∷ AllowIncomplete ∷ []
 

@@ -6,6 +6,8 @@ use Rattle.cvss_subcommands.specs.declared.flags.Flag.TheVariants.{Set, Profile 
 use Rattle.cvss_subcommands.specs.declared.flags.Flags.{Flags}
 use Rattle.cvss_report.specs.declared.gate.Gate.{Gate}
 use Rattle.cvss_triage.specs.Triage.{Asked}
+use Rattle.cvss_triage.specs.declared.form.Form.{Form}
+use Rattle.cvss_triage.specs.declared.form.Form.TheVariants.{Lines, Records}
 use Rattle.cvss_triage.specs.declared.settings.SettingKind.{SettingKind}
 use Rattle.cvss_triage.specs.declared.settings.SettingKind.TheVariants.{Metrics, Profile}
 
@@ -29,6 +31,10 @@ settings_of words = settings_after None words
 abbrev pub rows_gate : Flags → Gate
 rows_gate flags = record { minimum = unwrap_or flags.minimum 0; fail_on = flags.fail_on; quiet = flags.quiet }
 
+-- what inputs are cut into
+abbrev pub form_of : Flags → Form
+form_of flags = if flags.csv then Records else Lines
+
 -- what is asked for by the words and the flags
 abbrev pub asked_by : List (Vec ℕ) → Flags → Asked
 asked_by words flags = record {
@@ -40,4 +46,7 @@ asked_by words flags = record {
   count = counts_of flags;
   json = flags.json;
   header = flags.header;
+  form = form_of flags;
+  guarded = flags.guard;
+  prefer = flags.prefer;
 }

@@ -5,11 +5,11 @@ use Rattle.cvss_subcommands.specs.Arguments.{operands_of}
 use Rattle.cvss_subcommands.specs.Flags.{flag_name}
 use Rattle.cvss_subcommands.specs.Subcommands.{name_of}
 use Rattle.cvss_subcommands.specs.declared.flags.Flag.{Flag}
-use Rattle.cvss_subcommands.specs.declared.flags.Flag.TheVariants.{Annotate, Assume, Count, FailOn, Guard, Json, Min, Quiet, Standard}
+use Rattle.cvss_subcommands.specs.declared.flags.Flag.TheVariants.{Annotate, Assume, Count, FailOn, Guard, Header, Json, Min, Quiet, Standard}
 use Rattle.cvss_subcommands.specs.declared.subcommand.Subcommand.{Subcommand}
-use Rattle.cvss_subcommands.specs.declared.subcommand.Subcommand.TheVariants.{Score, Set}
+use Rattle.cvss_subcommands.specs.declared.subcommand.Subcommand.TheVariants.{Score, Set, Triage}
 use Rattle.cvss_subcommands.specs.declared.usage_error.UsageError.{UsageError}
-use Rattle.cvss_subcommands.specs.declared.usage_error.UsageError.TheVariants.{NoCommand, UnknownCommand, UnknownOption, Unexpected, NoValue, UnknownVersion, NotMetric, NoMetric, NotScore, NotTwo, NotUtf8, NotWith, AllScores, NeedsTable, NeedsJson}
+use Rattle.cvss_subcommands.specs.declared.usage_error.UsageError.TheVariants.{NoCommand, UnknownCommand, UnknownOption, Unexpected, NoValue, UnknownVersion, NotMetric, NoMetric, NotScore, NotPreference, NotTwo, NotUtf8, NotWith, NotForVectors, AllScores, NeedsTable, NeedsJson}
 
 -- the first of words, or an empty one
 abbrev pub first_word : List (Vec ℕ) → List ℕ
@@ -39,6 +39,7 @@ not_with_text FailOn = codes "' does not go with --fail-on; see '"
 not_with_text Quiet = codes "' does not go with --quiet; see '"
 not_with_text Annotate = codes "' does not go with --annotate; see '"
 not_with_text Assume = codes "' does not go with --assume; see '"
+not_with_text Header = codes "' does not go with --header; see '"
 not_with_text _ = codes "' does not go with --tsv; see '"
 
 -- what is said of an option that needs a table
@@ -61,6 +62,8 @@ usage_report usage (UnknownVersion subcommand left) arguments =
     line_about (codes "cvss: unknown version '") (word_at left arguments) (codes "'; see '") (Some subcommand)
 usage_report usage (NotScore subcommand left) arguments =
     line_about (codes "cvss: '") (word_at left arguments) (codes "' is not a score or a severity; see '") (Some subcommand)
+usage_report usage (NotPreference left) arguments =
+    line_about (codes "cvss: '") (word_at left arguments) (codes "' is not 4.0, 3.1, 3.0, 2.0 or highest; see '") (Some Triage)
 usage_report usage (NotMetric left) arguments =
     line_about (codes "cvss: '") (word_at left arguments) (codes "' is not METRIC:VALUE; see '") (Some Set)
 usage_report usage NoMetric arguments = codes "cvss: no metric to set; see 'cvss help set'\n"
@@ -72,5 +75,7 @@ usage_report usage (NeedsTable subcommand flag) arguments =
 usage_report usage NotTwo arguments = codes "cvss: two vectors are compared; see 'cvss help diff'\n"
 usage_report usage (NotWith subcommand flag other) arguments =
     line_about (codes "cvss: option '") (flag_name flag) (not_with_text other) (Some subcommand)
+usage_report usage (NotForVectors subcommand flag) arguments =
+    line_about (codes "cvss: option '") (flag_name flag) (codes "' is for files and standard input; see '") (Some subcommand)
 usage_report usage (NeedsJson subcommand flag) arguments =
     line_about (codes "cvss: option '") (flag_name flag) (codes "' needs --json; see '") (Some subcommand)

@@ -1,34 +1,56 @@
 //! Options and operands that do not go together.
 
 ghost use Rattle.std.specs.Prelude.{◌≡◌};
-ghost use Rattle.cvss_subcommands.specs.Conflicts.{all_scores_error, assume_flag, conflict_of, count_conflict, find_conflict, find_without_csv, lines_conflict, rows_of, score_conflict, texts_conflict, without_csv, without_rows};
+ghost use Rattle.cvss_subcommands.specs.Conflicts.{all_scores_error, assume_flag, conflict_of, count_conflict, find_conflict, find_without_csv, has_vector, header_conflict, lines_conflict, rows_of, score_conflict, texts_conflict, triage_conflict, without_csv, without_records, without_rows};
 ghost use Rattle.cvss_subcommands.specs.Flags.{all_scores_of};
 
 use crate::flags::{Flag, Flags};
 use crate::subcommand::Subcommand;
 use crate::usage_error::UsageError;
+use cvss_frame::{has_name, source_of};
 
-/// What is wrong with what is given together: options, and so many operands. Where `cvss triage` prints all
-/// scores, `--base` says by which it ranks.
+/// What is wrong with what is given together: options and operands. Where `cvss triage` prints all scores,
+/// `--base` says by which it ranks.
 pub(crate) fn conflict_of(
     subcommand: Subcommand,
     flags: Flags,
-    operands: usize,
+    operands: &[Vec<u8>],
 ) -> Option<UsageError>
-    ensures { result ≡ conflict_of subcommand flags operands }
+    ensures { result ≡ conflict_of subcommand flags operands.now }
 {
     match subcommand {
-        Subcommand::Triage => count_conflict(subcommand, flags),
+        Subcommand::Triage => match header_conflict(flags, operands) {
+            Some(error) => Some(error),
+            None => triage_conflict(flags),
+        },
         Subcommand::Score => score_conflict(flags),
         Subcommand::Find => find_conflict(flags),
         Subcommand::Audit if flags.differing && !flags.json => {
             Some(UsageError::NeedsJson(subcommand, Flag::Differing))
         }
         Subcommand::Audit => count_conflict(subcommand, flags),
-        Subcommand::Diff if operands == 2 => None,
+        Subcommand::Diff if operands.len() == 2 => None,
         Subcommand::Diff => Some(UsageError::NotTwo),
         _ => all_scores_error(subcommand, flags),
     }
+}
+
+/// The error of a header that is asked for beside a vector that is an operand, which has none.
+fn header_conflict(flags: Flags, operands: &[Vec<u8>]) -> Option<UsageError>
+    ensures { result ≡ header_conflict flags operands.now }
+{
+    if flags.header && has_vector(operands) {
+        Some(UsageError::NotForVectors(Subcommand::Triage, Flag::Header))
+    } else {
+        None
+    }
+}
+
+/// Whether one of the operands is a vector.
+fn has_vector(operands: &[Vec<u8>]) -> bool
+    ensures { result ≡ has_vector operands.now }
+{
+    operands.iter().any(|operand| !has_name(source_of(operand)))
 }
 
 /// What is wrong with the options of `cvss score` that are given together.
@@ -130,6 +152,38 @@ fn texts_conflict(flags: Flags) -> Option<UsageError>
             Some(error) => Some(error),
             None => all_scores_error(Subcommand::Find, flags),
         }
+    }
+}
+
+/// What is wrong with the options of `cvss triage` that are given together: rows of tables are records, which
+/// say themselves whether they are headers.
+fn triage_conflict(flags: Flags) -> Option<UsageError>
+    ensures { result ≡ triage_conflict flags }
+{
+    if flags.csv {
+        match without_records(flags) {
+            Some(other) => Some(UsageError::NotWith(Subcommand::Triage, Flag::Csv, other)),
+            None => None,
+        }
+    } else if flags.guard {
+        Some(UsageError::NeedsTable(Subcommand::Triage, Flag::Guard))
+    } else {
+        count_conflict(Subcommand::Triage, flags)
+    }
+}
+
+/// The option that does not go with the rows of tables.
+fn without_records(flags: Flags) -> Option<Flag>
+    ensures { result ≡ without_records flags }
+{
+    if flags.json {
+        Some(Flag::Json)
+    } else if flags.count {
+        Some(Flag::Count)
+    } else if flags.header {
+        Some(Flag::Header)
+    } else {
+        None
     }
 }
 

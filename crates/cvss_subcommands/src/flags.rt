@@ -1,10 +1,12 @@
 //! The options of subcommands.
 
 ghost use Rattle.std.specs.Prelude.{◌≡◌};
-ghost use Rattle.cvss_subcommands.specs.Flags.{all_scores_of, counting_gate_of, counts_of, flag_name, gate_by, gate_flag, gate_of, has_value, no_flags, scoring_of, value_due, version_of, with_flag, with_value};
+ghost use Rattle.cvss_subcommands.specs.Flags.{all_scores_of, flag_name, has_value, no_flags, scoring_of, value_due, version_of, with_flag, with_value};
 
+use crate::preference::preference_of;
 use crate::requests::is;
 use cvss_report::{Gate, threshold_of};
+use cvss_triage::Preference;
 use cvss_vector::{Scoring, Version};
 
 /// An option of some subcommands.
@@ -40,6 +42,8 @@ pub(crate) enum Flag {
     Set,
     /// The name of a file is the next word.
     Profile,
+    /// Which vector of a line is ranked is the next word.
+    Prefer,
 }
 
 /// Which options are given, except those whose values are read where they are used.
@@ -69,6 +73,8 @@ pub(crate) struct Flags {
     /// Whether the option for it is given.
     pub(crate) column: bool,
     pub(crate) guard: bool,
+    /// Which vector of a line is ranked that has several.
+    pub(crate) prefer: Option<Preference>,
 }
 
 impl Flag {
@@ -98,6 +104,7 @@ impl Flag {
             Flag::Guard => "--guard",
             Flag::Set => "--set",
             Flag::Profile => "--profile",
+            Flag::Prefer => "--prefer",
         }
     }
 
@@ -107,7 +114,13 @@ impl Flag {
     {
         matches!(
             self,
-            Flag::Assume | Flag::Min | Flag::FailOn | Flag::Column | Flag::Set | Flag::Profile
+            Flag::Assume
+                | Flag::Min
+                | Flag::FailOn
+                | Flag::Column
+                | Flag::Set
+                | Flag::Profile
+                | Flag::Prefer
         )
     }
 
@@ -144,6 +157,7 @@ impl Flags {
             csv: false,
             column: false,
             guard: false,
+            prefer: None,
         }
     }
 
@@ -169,7 +183,8 @@ impl Flags {
             Flag::Csv => Flags { csv: true, ..self },
             Flag::Column => Flags { column: true, ..self },
             Flag::Guard => Flags { guard: true, ..self },
-            Flag::Assume | Flag::Min | Flag::FailOn | Flag::Set | Flag::Profile => self,
+            Flag::Assume | Flag::Min | Flag::FailOn | Flag::Prefer => self,
+            Flag::Set | Flag::Profile => self,
         }
     }
 
@@ -191,6 +206,10 @@ impl Flags {
                 Some(tenths) => Some(Flags { fail_on: Some(tenths), ..self }),
                 None => None,
             },
+            Flag::Prefer => match preference_of(value) {
+                Some(preference) => Some(Flags { prefer: Some(preference), ..self }),
+                None => None,
+            },
             _ => Some(self),
         }
     }
@@ -203,67 +222,6 @@ impl Flags {
             Scoring::Base
         } else {
             Scoring::Overall
-        }
-    }
-
-    /// Which vectors are shown and which fail, if an option says it.
-    pub(crate) fn gate(self) -> Option<Gate>
-        ensures { result ≡ gate_of self }
-    {
-        if self.minimum.is_some() || self.fail_on.is_some() || self.quiet {
-            Some(Gate {
-                minimum: self.minimum.unwrap_or(0),
-                fail_on: self.fail_on,
-                quiet: self.quiet,
-            })
-        } else {
-            None
-        }
-    }
-
-    /// The same, where nothing is printed of a vector, since vectors are counted.
-    pub(crate) fn counting_gate(self) -> Gate
-        ensures { result ≡ counting_gate_of self }
-    {
-        Gate {
-            minimum: self.minimum.unwrap_or(0),
-            fail_on: self.fail_on,
-            quiet: true,
-        }
-    }
-
-    /// Whether the numbers of vectors are printed.
-    pub(crate) fn counts(self) -> bool
-        ensures { result ≡ counts_of self }
-    {
-        self.count && !self.quiet
-    }
-
-    /// The gate by which vectors are answered, which prints nothing of one where they are counted.
-    pub(crate) fn gate_by(self) -> Option<Gate>
-        ensures { result ≡ gate_by self }
-    {
-        if self.counts() {
-            Some(self.counting_gate())
-        } else {
-            self.gate()
-        }
-    }
-
-    /// The option that counts vectors, chooses some by their scores or prints nothing, if one is given.
-    pub(crate) fn gate_flag(self) -> Option<Flag>
-        ensures { result ≡ gate_flag self }
-    {
-        if self.count {
-            Some(Flag::Count)
-        } else if self.minimum.is_some() {
-            Some(Flag::Min)
-        } else if self.fail_on.is_some() {
-            Some(Flag::FailOn)
-        } else if self.quiet {
-            Some(Flag::Quiet)
-        } else {
-            None
         }
     }
 

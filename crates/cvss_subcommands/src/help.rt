@@ -133,25 +133,24 @@ Exit status: 0 on success; 1 if a line is rejected; 2 on usage or I/O errors.
 /// What `help triage` prints.
 pub(crate) const TRIAGE_USAGE: &str = "\
 usage: cvss triage [--set METRIC:VALUE].. [--profile FILE].. [--keep-going]
-                   [--header] [--json|--count] [--quiet] [--base] [--min SCORE]
+                   [--csv [--guard]|[--header] [--json|--count]]
+                   [--prefer VERSION|highest] [--quiet] [--base] [--min SCORE]
                    [--fail-on SCORE] [--allow-incomplete] [VECTOR|FILE]..
 
-Ranks lines by the scores of the vectors (v2, v3.0, v3.1, v4.0) in them, highest
-first, after --set and --profile. For each line it prints the score with all
-metrics in the vector, its severity, the vector, a tab and the line.
+Ranks lines by the scores of the vectors in them, highest first, after --set and
+--profile. Rows: the score with all metrics, severity, vector, a tab, the line.
 
   --set METRIC:VALUE   set it in the vectors of all versions that have it
-  --profile FILE       set the metrics in FILE, which has a partial vector per
-                       line: CVSS:4.0/CR:H/MAV:A, CVSS:3.1/CR:H (for v3.0 too),
-                       CR:H/CDP:H (v2)
+  --profile FILE       set the partial vector in each line of FILE, for v2, v3.0
+                       and v3.1, or v4.0: CR:H, CVSS:3.1/CR:H, CVSS:4.0/CR:H
   --keep-going         skip lines without one vector; otherwise print nothing
   --header             keep the first line on top, and skip those of other files
+  --prefer VERSION     of several rank that of 4.0, 3.1, 3.0, 2.0, or highest
+  --csv, --guard       rank records of CSV, and write them as cvss score does
   --json               one object a line with the members of cvss score --json
   --base               rank by base scores (v4.0: of CVSS-B)
-  --min SCORE          pass over vectors that score less than 7.0 or high, say
-  --fail-on SCORE      exit with status 1 if a vector scores at least that
-  --count              print how many there are of each severity, and skipped
-  --quiet              print no rows
+  --min, --fail-on     pass over vectors, or fail, by their scores, and
+  --count, --quiet     print numbers or no rows, as cvss score
   --allow-incomplete   score v3 vectors that lack base metrics
 
   cvss triage --set E:A --profile ours.txt --keep-going list.txt

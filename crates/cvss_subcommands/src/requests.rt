@@ -104,8 +104,8 @@ fn read_words(subcommand: Subcommand, words: &[Vec<u8>]) -> Request
                 None => return Request::Wrong(value_error(flag, subcommand, left.len())),
             },
             None => match word_of(subcommand, word) {
-                Word::End => return found(subcommand, flags, read, rest.len()),
-                Word::Operand => return found(subcommand, flags, read, left.len()),
+                Word::End => return found(subcommand, flags, read, rest),
+                Word::Operand => return found(subcommand, flags, read, left),
                 Word::Help => return Request::Help(Some(subcommand)),
                 Word::Unknown => {
                     let error = UsageError::UnknownOption(Some(subcommand), left.len());
@@ -123,7 +123,7 @@ fn read_words(subcommand: Subcommand, words: &[Vec<u8>]) -> Request
     }
     match due {
         Some(_) => Request::Wrong(UsageError::NoValue(subcommand)),
-        None => found(subcommand, flags, words.len(), 0),
+        None => found(subcommand, flags, words.len(), left),
     }
 }
 
@@ -185,9 +185,9 @@ pub(crate) fn flag_of(subcommand: Subcommand, word: &[u8]) -> Option<Flag>
     known.copied().find(|flag| is(word, flag.name()))
 }
 
-/// The request of a subcommand after so many words and with so many operands.
-fn found(subcommand: Subcommand, flags: Flags, words: usize, operands: usize) -> Request
-    ensures { result ≡ found subcommand flags words operands }
+/// The request of a subcommand after so many words and with these operands.
+fn found(subcommand: Subcommand, flags: Flags, words: usize, operands: &[Vec<u8>]) -> Request
+    ensures { result ≡ found subcommand flags words operands.now }
 {
     match conflict_of(subcommand, flags, operands) {
         Some(error) => Request::Wrong(error),
@@ -195,7 +195,7 @@ fn found(subcommand: Subcommand, flags: Flags, words: usize, operands: usize) ->
             let options = Options {
                 flags,
                 words,
-                operands,
+                operands: operands.len(),
             };
             Request::Run(subcommand, options)
         }
@@ -208,6 +208,7 @@ fn value_error(flag: Flag, subcommand: Subcommand, left: usize) -> UsageError
 {
     match flag {
         Flag::Assume => UsageError::UnknownVersion(subcommand, left),
+        Flag::Prefer => UsageError::NotPreference(left),
         _ => UsageError::NotScore(subcommand, left),
     }
 }

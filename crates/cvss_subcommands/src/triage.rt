@@ -2,7 +2,7 @@
 
 ghost use Rattle.std.specs.Prelude.{◌≡◌, IfOk, map};
 ghost use Rattle.cvss_frame.specs.Streams.{state};
-ghost use Rattle.cvss_subcommands.specs.Triaging.{asked_by, kind_of, rows_gate, settings_of};
+ghost use Rattle.cvss_subcommands.specs.Triaging.{asked_by, form_of, kind_of, rows_gate, settings_of};
 ghost use Rattle.cvss_triage.specs.Settings.{as_words};
 ghost use Rattle.cvss_triage.specs.Triage.{Triages};
 
@@ -10,10 +10,10 @@ use crate::flags::{Flag, Flags};
 use cvss_frame::{Host, Served, Streams};
 use cvss_lines::RunFault;
 use cvss_report::Gate;
-use cvss_triage::{Setting, SettingKind, Triage, rank_operands};
+use cvss_triage::{Form, Setting, SettingKind, Triage, rank_operands};
 use std::alloc::{AllocError, Global};
 
-/// Ranks the lines of the operands, with what the words of the options set.
+/// Ranks the lines or records of the operands, with what the words of the options set.
 pub(crate) fn triage_lines<H: Host>(
     alloc: Global,
     words: &[Vec<u8>],
@@ -36,8 +36,22 @@ pub(crate) fn triage_lines<H: Host>(
         count: flags.counts(),
         json: flags.json,
         header: flags.header,
+        form: form_of(flags),
+        guarded: flags.guard,
+        prefer: flags.prefer,
     };
     rank_operands(alloc, &asked, operands, streams)
+}
+
+/// What inputs are cut into.
+fn form_of(flags: Flags) -> Form
+    ensures { result ≡ form_of flags }
+{
+    if flags.csv {
+        Form::Records
+    } else {
+        Form::Lines
+    }
 }
 
 /// Which rows are shown and on which triage fails: all and none where no option says it.

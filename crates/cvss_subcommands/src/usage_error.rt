@@ -28,6 +28,8 @@ pub(crate) enum UsageError {
     UnknownVersion(Subcommand, usize),
     /// The word is no score, nor the name of a severity.
     NotScore(Subcommand, usize),
+    /// The word does not say which vector of a line is preferred.
+    NotPreference(usize),
     /// The word is to be a metric and its value.
     NotMetric(usize),
     /// There is no metric to set.
@@ -42,6 +44,8 @@ pub(crate) enum UsageError {
     NotWith(Subcommand, Flag, Flag),
     /// There are more or fewer than two vectors to compare.
     NotTwo,
+    /// The option is given beside a vector that is an operand, for which it is not.
+    NotForVectors(Subcommand, Flag),
     /// The option is given without `--json`, which it is of.
     NeedsJson(Subcommand, Flag),
 }
@@ -96,6 +100,13 @@ pub(crate) fn report_usage<E: Write>(
             );
             report_about("cvss: '", word, after, Some(subcommand), report);
         }
+        UsageError::NotPreference(left) => {
+            let (word, after) = (
+                word_at(arguments, left),
+                "' is not 4.0, 3.1, 3.0, 2.0 or highest; see '",
+            );
+            report_about("cvss: '", word, after, Some(Subcommand::Triage), report);
+        }
         UsageError::NotMetric(left) => {
             let (word, after) = (word_at(arguments, left), "' is not METRIC:VALUE; see '");
             report_about("cvss: '", word, after, Some(Subcommand::Set), report);
@@ -120,6 +131,13 @@ pub(crate) fn report_usage<E: Write>(
             let (word, after) = (flag.name().as_bytes(), not_with_text(other));
             report_about("cvss: option '", word, after, Some(subcommand), report);
         }
+        UsageError::NotForVectors(subcommand, flag) => {
+            let (word, after) = (
+                flag.name().as_bytes(),
+                "' is for files and standard input; see '",
+            );
+            report_about("cvss: option '", word, after, Some(subcommand), report);
+        }
         UsageError::NeedsJson(subcommand, flag) => {
             let (word, after) = (flag.name().as_bytes(), "' needs --json; see '");
             report_about("cvss: option '", word, after, Some(subcommand), report);
@@ -140,6 +158,7 @@ fn not_with_text(other: Flag) -> &'static str
         Flag::Quiet => "' does not go with --quiet; see '",
         Flag::Annotate => "' does not go with --annotate; see '",
         Flag::Assume => "' does not go with --assume; see '",
+        Flag::Header => "' does not go with --header; see '",
         _ => "' does not go with --tsv; see '",
     }
 }

@@ -10,7 +10,7 @@ use Rattle.cvss_triage.specs.Reading.{HasOthers, HasSeveral, IsOnlyMatch, IsVect
 use Rattle.cvss_triage.specs.private.Denoting.{AllAre, AllDenote}
 
 -- what is found begins with this candidate, and the others are found among those that are left
-record BeginsWith (candidate : Placed) (left found : List Placed) : Type 0 where
+pub record BeginsWith (candidate : Placed) (left found : List Placed) : Type 0 where
   pub more : List Placed
   pub is : found ≡ candidate ∷ more
   pub are : AreFound left more
@@ -27,7 +27,7 @@ passed_by (other ∷ passed) candidate left (first ∷ found) none is (inl (own,
 passed_by (other ∷ passed) candidate left (first ∷ found) none is (inr (not, are)) =
     passed_by passed candidate left (first ∷ found) (All-tail (λ each. ¬ (IsFound each.text)) other passed none) is are
 
-begins_with : (candidates left found : List Placed) (candidate : Placed) → IsFirstFound candidates candidate left → AreFound candidates found → BeginsWith candidate left found
+pub begins_with : (candidates left found : List Placed) (candidate : Placed) → IsFirstFound candidates candidate left → AreFound candidates found → BeginsWith candidate left found
 begins_with candidates left found candidate first are =
     passed_by first.passed candidate left found first.none first.found (subst (λ all. AreFound all found) first.is are)
 

@@ -1,6 +1,8 @@
 mod CountLemmas
 mod DenotingLemmas
+mod InputLemmas
 mod OwnLemmas
+mod PickingLemmas
 mod RankLemmas
 mod ReadsLemmas
 mod RowLemmas

@@ -2,6 +2,7 @@ pub mod Counts
 pub mod Inputs
 pub mod Overrides
 pub mod Places
+pub mod Preferences
 pub mod Ranking
 pub mod Reading
 pub mod Reports

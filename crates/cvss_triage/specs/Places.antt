@@ -1,4 +1,4 @@
--- Where a line is: its file, and its number there. Lines are counted from 1.
+-- Where a line or a record is: its file, and its number there. They are counted from 1.
 use Rattle.std.specs.Prelude.{◌≡◌, ◌⊎◌, ℕ, ◌+◌, ◌<◌, ◌≤◌, ◌&&◌, Bool, List, [], ◌∷◌, ◌++◌, All, codes, length, if◌then◌else◌, Option, None, Some, option_and_then}
 use Rattle.std.specs.Borrow.{Bor}
 use Rattle.std.specs.Fmt.{decimal}
@@ -6,15 +6,17 @@ use Rattle.std.specs.Global.{Vec}
 use Rattle.std.specs.Slice.{IsItemAt}
 use Rattle.cvss_frame.specs.Names as Names
 use Rattle.cvss_frame.specs.Sources.{has_name, source_of}
-use Rattle.cvss_triage.specs.Inputs.{lines_of_input}
+use Rattle.cvss_triage.specs.Inputs.{count_in}
+use Rattle.cvss_triage.specs.declared.form.Form.{Form}
+use Rattle.cvss_triage.specs.declared.form.Form.TheVariants.{Lines, Records}
 
--- for each input, how many lines are before its own, where so many are before the first
-abbrev pub starts_after : ℕ → List (Option (Vec ℕ)) → List ℕ
-starts_after count [] = []
-starts_after count (input ∷ inputs) = count ∷ starts_after (count + length (lines_of_input input)) inputs
+-- for each input, how many lines or records are before its own, where so many are before the first
+abbrev pub starts_after : Form → ℕ → List (Option (Vec ℕ)) → List ℕ
+starts_after form count [] = []
+starts_after form count (input ∷ inputs) = count ∷ starts_after form (count + count_in form input) inputs
 
-abbrev pub starts_of : List (Option (Vec ℕ)) → List ℕ
-starts_of inputs = starts_after 0 inputs
+abbrev pub starts_of : Form → List (Option (Vec ℕ)) → List ℕ
+starts_of form inputs = starts_after form 0 inputs
 
 -- the last of the inputs that has fewer lines before its own than this number; the line of this number among those of all
 -- inputs has the number `within` in it
@@ -51,6 +53,11 @@ abbrev pub name_text : Option (List ℕ) → List ℕ
 name_text None = []
 name_text (Some name) = Names.shown_name name ++ codes ": "
 
--- where a line is, in words: its file, if that is named, and its number
-abbrev pub place_text : Option (List ℕ) → ℕ → List ℕ
-place_text name number = name_text name ++ (codes "line " ++ (decimal number ++ codes ": "))
+-- what has a number, in words
+abbrev pub form_text : Form → List ℕ
+form_text Lines = codes "line "
+form_text Records = codes "record "
+
+-- where a line or a record is, in words: its file, if that is named, and its number
+abbrev pub place_text : Form → Option (List ℕ) → ℕ → List ℕ
+place_text form name number = name_text name ++ (form_text form ++ (decimal number ++ codes ": "))

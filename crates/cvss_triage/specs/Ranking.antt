@@ -8,47 +8,48 @@ use Rattle.cvss_vector.specs.Evaluation.{IsScoreAs}
 use Rattle.cvss_vector.specs.declared.scoring.Scoring.{Scoring}
 use Rattle.cvss_vector.specs.declared.vector.Cvss.{Cvss}
 use Rattle.cvss_triage.specs.Overrides.{IsWithOwn}
-use Rattle.cvss_triage.specs.Reading.{IsReason, IsVectorOf}
+use Rattle.cvss_triage.specs.Reading.{IsChosen, IsReason}
 use Rattle.cvss_triage.specs.declared.overrides.Override.{Override}
+use Rattle.cvss_triage.specs.declared.preferring.Preference.{Preference}
 use Rattle.cvss_triage.specs.declared.ranking.BadLine.{BadLine}
 use Rattle.cvss_triage.specs.declared.ranking.Ranking.{Ranking}
 use Rattle.cvss_triage.specs.declared.row.Row.{Row}
 
 -- the row has the line of this number, its vector after the overrides, which lacks no base metric unless it
 -- may, and the tenths of that vector's score
-pub record IsRow (overrides : List Override) (scoring : Scoring) (allow_incomplete : Bool) (number : ℕ) (line : List ℕ) (row : Row) : Type 0 where
+pub record IsRow (prefer : Option Preference) (overrides : List Override) (scoring : Scoring) (allow_incomplete : Bool) (number : ℕ) (line : List ℕ) (row : Row) : Type 0 where
   pub number_is : row.number ≡ number
   pub line_is : row.line.now ≡ line
   pub cvss : Cvss
-  pub is_vector : IsVectorOf line cvss
+  pub is_vector : IsChosen prefer overrides scoring allow_incomplete line cvss
   pub with_own : IsWithOwn overrides cvss row.vector
   pub complete : missing_by allow_incomplete row.vector ≡ None
   pub scored : IsScoreAs scoring row.vector (score_of_tenths row.tenths)
   pub bound : row.tenths ≤ 100
 
 -- this says why the line of this number has no row
-pub record IsBad (overrides : List Override) (allow_incomplete : Bool) (number : ℕ) (line : List ℕ) (bad : BadLine) : Type 0 where
+pub record IsBad (prefer : Option Preference) (overrides : List Override) (scoring : Scoring) (allow_incomplete : Bool) (number : ℕ) (line : List ℕ) (bad : BadLine) : Type 0 where
   pub number_is : bad.number ≡ number
-  pub reason : IsReason overrides allow_incomplete line bad.reason
+  pub reason : IsReason prefer overrides scoring allow_incomplete line bad.reason
 
 -- each of the lines, of which the first has this number, has its row or is bad, in the order of the lines; but not those that
 -- are left out, of which only the number counts
-abbrev pub AreRead : List Override → Scoring → Bool → ℕ → List (Option (List ℕ)) → List Row → List BadLine → Type 0
-AreRead overrides scoring allow_incomplete number [] rows bad = (rows ≡ []) × (bad ≡ [])
-AreRead overrides scoring allow_incomplete number (None ∷ lines) rows bad = AreRead overrides scoring allow_incomplete (suc number) lines rows bad
-AreRead overrides scoring allow_incomplete number (Some line ∷ lines) rows bad =
-    ((row : Row) × (more : List Row) × (rows ≡ row ∷ more) × IsRow overrides scoring allow_incomplete number line row
-    × AreRead overrides scoring allow_incomplete (suc number) lines more bad)
-    ⊎ ((it : BadLine) × (more : List BadLine) × (bad ≡ it ∷ more) × IsBad overrides allow_incomplete number line it
-    × AreRead overrides scoring allow_incomplete (suc number) lines rows more)
+abbrev pub AreRead : Option Preference → List Override → Scoring → Bool → ℕ → List (Option (List ℕ)) → List Row → List BadLine → Type 0
+AreRead prefer overrides scoring allow_incomplete number [] rows bad = (rows ≡ []) × (bad ≡ [])
+AreRead prefer overrides scoring allow_incomplete number (None ∷ lines) rows bad = AreRead prefer overrides scoring allow_incomplete (suc number) lines rows bad
+AreRead prefer overrides scoring allow_incomplete number (Some line ∷ lines) rows bad =
+    ((row : Row) × (more : List Row) × (rows ≡ row ∷ more) × IsRow prefer overrides scoring allow_incomplete number line row
+    × AreRead prefer overrides scoring allow_incomplete (suc number) lines more bad)
+    ⊎ ((it : BadLine) × (more : List BadLine) × (bad ≡ it ∷ more) × IsBad prefer overrides scoring allow_incomplete number line it
+    × AreRead prefer overrides scoring allow_incomplete (suc number) lines rows more)
 
 -- the order of rows: a higher score first, and of one score by the bytes of the lines
 abbrev pub row_order : Row → Row → Ordering
 row_order = rank_order (λ row. pos row.tenths) (λ row. row.line.now)
 
 -- each line has its row, or is listed as bad; rows are in their order
-pub record IsRanking (overrides : List Override) (scoring : Scoring) (allow_incomplete : Bool) (lines : List (Option (List ℕ))) (ranking : Ranking) : Type 0 where
+pub record IsRanking (prefer : Option Preference) (overrides : List Override) (scoring : Scoring) (allow_incomplete : Bool) (lines : List (Option (List ℕ))) (ranking : Ranking) : Type 0 where
   pub in_turn : List Row
-  pub are_read : AreRead overrides scoring allow_incomplete 1 lines in_turn ranking.bad.items
+  pub are_read : AreRead prefer overrides scoring allow_incomplete 1 lines in_turn ranking.bad.items
   pub same_rows : IsPermutation in_turn ranking.rows.items
   pub in_order : IsSorted row_order ranking.rows.items

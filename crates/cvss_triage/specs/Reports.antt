@@ -1,5 +1,5 @@
--- What is reported on standard error of lines that have no row, and of metrics that hold for no version.
-use Rattle.std.specs.Prelude.{◌≡◌, ℕ, ◌+◌, Bool, List, [], ◌∷◌, ◌++◌, codes, ◌⊎◌, Option, None, Some}
+-- What is reported on standard error of lines or records that have no row, and of metrics that hold for no version.
+use Rattle.std.specs.Prelude.{◌≡◌, ℕ, ◌+◌, Bool, List, [], ◌∷◌, ◌++◌, codes, ◌⊎◌, Option, None, Some, ◌-◌, false, get_or, if◌then◌else◌, true}
 use Rattle.std.specs.Global.{Vec}
 use Rattle.cvss_vector.specs.Reasons.{error_message}
 use Rattle.cvss_lines.specs.Lines.{lines}
@@ -7,6 +7,8 @@ use Rattle.cvss_frame.specs.Reports.{Reported, Reports}
 use Rattle.cvss_triage.specs.Overrides.{HoldsForSome}
 use Rattle.cvss_triage.specs.Places.{IsAt, place_text}
 use Rattle.cvss_triage.specs.Settings.{as_metrics, line_metrics}
+use Rattle.cvss_triage.specs.declared.form.Form.{Form}
+use Rattle.cvss_triage.specs.declared.form.Form.TheVariants.{Lines, Records}
 use Rattle.cvss_triage.specs.declared.overrides.Family.{Family}
 use Rattle.cvss_triage.specs.declared.overrides.Override.{Override}
 use Rattle.cvss_triage.specs.declared.ranking.BadLine.{BadLine}
@@ -16,15 +18,32 @@ use Rattle.cvss_triage.specs.declared.settings.SettingKind.{SettingKind}
 use Rattle.cvss_triage.specs.declared.settings.SettingKind.TheVariants.{Metrics, Profile}
 use Rattle.cvss_triage.specs.declared.settings.SettingText.{SettingText}
 
--- why a line has no row
-abbrev pub reason_words : Reason → List ℕ
-reason_words NoVector = codes "no vector"
-reason_words SeveralVectors = codes "more than one vector on this line"
-reason_words (Rejected error) = error_message error
+-- several vectors are found
+abbrev pub several_text : Form → List ℕ
+several_text Lines = codes "more than one vector on this line"
+several_text Records = codes "more than one vector in this record"
 
--- what is reported of the line of this number
-abbrev pub bad_line_text : Option (List ℕ) → ℕ → Reason → List ℕ
-bad_line_text name number reason = codes "cvss: " ++ (place_text name number ++ (reason_words reason ++ codes "\n"))
+-- why a line or a record has no row
+abbrev pub reason_words : Form → Reason → List ℕ
+reason_words form NoVector = codes "no vector"
+reason_words form SeveralVectors = several_text form
+reason_words form (Rejected error) = error_message error
+
+-- of a record that is not closed no bytes are ranked, and of no other
+abbrev pub is_unclosed : Form → Option (List ℕ) → Bool
+is_unclosed Records (Some []) = true
+is_unclosed Records (Some (byte ∷ bytes)) = false
+is_unclosed Records None = false
+is_unclosed Lines row = false
+
+-- the same, or that the record is not closed
+abbrev pub why_text : Form → Bool → Reason → List ℕ
+why_text form unclosed reason = if unclosed then codes "a quoted field is not closed" else reason_words form reason
+
+-- what is reported of the line or the record of this number
+abbrev pub bad_line_text : Form → Bool → Option (List ℕ) → ℕ → Reason → List ℕ
+bad_line_text form unclosed name number reason =
+    codes "cvss: " ++ (place_text form name number ++ (why_text form unclosed reason ++ codes "\n"))
 
 -- what is reported of metrics, which are at this place if they are from a profile
 abbrev pub unknown_text : List ℕ → List ℕ → List ℕ
@@ -51,7 +70,7 @@ ReportsUnknownIn (Some metrics) place line report report' = ReportsUnknown metri
 abbrev pub ReportsLines : List ℕ → ℕ → List (List ℕ) → Reported → Reported → Type 0
 ReportsLines name number [] report report' = report' ≡ report
 ReportsLines name number (line ∷ lines) report report' =
-    (report'' : Reported) × ReportsUnknownIn (line_metrics line) (place_text (Some name) number) line report report''
+    (report'' : Reported) × ReportsUnknownIn (line_metrics line) (place_text Lines (Some name) number) line report report''
     × ReportsLines name (number + 1) lines report'' report'
 
 -- the same of the text of a setting, by its kind and its word, if it is read
@@ -63,9 +82,14 @@ ReportsText Profile word (Some text) report report' = ReportsLines word 1 (lines
 abbrev pub ReportsSetting : SettingText → Reported → Reported → Type 0
 ReportsSetting it = ReportsText it.setting.now.kind it.setting.now.word.now it.text
 
--- a line without a row is reported
-pub record ReportsBadLine (starts : List ℕ) (many : Bool) (operands : List (Vec ℕ)) (bad : BadLine) (report report' : Reported) : Type 0 where
+-- what is ranked of the line or the record of this number
+abbrev pub row_at : List (Option (List ℕ)) → ℕ → Option (List ℕ)
+row_at rows number = get_or rows (number - 1) None
+
+-- a line or a record without a row is reported
+pub record ReportsBadLine (form : Form) (rows : List (Option (List ℕ))) (starts : List ℕ) (many : Bool) (operands : List (Vec ℕ)) (bad : BadLine)
+    (report report' : Reported) : Type 0 where
   pub name : Option (List ℕ)
   pub within : ℕ
   pub at : IsAt starts many operands bad.number name within
-  pub reports : Reports report report' (bad_line_text name within bad.reason)
+  pub reports : Reports report report' (bad_line_text form (is_unclosed form (row_at rows bad.number)) name within bad.reason)

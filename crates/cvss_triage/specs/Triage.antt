@@ -1,5 +1,5 @@
 -- What triage reads and writes, and what it comes to.
-use Rattle.std.specs.Prelude.{◌≡◌, ◌⊎◌, ℕ, ◌||◌, ◌&&◌, ◌==◌, Bool, true, false, not, List, [], length, map, take, is_none, if◌then◌else◌, Option, None, Err}
+use Rattle.std.specs.Prelude.{◌≡◌, ◌⊎◌, ℕ, ◌||◌, ◌==◌, Bool, true, false, not, List, [], length, map, take, is_none, if◌then◌else◌, Option, None, Err}
 use Rattle.std.specs.Global.{Vec}
 use Rattle.std.specs.Io.KnownBytes.{Appends, Keeps}
 use Rattle.std.specs.List.{list_any}
@@ -13,25 +13,30 @@ use Rattle.cvss_frame.specs.declared.served.Served.{Served}
 use Rattle.cvss_report.specs.Tallies.{count_text}
 use Rattle.cvss_report.specs.declared.gate.Gate.{Gate}
 use Rattle.cvss_triage.specs.Counts.{tally_of}
-use Rattle.cvss_triage.specs.Inputs.{ReadsEach, ReadsInput, first_header, inputs_of, lines_in}
+use Rattle.cvss_triage.specs.Inputs.{AreRowsIn, IsHeaderOf, ReadsEach, ReadsInput, first_header, first_record, inputs_of, is_crlf}
 use Rattle.cvss_triage.specs.Places.{starts_of}
 use Rattle.cvss_triage.specs.Ranking.{IsRanking}
 use Rattle.cvss_triage.specs.Reports.{ReportsBadLine, ReportsEach, ReportsSetting}
 use Rattle.cvss_triage.specs.Rows.{IsRowText, IsTable}
 use Rattle.cvss_triage.specs.Settings.{AreUnderstood, ReadsSetting, all_given, as_metrics, as_words}
 use Rattle.cvss_triage.specs.Shown.{after_gate, shown_rows}
+use Rattle.cvss_triage.specs.declared.form.Form.{Form}
+use Rattle.cvss_triage.specs.declared.form.Form.TheVariants.{Lines, Records}
 use Rattle.cvss_triage.specs.declared.overrides.Override.{Override}
+use Rattle.cvss_triage.specs.declared.preferring.Preference.{Preference}
 use Rattle.cvss_triage.specs.declared.ranking.BadLine.{BadLine}
 use Rattle.cvss_triage.specs.declared.ranking.Ranking.{Ranking}
-use Rattle.cvss_triage.specs.declared.row.Row.{Row}
 use Rattle.cvss_triage.specs.declared.settings.SettingKind.{SettingKind}
 use Rattle.cvss_triage.specs.declared.settings.SettingText.{SettingText}
+use Rattle.cvss_triage.specs.declared.style.Style.{Style}
+use Rattle.cvss_triage.specs.declared.style.Style.TheVariants.{Words, Objects, Table}
 use Rattle.cvss_triage.specs.declared.triage.Triage.{Triage}
 
 -- what triage is asked for: what is set, the later after the earlier; whether the other rows are written where a line has no
 -- row or an input cannot be read; whether vectors of CVSS v3 may lack base metrics; by which score lines are ranked; which
--- rows are shown and fail; whether their numbers are printed in their place; whether rows are objects; and
--- whether the first line of each input is its header
+-- rows are shown and fail; whether their numbers are printed in their place; whether rows of lines are objects, and the first
+-- line of each input is its header; whether inputs have lines or records; whether the cells of these are guarded; and which
+-- vector is ranked of a line that has several
 pub record Asked : Type 0 where
   pub settings : List (SettingKind × List ℕ)
   pub keep_going : Bool
@@ -41,6 +46,9 @@ pub record Asked : Type 0 where
   pub count : Bool
   pub json : Bool
   pub header : Bool
+  pub form : Form
+  pub guarded : Bool
+  pub prefer : Option Preference
 
 -- the same, as the code has it
 abbrev pub asked_of : Triage → Asked
@@ -53,6 +61,9 @@ asked_of asked = record {
   count = asked.count;
   json = asked.json;
   header = asked.header;
+  form = asked.form;
+  guarded = asked.guarded;
+  prefer = asked.prefer;
 }
 
 -- the texts of the settings are read, and give these overrides
@@ -85,35 +96,53 @@ served_of bad inputs = record { rejected = not (length bad == 0); unread = list_
 abbrev pub shows : Bool → Served → Bool
 shows keep_going served = keep_going || not (served.rejected || served.unread)
 
--- what is printed, by whether that is nothing, or numbers: these, or the rows that are shown, each as the rule says, after a
+-- how rows are written: those of lines in words or as objects, those of records as these are, all with the line end of the
+-- first record of the first input
+abbrev pub style_by : Form → Asked → List (Option (Vec ℕ)) → Style
+style_by Lines asked inputs = if asked.json then Objects asked.allow_incomplete else Words
+style_by Records asked inputs = Table
+    (record { scoring = asked.scoring; allow_incomplete = asked.allow_incomplete; guarded = asked.guarded; each = false })
+    (is_crlf (first_record inputs))
+
+abbrev pub style_of : Asked → List (Option (Vec ℕ)) → Style
+style_of asked inputs = style_by asked.form asked inputs
+
+-- the header that is printed, that of the first input: its first line, where lines have headers, or its first record, where
+-- that is a header
+abbrev pub IsTop : Form → Bool → List (Option (Vec ℕ)) → Option (List ℕ) → Type 0
+IsTop Lines header inputs top = top ≡ (if header then first_header inputs else None)
+IsTop Records header inputs top = IsHeaderOf (first_record inputs) top
+
+-- what is printed, by whether that is nothing, or numbers: these, or the rows that are shown, each in the style, after the
 -- header if there is one
-abbrev pub IsPrinted : Bool → Bool → Option (List ℕ) → (Row → List ℕ → Type 0) → Gate → Ranking → List ℕ → Type 0
-IsPrinted true count header IsText gate ranking text = text ≡ []
-IsPrinted false true header IsText gate ranking text = text ≡ count_text (tally_of gate ranking)
-IsPrinted false false header IsText gate ranking text = IsTable header IsText (shown_rows gate ranking.rows.items) text
+abbrev pub IsPrinted : Bool → Bool → Style → Option (List ℕ) → List ℕ → Bool → List (Vec ℕ) → Gate → Ranking → List ℕ → Type 0
+IsPrinted true count style top starts many operands gate ranking text = text ≡ []
+IsPrinted false true style top starts many operands gate ranking text = text ≡ count_text (tally_of gate ranking)
+IsPrinted false false style top starts many operands gate ranking text =
+    IsTable style top (IsRowText style starts many operands) (shown_rows gate ranking.rows.items) text
 
--- the header that is printed: that of the first input, where inputs have headers and rows are in words
-abbrev pub printed_header : Asked → List (Option (Vec ℕ)) → Option (List ℕ)
-printed_header asked inputs = if asked.header && not asked.json then first_header inputs else None
-
--- this is printed of the ranking of lines, and triage comes to this, after what it comes to by what is read
-pub record Prints (asked : Asked) (header : Option (List ℕ)) (starts : List ℕ) (many : Bool) (operands : List (Vec ℕ)) (ranking : Ranking) (read : Served)
+-- this is printed of the ranking, and triage comes to this, after what it comes to by what is read
+pub record Prints (asked : Asked) (style : Style) (top : Option (List ℕ)) (starts : List ℕ) (many : Bool) (operands : List (Vec ℕ)) (ranking : Ranking) (read : Served)
     (text : List ℕ) (served : Served) : Type 0 where
-  pub is_text : IsPrinted asked.gate.quiet asked.count header (IsRowText asked.json asked.allow_incomplete starts many operands) asked.gate ranking text
+  pub is_text : IsPrinted asked.gate.quiet asked.count style top starts many operands asked.gate ranking text
   pub served_is : served ≡ after_gate asked.gate ranking.rows.items read
 
 -- the same if rows are shown, and otherwise nothing is printed
-abbrev pub PrintsIf : Bool → Asked → Option (List ℕ) → List ℕ → Bool → List (Vec ℕ) → Ranking → Served → List ℕ → Served → Type 0
-PrintsIf true asked header starts many operands ranking read text served = Prints asked header starts many operands ranking read text served
-PrintsIf false asked header starts many operands ranking read text served = (text ≡ []) × (served ≡ read)
+abbrev pub PrintsIf : Bool → Asked → Style → Option (List ℕ) → List ℕ → Bool → List (Vec ℕ) → Ranking → Served → List ℕ → Served → Type 0
+PrintsIf true asked style top starts many operands ranking read text served = Prints asked style top starts many operands ranking read text served
+PrintsIf false asked style top starts many operands ranking read text served = (text ≡ []) × (served ≡ read)
 
--- the lines of the inputs are ranked, and this is printed of the ranking; lines without a row are reported
+-- the lines or records of the inputs are ranked, and this is printed of the ranking; those without a row are reported
 pub record IsRanked (asked : Asked) (overrides : List Override) (operands : List (Vec ℕ)) (inputs : List (Option (Vec ℕ)))
     (report report' : Reported) (text : List ℕ) (served : Served) : Type 0 where
+  pub rows : List (Option (List ℕ))
+  pub are_rows : AreRowsIn asked.form asked.header inputs rows
   pub ranking : Ranking
-  pub is : IsRanking overrides asked.scoring asked.allow_incomplete (lines_in asked.header inputs) ranking
-  pub reported : ReportsEach (ReportsBadLine (starts_of inputs) (many_files operands) operands) ranking.bad.items report report'
-  pub prints : PrintsIf (shows asked.keep_going (served_of ranking.bad.items inputs)) asked (printed_header asked inputs) (starts_of inputs)
+  pub is : IsRanking asked.prefer overrides asked.scoring asked.allow_incomplete rows ranking
+  pub reported : ReportsEach (ReportsBadLine asked.form rows (starts_of asked.form inputs) (many_files operands) operands) ranking.bad.items report report'
+  pub top : Option (List ℕ)
+  pub is_top : IsTop asked.form asked.header inputs top
+  pub prints : PrintsIf (shows asked.keep_going (served_of ranking.bad.items inputs)) asked (style_of asked inputs) top (starts_of asked.form inputs)
       (many_files operands) operands ranking (served_of ranking.bad.items inputs) text served
 
 -- all operands are read in turn after the settings, and their lines are ranked

@@ -1,8 +1,9 @@
-//! `cvss triage`: the lines of its inputs, ranked by the scores of their vectors after an organisation's
-//! own metrics are set in them.
+//! `cvss triage`: the lines of its inputs, or the records of tables, ranked by the scores of their vectors
+//! after an organisation's own metrics are set in them.
 #![tactic(auto)]
 
 mod counting;
+mod form;
 mod inputs;
 pub mod laws;
 mod lines;
@@ -10,15 +11,21 @@ mod messages;
 mod overrides;
 mod own_metrics;
 mod places;
+mod preferring;
 mod ranking;
 mod reading;
+mod records;
 mod report;
 mod row;
 mod rows;
 mod settings;
+mod style;
+mod table;
 mod triage;
 
 use cvss_vector::{v2, v3};
+pub use form::Form;
 pub use overrides::{Family, Override};
+pub use preferring::Preference;
 pub use settings::{Setting, SettingKind};
 pub use triage::{Triage, rank_operands};

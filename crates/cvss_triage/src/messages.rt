@@ -2,43 +2,54 @@
 
 ghost use Rattle.std.specs.Prelude.{◌≡◌, ◌++◌, [], IfOk, Some, codes, option_map};
 ghost use Rattle.cvss_json.specs.Sinks.{Adds};
-ghost use Rattle.cvss_triage.specs.Places.{name_text, place_text};
-ghost use Rattle.cvss_triage.specs.Reports.{bad_line_text, reason_words, unknown_text};
+ghost use Rattle.cvss_triage.specs.Places.{form_text, name_text, place_text};
+ghost use Rattle.cvss_triage.specs.Reports.{bad_line_text, reason_words, unknown_text, why_text};
+ghost use Rattle.cvss_triage.specs.declared.form.Form.TheVariants.{Lines};
 
+use crate::form::Form;
 use crate::reading::Reason;
 use cvss_frame::put_shown;
 use cvss_json::{Growing, Sink, put_whole};
 use cvss_report::put_error;
 use std::alloc::{AllocError, Global};
 
-/// What is reported of a line that has no row, by the name of its file, if that is shown, its number
-/// there and why it has none.
+/// What is reported of a line or a record that has no row, by whether it is a record that is not closed, the
+/// name of its file, if that is shown, its number there and why it has none.
 ///
 /// # Errors
 ///
 /// Out of memory.
 pub(crate) fn bad_line_text(
     alloc: Global,
+    form: Form,
+    unclosed: bool,
     name: Option<&[u8]>,
     number: usize,
     reason: &Reason<'_>,
 ) -> Result<Vec<u8>, AllocError>
-    ensures { IfOk result (λ text. text.items
-        ≡ bad_line_text (option_map (λ name. name.now) name.entry) number reason.now) }
+    ensures { IfOk result (λ text. text.items ≡ bad_line_text form unclosed
+        (option_map (λ name. name.now) name.entry) number reason.now) }
 {
     let mut text = Growing::new(alloc);
-    put_bad_line(&mut text, name, number, reason);
+    put_bad_line(&mut text, form, unclosed, name, number, reason);
     text.end()
 }
 
-fn put_bad_line<S: Sink>(sink: &mut S, name: Option<&[u8]>, number: usize, reason: &Reason<'_>)
-    ensures { Adds S.Holds
-        (bad_line_text (option_map (λ name. name.now) name.entry) number reason.now)
+fn put_bad_line<S: Sink>(
+    sink: &mut S,
+    form: Form,
+    unclosed: bool,
+    name: Option<&[u8]>,
+    number: usize,
+    reason: &Reason<'_>,
+)
+    ensures { Adds S.Holds (bad_line_text form unclosed
+        (option_map (λ name. name.now) name.entry) number reason.now)
         sink.old sink.new }
 {
     sink.push(b"cvss: ");
-    put_place(sink, name, number);
-    put_why(sink, reason);
+    put_place(sink, form, name, number);
+    put_why(sink, form, unclosed, reason);
     sink.push(b"\n");
 }
 
@@ -68,11 +79,11 @@ pub(crate) fn unknown_line_text(
     metrics: &[u8],
 ) -> Result<Vec<u8>, AllocError>
     ensures { IfOk result (λ text. text.items
-        ≡ unknown_text (place_text (Some name.now) number) metrics.now) }
+        ≡ unknown_text (place_text Lines (Some name.now) number) metrics.now) }
 {
     let mut text = Growing::new(alloc);
     text.push(b"cvss: ");
-    put_place(&mut text, Some(name), number);
+    put_place(&mut text, Form::Lines, Some(name), number);
     put_unknown(&mut text, metrics);
     text.end()
 }
@@ -86,14 +97,14 @@ fn put_unknown<S: Sink>(sink: &mut S, metrics: &[u8])
     sink.push(b"\n");
 }
 
-/// Writes the name of a file, if there is one, and the number of a line.
+/// Writes the name of a file, if there is one, and the number of a line or a record.
 #[tactic(auto, using(cvss_json::proofs::AddsLemmas::join2))]
-fn put_place<S: Sink>(sink: &mut S, name: Option<&[u8]>, number: usize)
-    ensures { Adds S.Holds (place_text (option_map (λ name. name.now) name.entry) number)
+fn put_place<S: Sink>(sink: &mut S, form: Form, name: Option<&[u8]>, number: usize)
+    ensures { Adds S.Holds (place_text form (option_map (λ name. name.now) name.entry) number)
         sink.old sink.new }
 {
     put_name(sink, name);
-    sink.push(b"line ");
+    put_form(sink, form);
     put_whole(sink, number as u64);
     sink.push(b": ");
 }
@@ -112,13 +123,36 @@ fn put_name<S: Sink>(sink: &mut S, name: Option<&[u8]>)
     }
 }
 
-/// Writes why a line has no row.
-fn put_why<S: Sink>(sink: &mut S, reason: &Reason<'_>)
-    ensures { Adds S.Holds (reason_words reason.now) sink.old sink.new }
+/// Writes what has a number.
+fn put_form<S: Sink>(sink: &mut S, form: Form)
+    ensures { Adds S.Holds (form_text form) sink.old sink.new }
 {
-    match reason {
-        Reason::NoVector => sink.push(b"no vector"),
-        Reason::SeveralVectors => sink.push(b"more than one vector on this line"),
-        Reason::Rejected(error) => put_error(sink, *error),
+    match form {
+        Form::Lines => sink.push(b"line "),
+        Form::Records => sink.push(b"record "),
+    }
+}
+
+/// Writes why a line or a record has no row.
+fn put_why<S: Sink>(sink: &mut S, form: Form, unclosed: bool, reason: &Reason<'_>)
+    ensures { Adds S.Holds (why_text form unclosed reason.now) sink.old sink.new }
+{
+    if unclosed {
+        sink.push(b"a quoted field is not closed");
+    } else {
+        put_reason(sink, form, reason);
+    }
+}
+
+fn put_reason<S: Sink>(sink: &mut S, form: Form, reason: &Reason<'_>)
+    ensures { Adds S.Holds (reason_words form reason.now) sink.old sink.new }
+{
+    match (reason, form) {
+        (Reason::NoVector, _) => sink.push(b"no vector"),
+        (Reason::SeveralVectors, Form::Lines) => sink.push(b"more than one vector on this line"),
+        (Reason::SeveralVectors, Form::Records) => {
+            sink.push(b"more than one vector in this record");
+        }
+        (Reason::Rejected(error), _) => put_error(sink, *error),
     }
 }

@@ -1,14 +1,20 @@
-//! Where lines are among the inputs.
+//! Where lines or records are among the inputs.
 
 ghost use Rattle.std.specs.Prelude.{◌≡◌, ◌≤◌, All, MatchOption, option_and_then, option_map};
 ghost use Rattle.cvss_triage.specs.Places.{IsAt, IsPlace, shown_name};
+ghost use Rattle.cvss_triage.specs.Reports.{is_unclosed, row_at};
+ghost use Rattle.cvss_triage.specs.private.Steps.{rows_of};
 
+use crate::form::Form;
 use cvss_frame::{has_name, source_of};
 
-/// Where the lines of the operands' inputs are.
+/// Where the lines or records of the operands' inputs are.
 #[derive(Drop)]
 pub(crate) struct Places<'a> {
-    /// For each input, how many lines the inputs before it have.
+    pub(crate) form: Form,
+    /// What is ranked of each.
+    pub(crate) lines: &'a [Option<&'a [u8]>],
+    /// For each input, how many of them the inputs before it have.
     pub(crate) starts: &'a [usize],
     /// Whether there are several files.
     pub(crate) many: bool,
@@ -16,8 +22,8 @@ pub(crate) struct Places<'a> {
 }
 
 impl Places<'_> {
-    /// Where the line is that has this number among those of all inputs: the name of its file, where
-    /// there are several, and its number there. Both numbers count from 1.
+    /// Where the line or record is that has this number among those of all inputs: the name of its file,
+    /// where there are several, and its number there. Both numbers count from 1.
     pub(crate) fn of_line(&self, number: usize) -> (Option<&[u8]>, usize)
         ensures { IsAt self.now.starts.now self.now.many self.now.operands.now number
             (option_map (λ name. name.now) result.0) result.1 }
@@ -27,10 +33,27 @@ impl Places<'_> {
             None => (None, number),
         }
     }
+
+    /// Whether what has this number is a record that is not closed.
+    pub(crate) fn is_unclosed(&self, number: usize) -> bool
+        ensures { result ≡ is_unclosed self.now.form (row_at (rows_of self.now.lines.now) number) }
+    {
+        match self.lines.get(number.saturating_sub(1)) {
+            Some(row) => is_unclosed(self.form, *row),
+            None => false,
+        }
+    }
 }
 
-/// The input that has the line of this number, and the line's number in it, by how many lines are before
-/// each input.
+/// Whether no bytes are ranked of a record.
+fn is_unclosed(form: Form, row: Option<&[u8]>) -> bool
+    ensures { result ≡ is_unclosed form (option_map (λ row. row.now) row.entry) }
+{
+    matches!((form, row), (Form::Records, Some([])))
+}
+
+/// The input that has the line or record of this number, and its number there, by how many are before each
+/// input.
 fn place_of(starts: &[usize], number: usize) -> Option<(usize, usize)>
     ensures { MatchOption result (All (λ start. number ≤ start) starts.now)
         (λ place. IsPlace starts.now number place.0 place.1) }

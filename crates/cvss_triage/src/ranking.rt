@@ -7,7 +7,8 @@ ghost use Rattle.cvss_triage.specs.declared.overrides.Override.{Override};
 ghost use Rattle.cvss_triage.specs.private.Steps.{Adds, AreOwnMetrics, IsReadBy, IsToTen};
 
 use crate::own_metrics::OwnMetrics;
-use crate::reading::{Reason, vector_of};
+use crate::preferring::{Preference, chosen};
+use crate::reading::Reason;
 use crate::row::Row;
 use cvss_score::ranking;
 use cvss_vector::{ReadError, Rejection, Scoring};
@@ -22,6 +23,8 @@ pub(crate) struct Rules {
     pub(crate) scoring: Scoring,
     /// Vectors of CVSS v3 may lack base metrics.
     pub(crate) allow_incomplete: bool,
+    /// Which vector of a line is ranked, where it has several.
+    pub(crate) prefer: Option<Preference>,
 }
 
 /// A line that has no row.
@@ -55,7 +58,8 @@ impl<'a> Ranking<'a> {
         rules: &Rules,
     ) -> Result<Ranking<'a>, AllocError>
         ensures ranking { (overrides : List Override) → AreOwnMetrics overrides rules.now.own
-            → IfOk result (IsRanking overrides rules.now.scoring rules.now.allow_incomplete
+            → IfOk result (IsRanking rules.now.prefer overrides rules.now.scoring
+            rules.now.allow_incomplete
             (map (λ line. option_map (λ line. line.now) line) lines.now)) }
         ensures to_ten { IfOk result (λ ranking. All IsToTen ranking.rows.items) }
     {
@@ -114,15 +118,17 @@ impl<'a> Ranking<'a> {
 }
 
 /// The row of the line of this number, or why it has none.
-#[tactic(auto, using(crate::proofs::RankLemmas::row_by, crate::proofs::RankLemmas::reason_by))]
+#[tactic(auto, using(crate::proofs::RankLemmas::row_by))]
 fn row_of<'a>(number: usize, line: &'a [u8], rules: &Rules) -> Result<Row<'a>, Reason<'a>>
     ensures row { (overrides : List Override) → AreOwnMetrics overrides rules.now.own
-        → IfOk result (IsRow overrides rules.now.scoring rules.now.allow_incomplete number line.now) }
+        → IfOk result (IsRow rules.now.prefer overrides rules.now.scoring
+        rules.now.allow_incomplete number line.now) }
     ensures to_ten { IfOk result IsToTen }
     ensures reason { (overrides : List Override) → AreOwnMetrics overrides rules.now.own
-        → IfErr result (IsReason overrides rules.now.allow_incomplete line.now) }
+        → IfErr result (IsReason rules.now.prefer overrides rules.now.scoring
+        rules.now.allow_incomplete line.now) }
 {
-    let vector = rules.own.in_vector(vector_of(line)?);
+    let vector = rules.own.in_vector(chosen(line, rules)?);
     match vector.missing_by(rules.allow_incomplete) {
         None => Ok(Row {
             number,

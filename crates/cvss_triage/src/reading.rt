@@ -1,12 +1,11 @@
 //! The vector of a line.
 
-ghost use Rattle.std.specs.Prelude.{◌≡◌, ◌↔◌, Bool, List, IfErr, IfOk, IfSome, IsTrue, MatchOption};
+ghost use Rattle.std.specs.Prelude.{◌≡◌, ◌↔◌, IfErr, IfOk, IfSome, IsTrue, MatchOption};
 ghost use Rattle.cvss_matches.specs.CandidatesLeft.{candidates_left};
 ghost use Rattle.cvss_vector.specs.Answers.{HasScore};
 ghost use Rattle.cvss_vector.specs.Dispatch.{DenotesCvss};
 ghost use Rattle.cvss_vector.specs.declared.vector.Cvss.{Cvss as AnyCvss};
-ghost use Rattle.cvss_triage.specs.Reading.{IsReason, IsVectorOf};
-ghost use Rattle.cvss_triage.specs.declared.overrides.Override.{Override};
+ghost use Rattle.cvss_triage.specs.Reading.{IsVectorOf, IsWhyNone};
 ghost use Rattle.cvss_triage.specs.private.Denoting.{AllDenote};
 
 use cvss_matches::Matches;
@@ -23,7 +22,7 @@ pub(crate) enum Reason<'a> {
     Rejected(ReadError<'a>),
 }
 
-/// The vector that is found in a line, once or several times.
+/// The vector that all matches of a line denote.
 ///
 /// # Errors
 ///
@@ -31,8 +30,7 @@ pub(crate) enum Reason<'a> {
 pub(crate) fn vector_of(line: &[u8]) -> Result<Cvss, Reason<'_>>
     ensures vector { IfOk result (IsVectorOf line.now) }
     ensures scored { IfOk result (λ cvss. HasScore cvss) }
-    ensures reason { IfErr result (λ reason. (overrides : List Override) (allow_incomplete : Bool)
-        → IsReason overrides allow_incomplete line.now reason) }
+    ensures reason { IfErr result (IsWhyNone line.now) }
 {
     let mut matches = Matches::of(line);
     let Some(first) = matches.next() else {
@@ -88,7 +86,7 @@ fn denotes(text: &[u8], cvss: &Cvss) -> bool
 }
 
 /// Whether two vectors are one.
-fn are_equal(one: &Cvss, other: &Cvss) -> bool
+pub(crate) fn are_equal(one: &Cvss, other: &Cvss) -> bool
     ensures { IsTrue result ↔ (one.now ≡ other.now) }
 {
     v2::laws::vectors_are_their_values();

@@ -6,6 +6,8 @@ ghost use Rattle.cvss_frame.specs.Reports.{reported};
 ghost use Rattle.cvss_triage.specs.Reports.{ReportsBadLine, ReportsEach, ReportsLines, ReportsSetting, ReportsUnknown, ReportsUnknownIn};
 ghost use Rattle.cvss_triage.specs.Places.{place_text};
 ghost use Rattle.cvss_triage.specs.Settings.{as_metrics, line_metrics};
+ghost use Rattle.cvss_triage.specs.declared.form.Form.TheVariants.{Lines};
+ghost use Rattle.cvss_triage.specs.private.Steps.{rows_of};
 
 use crate::messages::{bad_line_text, unknown_line_text, unknown_text};
 use crate::overrides::Override;
@@ -97,7 +99,7 @@ fn report_line<E: Write>(
     alloc: Global,
     report: &mut Report<E>,
 ) -> Result<(), AllocError>
-    ensures { OnOk result (ReportsUnknownIn (line_metrics line.now) (place_text (Some name.now) number)
+    ensures { OnOk result (ReportsUnknownIn (line_metrics line.now) (place_text Lines (Some name.now) number)
         line.now (reported E.contents report.old) (reported E.contents report.new)) }
 {
     match Override::by_line(line) {
@@ -115,7 +117,7 @@ fn report_override<E: Write>(
     alloc: Global,
     report: &mut Report<E>,
 ) -> Result<(), AllocError>
-    ensures { OnOk result (ReportsUnknown (as_metrics it.entry) (place_text (Some name.now) number)
+    ensures { OnOk result (ReportsUnknown (as_metrics it.entry) (place_text Lines (Some name.now) number)
         line.now (reported E.contents report.old) (reported E.contents report.new)) }
 {
     if !it.holds_for_some() {
@@ -124,8 +126,8 @@ fn report_override<E: Write>(
     Ok(())
 }
 
-/// Reports the lines that have no row, each with its number in its input and, where there are several
-/// files, with the name of its file.
+/// Reports the lines or records that have no row, each with its number in its input and, where there are
+/// several files, with the name of its file.
 ///
 /// # Errors
 ///
@@ -138,8 +140,8 @@ pub(crate) fn report_bad<E: Write>(
     report: &mut Report<E>,
 ) -> Result<(), AllocError>
     ensures { OnOk result (ReportsEach
-        (ReportsBadLine places.now.starts.now places.now.many places.now.operands.now)
-        bad.now (reported E.contents report.old) (reported E.contents report.new)) }
+        (ReportsBadLine places.now.form (rows_of places.now.lines.now) places.now.starts.now
+        places.now.many places.now.operands.now) bad.now (reported E.contents report.old) (reported E.contents report.new)) }
 {
     for it in bad {
         report_bad_line(alloc, it, places, report)?;
@@ -154,10 +156,12 @@ fn report_bad_line<E: Write>(
     report: &mut Report<E>,
 ) -> Result<(), AllocError>
     ensures { OnOk result
-        (ReportsBadLine places.now.starts.now places.now.many places.now.operands.now it.now
-        (reported E.contents report.old) (reported E.contents report.new)) }
+        (ReportsBadLine places.now.form (rows_of places.now.lines.now) places.now.starts.now
+        places.now.many places.now.operands.now it.now (reported E.contents report.old) (reported E.contents report.new)) }
 {
     let (name, number) = places.of_line(it.number);
-    report.write(&bad_line_text(alloc, name, number, &it.reason)?);
+    let unclosed = places.is_unclosed(it.number);
+    let text = bad_line_text(alloc, places.form, unclosed, name, number, &it.reason)?;
+    report.write(&text);
     Ok(())
 }

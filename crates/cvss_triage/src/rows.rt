@@ -1,27 +1,31 @@
 //! How rows are written.
 
-ghost use Rattle.std.specs.Prelude.{◌≡◌, ◌++◌, ◌≤◌, All, IfOk, OnOk, Some, option_map};
+ghost use Rattle.std.specs.Prelude.{◌≡◌, ◌++◌, ◌≤◌, All, IfOk, OnOk, option_map};
 ghost use Rattle.cvss_json.specs.Sinks.{Adds};
 ghost use Rattle.cvss_vector.specs.Answers.{text_of};
-ghost use Rattle.cvss_triage.specs.Rows.{AreRowTexts, IsObject, IsRowText, IsTable, file_member, first_members, header_text, row_text, scored_text};
+ghost use Rattle.cvss_triage.specs.Rows.{AreRowTexts, IsObject, IsRowText, IsTable, file_member, first_members, header_line, header_text, row_text, scored_text};
 ghost use Rattle.cvss_triage.specs.Shown.{shown_rows};
 ghost use Rattle.cvss_triage.specs.Triage.{IsPrinted};
+ghost use Rattle.cvss_triage.specs.declared.style.Style.TheVariants.{Words};
 ghost use Rattle.cvss_triage.specs.private.Steps.{IsToTen, WritesRow};
 
 use crate::counting::numbers_text;
 use crate::places::Places;
 use crate::ranking::Ranking;
 use crate::row::Row;
+use crate::style::Style;
+use crate::table::{write_table_header, write_table_row};
 use crate::triage::Triage;
 use cvss_base::tenths;
 use cvss_json::{Growing, Sink, put_whole};
 use cvss_lines::OutputBuffer;
-use cvss_report::{Format, put_given, write_cells};
+use cvss_report::{Format, Gate, put_given, write_cells};
 use cvss_vector::Cvss;
 use std::alloc::{AllocError, Global};
 use std::fmt::{self, Write};
 
-/// The text of the rows that are shown, or of their numbers, unless nothing is to be printed.
+/// The text of the rows that are shown, after the header if there is one, or of their numbers, unless
+/// nothing is to be printed.
 ///
 /// # Errors
 ///
@@ -29,106 +33,115 @@ use std::fmt::{self, Write};
 pub(crate) fn printed_text(
     alloc: Global,
     asked: &Triage<'_>,
-    header: Option<&[u8]>,
+    style: &Style,
+    top: Option<&[u8]>,
     ranking: &Ranking<'_>,
     places: &Places<'_>,
 ) -> Result<Vec<u8>, AllocError>
     requires { All IsToTen ranking.now.rows.items }
-    ensures { IfOk result (λ text. IsPrinted asked.now.gate.quiet asked.now.count
-        (option_map (λ line. line.now) header.entry) (IsRowText asked.now.json asked.now.allow_incomplete places.now.starts.now places.now.many
-        places.now.operands.now) asked.now.gate ranking.now text.items) }
+    ensures { IfOk result (λ text. IsPrinted asked.now.gate.quiet asked.now.count style.now
+        (option_map (λ line. line.now) top.entry) places.now.starts.now places.now.many
+        places.now.operands.now asked.now.gate ranking.now text.items) }
 {
     if asked.gate.quiet {
         Ok(Vec::new(alloc))
     } else if asked.count {
         numbers_text(alloc, asked.gate, ranking)
     } else {
-        table_text(alloc, asked, header, &ranking.rows, places)
+        table_text(alloc, asked.gate, style, top, &ranking.rows, places)
     }
 }
 
-/// The text of the rows that are shown, after a header if there is one.
+/// The text of the rows that are shown, after the header if there is one.
 fn table_text(
     alloc: Global,
-    asked: &Triage<'_>,
-    header: Option<&[u8]>,
+    gate: Gate,
+    style: &Style,
+    top: Option<&[u8]>,
     rows: &[Row<'_>],
     places: &Places<'_>,
 ) -> Result<Vec<u8>, AllocError>
     requires { All IsToTen rows.now }
-    ensures { IfOk result (λ text. IsTable (option_map (λ line. line.now) header.entry)
-        (IsRowText asked.now.json asked.now.allow_incomplete places.now.starts.now places.now.many
-        places.now.operands.now) (shown_rows asked.now.gate rows.now) text.items) }
+    ensures { IfOk result (λ text. IsTable style.now (option_map (λ line. line.now) top.entry)
+        (IsRowText style.now places.now.starts.now places.now.many places.now.operands.now)
+        (shown_rows gate rows.now) text.items) }
 {
     let mut text = OutputBuffer {
         bytes: Vec::new(alloc),
     };
-    write_header(header, &mut text)?;
-    write_rows(alloc, asked, rows, places, &mut text)?;
+    write_header(style, top, &mut text)?;
+    write_rows(alloc, gate, style, rows, places, &mut text)?;
     Ok(text.bytes)
 }
 
-/// Writes a header, if there is one, after the names of what is before the line in each row.
-fn write_header(header: Option<&[u8]>, text: &mut OutputBuffer) -> Result<(), AllocError>
+/// Writes the header, if there is one.
+fn write_header(
+    style: &Style,
+    header: Option<&[u8]>,
+    text: &mut OutputBuffer,
+) -> Result<(), AllocError>
     ensures { OnOk result (text.new.bytes.items
-        ≡ text.old.bytes.items ++ header_text (option_map (λ line. line.now) header.entry)) }
+        ≡ text.old.bytes.items ++ header_text style.now (option_map (λ line. line.now) header.entry)) }
 {
-    match header {
-        Some(line) => write_header_line(line, text),
-        None => Ok(()),
+    match (header, style) {
+        (None, _) | (_, Style::Objects(_)) => Ok(()),
+        (Some(line), Style::Words) => write_header_line(line, text),
+        (Some(body), Style::Table(asked, crlf)) => write_table_header(*asked, *crlf, body, text),
     }
 }
 
+/// Writes a header after the names of what is before the line in each row.
 fn write_header_line(line: &[u8], text: &mut OutputBuffer) -> Result<(), AllocError>
     ensures { OnOk result (text.new.bytes.items
-        ≡ text.old.bytes.items ++ header_text (Some line.now)) }
+        ≡ text.old.bytes.items ++ header_line Words line.now) }
 {
     text.push(b"score severity vector\t")?;
     text.push(line)?;
     text.push(b"\n")
 }
 
-/// Writes the rows that are shown, one a line, in words or as objects.
+/// Writes the rows that are shown.
 #[tactic(auto, using(crate::proofs::RowLemmas::to_ten_at))]
 fn write_rows(
     alloc: Global,
-    asked: &Triage<'_>,
+    gate: Gate,
+    style: &Style,
     rows: &[Row<'_>],
     places: &Places<'_>,
     text: &mut OutputBuffer,
 ) -> Result<(), AllocError>
     requires { All IsToTen rows.now }
     ensures { OnOk result (WritesRow (AreRowTexts
-        (IsRowText asked.now.json asked.now.allow_incomplete places.now.starts.now places.now.many
-        places.now.operands.now) (shown_rows asked.now.gate rows.now))
-        text.old.bytes.items text.new.bytes.items) }
+        (IsRowText style.now places.now.starts.now places.now.many places.now.operands.now)
+        (shown_rows gate rows.now)) text.old.bytes.items text.new.bytes.items) }
 {
     for row in rows {
-        if asked.gate.shows(row.tenths) {
-            write_row(alloc, asked, row, places, text)?;
+        if gate.shows(row.tenths) {
+            write_row(alloc, style, row, places, text)?;
         }
     }
     Ok(())
 }
 
-/// Writes a row in words or as an object.
+/// Writes a row in words, as an object or as a record.
 fn write_row(
     alloc: Global,
-    asked: &Triage<'_>,
+    style: &Style,
     row: &Row<'_>,
     places: &Places<'_>,
     text: &mut OutputBuffer,
 ) -> Result<(), AllocError>
     requires { IsToTen row.now }
     ensures { OnOk result (WritesRow
-        (IsRowText asked.now.json asked.now.allow_incomplete places.now.starts.now places.now.many
-        places.now.operands.now row.now)
+        (IsRowText style.now places.now.starts.now places.now.many places.now.operands.now row.now)
         text.old.bytes.items text.new.bytes.items) }
 {
-    if asked.json {
-        write_object(alloc, asked.allow_incomplete, row, places, text)
-    } else {
-        write_words(row, text)
+    match style {
+        Style::Words => write_words(row, text),
+        Style::Objects(allow_incomplete) => {
+            write_object(alloc, *allow_incomplete, row, places, text)
+        }
+        Style::Table(asked, crlf) => write_table_row(*asked, *crlf, row, text),
     }
 }
 

@@ -9,18 +9,21 @@ ghost use Rattle.cvss_triage.specs.Settings.{AreUnderstood};
 ghost use Rattle.cvss_triage.specs.Shown.{after_gate};
 ghost use Rattle.cvss_triage.specs.declared.overrides.Override.{Override};
 ghost use Rattle.cvss_triage.specs.private.Steps.{AreOwnMetrics, IsToTen};
-ghost use Rattle.cvss_triage.specs.Triage.{IsOutcome, IsRanked, PrintsIf, Triages, WritesOutcome, asked_of, printed_header, served_of, shows};
+ghost use Rattle.cvss_triage.specs.Triage.{IsOutcome, IsRanked, PrintsIf, Triages, WritesOutcome, asked_of, served_of, shows};
 
+use crate::form::Form;
 use crate::inputs::read_inputs;
-use crate::lines::{first_header, lines_of};
+use crate::lines::lines_of;
 use crate::overrides::{Override, overrides_of};
 use crate::own_metrics::OwnMetrics;
 use crate::places::Places;
+use crate::preferring::Preference;
 use crate::ranking::{BadLine, Ranking, Rules};
 use crate::report::{report_bad, report_unknown};
 use crate::row::Row;
 use crate::rows::printed_text;
 use crate::settings::{Setting, SettingText, read_settings};
+use crate::style::{Style, top_of};
 use cvss_frame::{Host, Report, Served, Streams, WatchedWriter, are_many};
 use cvss_lines::{RunFault, write_whole};
 use cvss_report::Gate;
@@ -47,6 +50,13 @@ pub struct Triage<'a> {
     pub json: bool,
     /// The first line of each input is its header, which is not ranked.
     pub header: bool,
+    /// What is ranked. Rows of records are records, and the first one of an input is its header if no vector is
+    /// found in it.
+    pub form: Form,
+    /// The cells of records are guarded, as by `cvss_csv`.
+    pub guarded: bool,
+    /// Which vector is ranked of a line that has several.
+    pub prefer: Option<Preference>,
 }
 
 /// What is written, and what triage comes to once it is.
@@ -56,9 +66,9 @@ struct Outcome {
     served: Served,
 }
 
-/// Ranks the lines of the operands, or of standard input where there is none, and writes the rows that the
-/// gate shows. Nothing is written before all is read. Metrics that hold for no version, inputs that cannot
-/// be read and lines without a row are reported.
+/// Ranks the lines or records of the operands, or of standard input where there is none, and writes the rows
+/// that the gate shows. Nothing is written before all is read. Metrics that hold for no version, inputs that
+/// cannot be read and what has no row are reported.
 pub fn rank_operands<H: Host>(
     alloc: Global,
     asked: &Triage<'_>,
@@ -125,7 +135,7 @@ fn are_read(texts: &[SettingText<'_>]) -> bool
     texts.iter().all(|it| it.text.is_some())
 }
 
-/// The rows of the lines of inputs.
+/// The rows of the lines or records of inputs.
 fn ranked<E: Write>(
     alloc: Global,
     asked: &Triage<'_>,
@@ -139,37 +149,42 @@ fn ranked<E: Write>(
         (reported E.contents report.old) (reported E.contents report.new)
         outcome.text.items outcome.served) }
 {
-    let lines = lines_of(alloc, asked.header, inputs)?;
+    let lines = lines_of(alloc, asked.form, asked.header, inputs)?;
     let rules = Rules {
         own,
         scoring: asked.scoring,
         allow_incomplete: asked.allow_incomplete,
+        prefer: asked.prefer,
     };
     let ranking = Ranking::of(alloc, &lines.lines, &rules)?;
     let places = Places {
+        form: asked.form,
+        lines: &lines.lines,
         starts: &lines.starts,
         many: are_many(operands),
         operands,
     };
     report_bad(alloc, &ranking.bad, &places, report)?;
     let read = served_of(&ranking.bad, inputs);
-    let header = printed_header(asked, inputs);
-    printed(alloc, asked, header, &ranking, &places, read)
+    let style = Style::of(asked, inputs);
+    let top = top_of(asked.form, asked.header, inputs);
+    printed(alloc, asked, &style, top, &ranking, &places, read)
 }
 
 /// What is printed of a ranking, and what triage comes to, after what it comes to by what is read.
 fn printed(
     alloc: Global,
     asked: &Triage<'_>,
-    header: Option<&[u8]>,
+    style: &Style,
+    top: Option<&[u8]>,
     ranking: &Ranking<'_>,
     places: &Places<'_>,
     read: Served,
 ) -> Result<Outcome, AllocError>
     requires { All IsToTen ranking.now.rows.items }
     ensures { IfOk result (λ outcome. PrintsIf (shows asked.now.keep_going read) (asked_of asked.now)
-        (option_map (λ line. line.now) header.entry) places.now.starts.now places.now.many places.now.operands.now ranking.now read
-        outcome.text.items outcome.served) }
+        style.now (option_map (λ line. line.now) top.entry) places.now.starts.now places.now.many
+        places.now.operands.now ranking.now read outcome.text.items outcome.served) }
 {
     if !shows(asked.keep_going, &read) {
         return Ok(Outcome {
@@ -177,20 +192,9 @@ fn printed(
             served: read,
         });
     }
-    let text = printed_text(alloc, asked, header, ranking, places)?;
+    let text = printed_text(alloc, asked, style, top, ranking, places)?;
     let served = after_gate(asked.gate, &ranking.rows, read);
     Ok(Outcome { text, served })
-}
-
-/// The header that is printed: that of the first input, where inputs have headers and rows are in words.
-fn printed_header<'a>(asked: &Triage<'_>, inputs: &'a [Option<Vec<u8>>]) -> Option<&'a [u8]>
-    ensures { option_map (λ line. line.now) result ≡ printed_header (asked_of asked.now) inputs.now }
-{
-    if asked.header && !asked.json {
-        first_header(inputs)
-    } else {
-        None
-    }
 }
 
 /// What triage comes to by which lines have no row and which inputs are read.

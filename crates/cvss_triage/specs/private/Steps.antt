@@ -1,6 +1,8 @@
 -- What the code does with one override and with one line.
-use Rattle.std.specs.Prelude.{◌≡◌, ◌≤◌, ℕ, ◌+◌, List, [], ◌∷◌, ◌++◌, All, length, Option, option_and_then}
+use Rattle.std.specs.Prelude.{◌≡◌, ◌≤◌, ℕ, ◌+◌, List, [], ◌∷◌, ◌++◌, All, length, map, Option, option_and_then, option_map}
+use denote.Ref.{Bor}
 use Rattle.cvss_base.specs.Version.{Version}
+use Rattle.cvss_vector.specs.Answers.{HasScore}
 use Rattle.cvss_vector.specs.v2.Vector.{v2}
 use Rattle.cvss_vector.specs.v3.Vector.{v3}
 use Rattle.cvss_vector.specs.v4.Vector.{v4}
@@ -24,13 +26,14 @@ pub record AreOwnMetrics (overrides : List Override) (own : OwnMetrics) : Type 0
   pub in_v3 : AreOwn v3 V3 overrides (own_value v3 own.v3)
   pub in_v4 : AreOwn v4 V4 overrides (own_value v4 own.v4)
 
--- the row's score is one that can be written
+-- the row's score is one that can be written, of a vector that has one
 pub record IsToTen (row : Row) : Type 0 where
   pub to_ten : row.tenths ≤ 100
+  pub scored : HasScore row.vector
 
 -- lines are read by rules in turn, and the scores of their rows can be written
 pub record IsReadBy (rules : Rules) (lines : List (Option (List ℕ))) (rows : List Row) (bad : List BadLine) : Type 0 where
-  pub read : (overrides : List Override) → AreOwnMetrics overrides rules.own → AreRead overrides rules.scoring rules.allow_incomplete 1 lines rows bad
+  pub read : (overrides : List Override) → AreOwnMetrics overrides rules.own → AreRead rules.prefer overrides rules.scoring rules.allow_incomplete 1 lines rows bad
   pub to_ten : All IsToTen rows
 
 -- the line of this number is read after those before it
@@ -42,3 +45,13 @@ pub record WritesRow (IsText : List ℕ → Type 0) (old new : List ℕ) : Type 
   pub text : List ℕ
   pub is_text : IsText text
   pub written : new ≡ old ++ text
+
+-- what is ranked, as the code has it
+abbrev pub rows_of : List (Option (Bor (List ℕ))) → List (Option (List ℕ))
+rows_of rows = map (λ row. option_map (λ row. row.now) row) rows
+
+-- such rows are added after those that there were
+pub record AddsRows (Are : List (Option (List ℕ)) → Type 0) (old new : List (Option (Bor (List ℕ)))) : Type 0 where
+  pub own : List (Option (List ℕ))
+  pub are : Are own
+  pub added : rows_of new ≡ rows_of old ++ own

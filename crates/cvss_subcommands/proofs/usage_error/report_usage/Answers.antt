@@ -3,7 +3,7 @@ use Rattle.cvss_frame.specs.Reports.{Reports, reported}
 use Rattle.cvss_subcommands.specs.Flags.{flag_name}
 use Rattle.cvss_subcommands.specs.UsageErrors.{line_about, usage_report}
 use Rattle.cvss_subcommands.specs.declared.help.TheConstants.{USAGE}
-use Rattle.cvss_subcommands.specs.declared.subcommand.Subcommand.TheVariants.{Score, Set}
+use Rattle.cvss_subcommands.specs.declared.subcommand.Subcommand.TheVariants.{Score, Set, Triage}
 use Rattle.cvss_subcommands.proofs.usage_error.report_usage.Goals as goal
 
 pub returns-in-UnknownCommand : goal.returns-in-UnknownCommand
@@ -41,6 +41,13 @@ returns-in-UnknownVersion g c =
     subst (λ error. Reports old new (usage_report USAGE.now error c.args.arguments.now)) (sym c.in-UnknownVersion.is)
     (subst (λ word. Reports old new (line_about (codes "cvss: unknown version '") word (codes "'; see '") (Some c.in-UnknownVersion.subcommand))) c.word_at-word-in-UnknownVersion.ensures c.report_about-in-UnknownVersion.ensures)
 
+pub returns-in-NotPreference : goal.returns-in-NotPreference
+returns-in-NotPreference g c =
+    let old = reported g.E.Write.contents c.args.report.now in
+    let new = reported g.E.Write.contents c.report_about-in-NotPreference.new.report in
+    subst (λ error. Reports old new (usage_report USAGE.now error c.args.arguments.now)) (sym c.in-NotPreference.is)
+    (subst (λ word. Reports old new (line_about (codes "cvss: '") word (codes "' is not 4.0, 3.1, 3.0, 2.0 or highest; see '") (Some Triage))) c.word_at-word-in-NotPreference.ensures c.report_about-in-NotPreference.ensures)
+
 pub returns-in-NotMetric : goal.returns-in-NotMetric
 returns-in-NotMetric g c =
     let old = reported g.E.Write.contents c.args.report.now in
@@ -75,6 +82,14 @@ returns-in-NeedsJson g c =
     subst (λ error. Reports old new (usage_report USAGE.now error c.args.arguments.now)) (sym c.in-NeedsJson.is)
     (subst (λ word. Reports old new (line_about (codes "cvss: option '") word (codes "' needs --json; see '") (Some c.in-NeedsJson.subcommand)))
     (c.as_bytes-word-in-NeedsJson.ensures.value ∙ c.name-in-NeedsJson.ensures) c.report_about-in-NeedsJson.ensures)
+
+pub returns-in-NotForVectors : goal.returns-in-NotForVectors
+returns-in-NotForVectors g c =
+    let old = reported g.E.Write.contents c.args.report.now in
+    let new = reported g.E.Write.contents c.report_about-in-NotForVectors.new.report in
+    subst (λ error. Reports old new (usage_report USAGE.now error c.args.arguments.now)) (sym c.in-NotForVectors.is)
+    (subst (λ word. Reports old new (line_about (codes "cvss: option '") word (codes "' is for files and standard input; see '") (Some c.in-NotForVectors.subcommand)))
+    (c.as_bytes-word-in-NotForVectors.ensures.value ∙ c.name-in-NotForVectors.ensures) c.report_about-in-NotForVectors.ensures)
 
 pub returns-in-NeedsTable : goal.returns-in-NeedsTable
 returns-in-NeedsTable g c =

@@ -1,10 +1,13 @@
 use Rattle.std.proofs.Common.{drop}
 use Rattle.cvss_frame.specs.Reports.{Reported, reported}
 use Rattle.cvss_triage.specs.Reports.{ReportsBadLine, ReportsEach}
+use Rattle.cvss_triage.specs.private.Steps.{rows_of}
 use Rattle.cvss_triage.proofs.report.report_bad.Given as goal
 
 -- however the lines that are left are reported, all are so
 abbrev pub invariant-loop-it : goal.invariant-loop-it
-invariant-loop-it g l = (last : Reported)
-    → ReportsEach (ReportsBadLine l.fn.places.starts.now l.fn.places.many l.fn.places.operands.now) (drop l.it-index l.fn.bad) (reported g.E.Write.contents l.report) last
-    → ReportsEach (ReportsBadLine l.fn.places.starts.now l.fn.places.many l.fn.places.operands.now) l.fn.bad (reported g.E.Write.contents l.fn.report) last
+invariant-loop-it g l =
+    let places = l.fn.places in
+    let Step = ReportsBadLine places.form (rows_of places.lines.now) places.starts.now places.many places.operands.now in
+    (last : Reported) → ReportsEach Step (drop l.it-index l.fn.bad) (reported g.E.Write.contents l.report) last
+    → ReportsEach Step l.fn.bad (reported g.E.Write.contents l.fn.report) last

@@ -9,24 +9,24 @@ use Rattle.cvss_triage.proofs.rows.write_rows.Goals.{then-shows+in_ok-write_row,
 
 pub loop-row-init : goal.loop-row-init
 loop-row-init c =
-    let asked = c.args.asked.now in
     let places = c.args.places.now in
-    texts_none (IsRowText asked.json asked.allow_incomplete places.starts.now places.many places.operands.now) c.args.text.now.bytes.items
+    texts_none (IsRowText c.args.style.now places.starts.now places.many places.operands.now) c.args.text.now.bytes.items
 
 pub loop-row-preserved : goal.loop-row-preserved
 loop-row-preserved c =
-    let asked = c.args.asked.now in
+    let gate = c.args.gate in
     let places = c.args.places.now in
+    let IsText = IsRowText c.args.style.now places.starts.now places.many places.operands.now in
     let rows = c.args.rows.now in
     let index = c.loop-row.row-index in
     let old = c.args.text.now.bytes.items in
     elim c.if-shows.branch [
       | then-shows+in_ok-write_row w ↦
-          subst (λ text. WritesRow (AreRowTexts (IsRowText asked.json asked.allow_incomplete places.starts.now places.many places.operands.now) (shown_rows asked.gate (take (index + 1) rows))) old text.bytes.items) (sym w.text-is)
-          (texts_more (IsRowText asked.json asked.allow_incomplete places.starts.now places.many places.operands.now) (λ row. shows asked.gate row.tenths) rows index _ old c.loop-row.text.bytes.items
+          subst (λ text. WritesRow (AreRowTexts IsText (shown_rows gate (take (index + 1) rows))) old text.bytes.items) (sym w.text-is)
+          (texts_more IsText (λ row. shows gate row.tenths) rows index _ old c.loop-row.text.bytes.items
           c.loop-row-test.true c.loop-row.invariant _ (sym c.shows.ensures ∙ w.if-shows.true) w.in_ok-write_row.ensures)
       | else-shows w ↦
-          subst (λ text. WritesRow (AreRowTexts (IsRowText asked.json asked.allow_incomplete places.starts.now places.many places.operands.now) (shown_rows asked.gate (take (index + 1) rows))) old text.bytes.items) (sym w.text-is)
-          (texts_kept (IsRowText asked.json asked.allow_incomplete places.starts.now places.many places.operands.now) (λ row. shows asked.gate row.tenths) rows index _ old c.loop-row.text.bytes.items
+          subst (λ text. WritesRow (AreRowTexts IsText (shown_rows gate (take (index + 1) rows))) old text.bytes.items) (sym w.text-is)
+          (texts_kept IsText (λ row. shows gate row.tenths) rows index _ old c.loop-row.text.bytes.items
           c.loop-row-test.true c.loop-row.invariant (sym c.shows.ensures ∙ w.if-shows.false))
     ]
