@@ -33,7 +33,6 @@ def counts():
     yield ("README.md", r"(\S+) tests and (\S+) stored lines of `test_vectors`",
            [found("crates/*/src/**/*.rt", r"^ *#\[test\]$"),
             lines("crates/test_vectors/stdin")])
-    yield "README.md", r"(\S+) stored lines of `test_capi`", [lines("crates/test_capi/stdin")]
     yield "CONTRIBUTING.md", r"Few are kept, (\S+) in (\S+) crates", [len(edits), len(set(edits))]
     yield "docs/ARCHITECTURE.md", r"these (\S+) functions as a static library", [functions]
     yield "docs/BINDINGS.md", r"a static library of (\S+) functions", [functions]

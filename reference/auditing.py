@@ -71,14 +71,14 @@ class Vector:
 
     @lru_cache(maxsize=10_000)
     def sub_scores(self):
-        """Exploitability and impact as NVD gives them, rounded to the nearest tenth."""
+        """Exploitability and impact as NVD gives them, rounded to the nearest tenth, which may be below 0."""
         if self.version == 40:
             return {}
         if self.version == 20:
             own = v2.exploitability(self.metrics), v2.impact(self.metrics, [None, None, None])
         else:
             own = v3.exploitability(self.metrics), v3.base_impact(self.metrics)
-        return dict(zip(("exploitabilityScore", "impactScore"), (max(0, floor(x * 10 + Fraction(1, 2))) for x in own)))
+        return dict(zip(("exploitabilityScore", "impactScore"), (floor(x * 10 + Fraction(1, 2)) for x in own)))
 
     def has_member(self, member):
         """Whether a record has to have this member: all but the version, and the scores and severities of an optional group
@@ -140,7 +140,10 @@ def number_difference(holder, member, tenths):
 
 def sub_score_differences(vector, holder):
     for member, tenths in vector.sub_scores().items():
-        yield from number_difference(holder, member, tenths)
+        says = holder.get(member)
+        # below 0 it is the equation's own number
+        if not is_number(says) or float(says) != tenths / 10:
+            yield from number_difference(holder, member, max(0, tenths))
 
 
 def severity_difference(holder, member, vector):

@@ -109,17 +109,40 @@ def cells(fields, index, allow_incomplete, base):
     return cells_of(complete.answer(found[0], allow_incomplete=allow_incomplete, base=base), found[0])
 
 
+def number_of(column):
+    """The number, 1 to 999, that a column is given by, if it is none of a name."""
+    return int(column) if re.fullmatch(rb"[0-9]{1,3}", column) and int(column) else None
+
+
+def missing_report(column):
+    """What is reported of a text that lacks the column."""
+    words = b"is named '%s'" if number_of(column) is None else b"has the number %s"
+    return b"cvss: no column " + words % complete.shown_name(column).encode() + b"\n"
+
+
+def said_by(fields, column):
+    """Which index has the column, if one is given, by the first record, and whether that is a header."""
+    if column is None:
+        return None, not vectors_in(fields)
+    number = number_of(column)
+    if number is not None:
+        if number > len(fields):
+            raise UnknownColumn(column)
+        return number - 1, not vectors_in(fields)
+    for index, field in enumerate(fields):
+        if value(field) == column:
+            return index, True
+    raise UnknownColumn(column)
+
+
 def answer(text, column=None, allow_incomplete=False, base=False, guard=False, each=False):
     """The text, without the mark with which it may begin, and six cells after those of each record, which may be written
-    once for each vector. The column is a name, an index from 0, or none. Fields may be guarded."""
-    index, written = column, []
+    once for each vector. The column is a name, a number from 1, or none. Fields may be guarded."""
+    index, written = None, []
     for number, (fields, line_end, is_open) in enumerate(records(text.removeprefix(MARK))):
-        is_header = number == 0 and not vectors_in(fields)
-        if number == 0 and isinstance(column, bytes):
-            index = next((i for i, field in enumerate(fields) if value(field) == column), None)
-            if index is None:
-                raise UnknownColumn(column)
-            is_header = True
+        is_header = False
+        if number == 0:
+            index, is_header = said_by(fields, column)
         body = b",".join(fields)
         if not body:
             appended = [] if each else [b""]
@@ -140,12 +163,12 @@ def answer(text, column=None, allow_incomplete=False, base=False, guard=False, e
 def main():
     column = next((word.partition("=")[2] for word in sys.argv if word.startswith("--column=")), None)
     if column is not None:
-        column = int(column) - 1 if column.isdecimal() else column.encode()
+        column = column.encode()
     try:
         answered = answer(sys.stdin.buffer.read(), column, "--allow-incomplete" in sys.argv, "--base" in sys.argv,
                           "--guard" in sys.argv, "--each" in sys.argv)
-    except UnknownColumn as name:
-        sys.exit(f"no column has the name {name}")
+    except UnknownColumn:
+        sys.exit(missing_report(column).decode())
     sys.stdout.buffer.write(answered)
 
 

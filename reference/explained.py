@@ -101,20 +101,24 @@ def score_row(title, scored, severity=""):
     return row(title, Fraction(scored), f" {severity}" if severity else "")
 
 
+def score_row_of_v2(title, scored):
+    return score_row(title, scored, v2.severity(scored * 10))
+
+
 def lines_of_v2(vector):
     numbers = accounts.account_of_v2(vector)
     base, temporal, environmental = numbers["base"], numbers["temporal"], numbers["environmental"]
     lines = metric_lines(vector, v2.METRICS, WORDS_OF_V2, lambda name: [numbers["weights"][name]])
     lines += [row("Impact", base["impact"]), row("Exploitability", base["exploitability"]), row("f(Impact)", base["f"]),
-              row("Before rounding", base["number"]), score_row("Base score", base["score"])]
+              row("Before rounding", base["number"]), score_row_of_v2("Base score", base["score"])]
     if any(name in vector for name in ("E", "RL", "RC")):
-        lines += [row("Before rounding", temporal["number"]), score_row("Temporal score", temporal["score"])]
+        lines += [row("Before rounding", temporal["number"]), score_row_of_v2("Temporal score", temporal["score"])]
     if any(name in vector for name in ("CDP", "TD", "CR", "IR", "AR")):
         lines += [row("Adjusted impact", environmental["adjustedImpact"]),
                   row("Adjusted base score", environmental["adjustedBase"]),
                   row("Adjusted temporal score", environmental["adjustedTemporal"]),
                   row("Before rounding", environmental["number"]),
-                  score_row("Environmental score", environmental["score"])]
+                  score_row_of_v2("Environmental score", environmental["score"])]
     return lines
 
 

@@ -3,7 +3,7 @@
 
 usage: reference/ranking.py [--set METRIC:VALUE].. [--profile FILE].. [--keep-going] [--header] [--prefer VERSION|highest]
                             [--base] [--min SCORE] [--fail-on SCORE] [--count] [--quiet] [--allow-incomplete]
-                            [--csv [--guard]] [FILE]..
+                            [--csv [--column NAME|N] [--guard]] [FILE]..
 """
 import sys
 
@@ -21,6 +21,7 @@ EXAMPLES = {2: b"AV:N/AC:L/Au:N/C:N/I:N/A:N", 3: b"CVSS:3.1/AV:N",
             4: b"CVSS:4.0/AV:N/AC:L/AT:N/PR:N/UI:N/VC:N/VI:N/VA:N/SC:N/SI:N/SA:N"}
 PREFIXES = {b"CVSS:4.0/": 4, b"CVSS:3.1/": 3, b"CVSS:3.0/": 3}
 VERSIONS = {b"4.0": 40, b"3.1": 31, b"3.0": 30, b"2.0": 20}
+NOT_METRICS = b"not v2 metrics, nor v3 or v4.0 metrics after their prefix: "
 
 
 def family(text):
@@ -89,8 +90,8 @@ def with_overrides(text, overrides, allow_incomplete):
 
 
 def rank(lines, overrides, allow_incomplete, base=False, prefer=None):
-    """The rows of the lines in their order, and the lines that have none with their indices. `None` is a record that is
-    not closed."""
+    """The rows of the lines in their order, and the lines that have none with their indices. A line is its bytes and the
+    text that has its vector, and `None` is a record that is not closed."""
 
     def rated(text):
         return (base_score if base else overall)(*setting.read(text))
@@ -106,12 +107,13 @@ def rank(lines, overrides, allow_incomplete, base=False, prefer=None):
         try:
             if line is None:
                 raise Refused("open", "a quoted field is not closed")
-            text = with_overrides(vector_of(line, prefer, score), overrides, allow_incomplete)
+            written, searched = line
+            text = with_overrides(vector_of(searched, prefer, score), overrides, allow_incomplete)
         except Refused as reason:
             bad.append((index, str(reason)))
             continue
         tenths, severity = rated(text)
-        rows.append((-tenths, line, severity, text))
+        rows.append((-tenths, written, severity, text))
     return sorted(rows), bad
 
 
@@ -156,7 +158,7 @@ def options(words):
             settings.append((word, words.pop(0)))
         elif word in (b"--min", b"--fail-on"):
             given[word] = lists.threshold(words.pop(0).decode())
-        elif word == b"--prefer":
+        elif word in (b"--prefer", b"--column"):
             given[word] = words.pop(0)
         else:
             given[word] = True
@@ -167,26 +169,36 @@ def overrides_of(settings, read):
     """Each override with what is reported of it if no vector takes it."""
     for kind, word in settings:
         if kind == b"--set":
-            yield b"no CVSS version has " + word, (None, word)
+            yield b"no CVSS version has " + complete.shown_name(word).encode(), (None, word)
             continue
         for number, line in enumerate(reference.lines_of_file(read(word)), 1):
             if line.strip(b" \t"):
-                yield word + b": line %d: no CVSS version has " % number + line, override(line)
+                yield complete.shown_name(word).encode() + b": line %d: " % number + NOT_METRICS + complete.shown_name(line).encode(), override(line)
 
 
-def records_in(text):
-    """The header of a table and what its rows end with, and each record that is to be ranked with its number."""
+def records_in(text, column):
+    """The header of a table and what its rows end with, and each record that is to be ranked with its number. Its vector is
+    in its bytes, or in the value of its cell in the column."""
     records = list(csv_lists.records(text.removeprefix(csv_lists.MARK)))
-    bodies = [None if is_open else b",".join(fields) for fields, _, is_open in records]
-    header = bodies[0] if bodies and bodies[0] and not list(finding.found(bodies[0])) else None
-    line_end = b"\r\n" if records and records[0][1] == b"\r\n" else b"\n"
-    return header, line_end, [(number, body) for number, body in enumerate(bodies, 1) if body != b""][header is not None:]
+    header, line_end, index, lines = None, b"\n", None, []
+    for number, (fields, end, is_open) in enumerate(records, 1):
+        body = b",".join(fields)
+        if number == 1:
+            line_end = b"\r\n" if end == b"\r\n" else b"\n"
+            index, is_header = (None, not list(finding.found(body))) if column is None else csv_lists.said_by(fields, column)
+            header = body if is_header and body and not is_open else None
+        if is_open:
+            lines.append((number, None))
+        elif body and (number > 1 or header is None):
+            cell = csv_lists.value(b"".join(fields[index:index + 1])) if column is not None else body
+            lines.append((number, (body, cell)))
+    return header, line_end, lines
 
 
 def lines_in(text, headers):
     """The header of a list, and each other line with its number."""
     lines = list(enumerate(reference.lines_of_file(text), 1))
-    return lines[0][1] if headers and lines else None, b"\n", lines[headers:]
+    return lines[0][1] if headers and lines else None, b"\n", [(number, (line, line)) for number, line in lines[headers:]]
 
 
 def shown(rows, bad, top, text_of, given):
@@ -205,10 +217,14 @@ def run(words, read):
     unknown = [report for report, override in overrides if not is_known(override)]
     if unknown:
         return 2, b"", b"".join(b"cvss: " + report + b"\n" for report in unknown)
-    csv, guard = b"--csv" in given, b"--guard" in given
+    csv, guard, missing = b"--csv" in given, b"--guard" in given, []
+    column = given.get(b"--column")
     places, lines, tops = [], [], []
     for name in operands or [b"-"]:
-        header, line_end, own = records_in(read(name)) if csv else lines_in(read(name), b"--header" in given)
+        try:
+            header, line_end, own = records_in(read(name), column) if csv else lines_in(read(name), b"--header" in given)
+        except csv_lists.UnknownColumn:
+            header, line_end, own, missing = None, b"\n", [], [column]
         tops.append((header, line_end))
         front = (name + b": " if len(operands) > 1 else b"") + (b"record" if csv else b"line")
         places += [front + b" %d: " % number for number, _ in own]
@@ -220,10 +236,12 @@ def run(words, read):
     rows, bad = rank(lines, [override for _, override in overrides], b"--allow-incomplete" in given, b"--base" in given,
                      given.get(b"--prefer"))
     reasons = [reason.replace("on this line", "in this record") if csv else reason for _, reason in bad]
-    reports = b"".join(b"cvss: " + places[index] + reason.encode("utf-8") + b"\n" for (index, _), reason in zip(bad, reasons))
+    reports = b"".join(map(csv_lists.missing_report, missing))
+    reports += b"".join(b"cvss: " + places[index] + reason.encode("utf-8") + b"\n" for (index, _), reason in zip(bad, reasons))
     text_of = (lambda row: record_text(row, guard, line_end)) if csv else row_text
-    written, fails = shown(rows, bad, top, text_of, given) if not bad or b"--keep-going" in given else (b"", False)
-    return int(bool(bad) or fails), written, reports
+    is_shown = not (bad or missing) or b"--keep-going" in given
+    written, fails = shown(rows, bad, top, text_of, given) if is_shown else (b"", False)
+    return 2 if missing else int(bool(bad) or fails), written, reports
 
 
 def read(name):

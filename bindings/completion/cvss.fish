@@ -19,7 +19,7 @@ complete -c cvss -n '__fish_seen_subcommand_from score find explain triage audit
 complete -c cvss -n '__fish_seen_subcommand_from score find set diff triage' -l base -d 'Base scores'
 complete -c cvss -n '__fish_seen_subcommand_from score find explain set diff triage audit' -l allow-incomplete -d 'Accept v3 vectors that lack base metrics'
 complete -c cvss -n '__fish_seen_subcommand_from score find triage' -l csv -d 'CSV with six cells more'
-complete -c cvss -n '__fish_seen_subcommand_from score find' -l column -x -d 'The column with the vectors'
+complete -c cvss -n '__fish_seen_subcommand_from score find triage' -l column -x -d 'The column with the vectors'
 complete -c cvss -n '__fish_seen_subcommand_from score find triage' -l guard -d 'Put an apostrophe before cells that a spreadsheet would run'
 complete -c cvss -n '__fish_seen_subcommand_from score' -l standard -d 'Reject what the standard does not allow'
 complete -c cvss -n '__fish_seen_subcommand_from score find triage audit' -l min -x -a 'low medium high critical' -d 'Pass over lower scores'

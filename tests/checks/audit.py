@@ -43,7 +43,8 @@ PLANTED = {
               ("/matches/0/vulnerability/cvss/2", "version")],
     "nvd": [("/vulnerabilities/0/cve/metrics/cvssMetricV31/2/cvssData", "exploitabilityScore impactScore"),
             ("/vulnerabilities/0/cve/metrics/cvssMetricV31/4/cvssData", "scope impactScore"),
-            ("/vulnerabilities/1/cve/metrics/cvssMetricV2/0/cvssData", "baseSeverity exploitabilityScore impactScore")],
+            ("/vulnerabilities/1/cve/metrics/cvssMetricV2/0/cvssData", "baseSeverity exploitabilityScore impactScore"),
+            ("/vulnerabilities/1/cve/metrics/cvssMetricV31/2/cvssData", "impactScore")],
     "osv": [("/severity/1", "type")],
     "spdx": [("/@graph/3", "security_score security_severity"), ("/@graph/5", "error"), ("/@graph/7", "security_severity")],
     "trivy": [("/Results/0/Vulnerabilities/0/CVSS/nvd", "V2Score"), ("/Results/0/Vulnerabilities/0/CVSS/redhat", "V3Score"),
@@ -311,7 +312,7 @@ class Drawing:
             members = {self.pick("cvssData", "cvssData", "cvssV3_1", "cvss_v2", "cvss_v4", "cvssV2", "cvssV3"): self.record(text, known),
                     "baseSeverity": self.value(severity and severity.upper()), "severity": self.value(severity and severity.upper())}
             for member in ("exploitabilityScore", "impactScore"):
-                members[member] = self.value(parts[member] / 10 if member in parts else None)
+                members[member] = self.value(self.pick(parts[member], max(0, parts[member])) / 10 if member in parts else None)
         return {name: value for name, value in members.items() if self.chance(0.9)}
 
     def document(self, depth=0):

@@ -63,7 +63,7 @@ def try_usage_errors():
     """One line says what is wrong with the arguments, and where help is."""
     all_scores = " does not go with '--json', which prints all scores"
     for arguments, problem, topic in (
-            (["scores"], "unknown command 'scores'", None), ([b"a\n"], "unknown command 'a\n'", None),
+            (["scores"], "unknown command 'scores'", None), ([b"a\n"], "unknown command 'a\\n'", None),
             (["-"], "unknown command '-'", None), (["--helper"], "unknown option '--helper'", None),
             (["-v"], "unknown option '-v'", None), (["--version", "x"], "unexpected argument 'x'", None),
             (["version", "-V"], "unexpected argument '-V'", None), (["-h", "-h"], "unexpected argument '-h'", None),
@@ -107,6 +107,8 @@ def try_usage_errors():
               for words in (["--json", "--annotate"], ["--annotate", "--count"], ["--count", "--min", "low"],
                             ["--min", "7", "--quiet"], ["--fail-on", "7"], ["--quiet"], ["--assume", "3.1"])),
             (["find", "--column", "x", "--guard"], "option '--column' needs --csv", "find"),
+            (["triage", "--guard", "--column", "x", "--json", "--count"], "option '--column' needs --csv", "triage"),
+            (["triage", "--csv", "--column"], "option '--column' needs a value", "triage"),
             (["find", "--json", "--guard"], "option '--guard' needs --csv", "find"),
             (["find", "--csv", "--column"], "option '--column' needs a value", "find"),
             (["score", "--column=1", "--tsv"], "option '--column' needs --csv", "score"),
@@ -125,7 +127,7 @@ def try_usage_errors():
             (["find", "--annotate", "--json", "--base"], "--base" + all_scores, "find")):
         help_command = f"cvss help {topic}" if topic else "cvss help"
         expect(2, b"", f"cvss: {problem}; see '{help_command}'\n".encode(), *arguments)
-    expect(2, b"", b"cvss: unknown command '\xff'; see 'cvss help'\n", b"\xff")
+    expect(2, b"", b"cvss: unknown command '\\xff'; see 'cvss help'\n", b"\xff")
 
 
 def try_base():
@@ -161,6 +163,8 @@ def try_order(room):
     for arguments in ([BASE, "--set", "E:P"], ["--set=E:P", BASE], [BASE, "--set=E:P"], [BASE, "--set=E:U", "--set", "E:P"]):
         expect(0, ranked, b"", "triage", *arguments)
     expect(2, b"", b"cvss: no CVSS version has --\n", "triage", BASE, "--set", "--")
+    for word, shown in (b"--x\x1b[31m", b"--x\\u001b[31m"), (b"-\n\xff", b"-\\x0a\\xff"), ("-\u202e".encode(), b"-\\u202e"):
+        expect(2, b"", b"cvss: unknown option '" + shown + b"'; see 'cvss help score'\n", "score", word)
     headed = b"vector\n" + BASE + b"/E:P\n"
     top = b"score severity vector\tvector\n"
     expect(0, top + ranked.replace(b"\t" + BASE, b"\t" + BASE + b"/E:P"), b"", "triage", "--header", given=headed)

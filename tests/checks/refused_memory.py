@@ -3,8 +3,8 @@
 
 The input, and the answers with ample memory, come from stored lines:
 
-- `test_vectors` answers all of its lines except those for many values at once (`each`) and those
-  about JSON: they go through the parser of each version and of any version, the parsers of metrics
+- `test_vectors` answers all of its lines except those for many values at once (`each`), those about
+  JSON and those about C: they go through the parser of each version and of any version, the parsers of metrics
   and of their values, triage and overrides.
 - By the mark `json` it reads the text of each vector there as a JSON string, writes the vector as
   one, and copies the error of a rejected text; its stored lines with that mark do the same for
@@ -138,10 +138,13 @@ def runs(shim, program, given, *arguments):
 
 
 def stored(program):
-    """The stored lines of a program: the mark of each, its input, and the answer."""
+    """The stored lines of a program, those about C aside: the mark of each, its input, and the answer."""
     given, answers = ((ROOT / f"crates/{program}/{name}").read_bytes().split(b"\n")[:-1]
                       for name in ("stdin", "stdout"))
     for line, answer in zip(given, answers, strict=True):
+        # what C gets takes no memory
+        if line.startswith(b"c "):
+            continue
         marked = MARKED.fullmatch(line)
         mark, asked = marked.groups() if marked else (b"", line)
         yield mark.decode(), asked, answer.decode()
@@ -299,7 +302,7 @@ def main():
         shim = build(room)
         refuse_in_turn(shim, "test_vectors", in_batches(
             [(f"{mark} ".encode() * bool(mark) + line, expected(mark, answer))
-             for mark, line, answer in asked if mark not in ("each", "json", "record", "differ", "places")]),
+             for mark, line, answer in asked if mark not in ("each", "json", "record", "differ", "locations")]),
              (0, 1), "lines")
         refuse_in_turn(shim, "test_vectors", in_batches(list(strings())), (0, 1), "strings")
         lines, wanted = zip(*texts)

@@ -115,7 +115,7 @@ def try_rejections(runs):
         runs.expect("cvss_tool", "".join(f"{text}\n" for text, _ in lines).encode(),
                     (1, "".join(f"error: {words}\n" for _, words in lines).encode(), ""))
         for text, _ in lines:
-            _, ((_, words),) = ranking.rank([text.encode()], [], False)
+            _, ((_, words),) = ranking.rank([(text.encode(), text.encode())], [], False)
             runs.expect("cvss_command", f"{LOW}\n{text}".encode(), (1, b"", f"cvss: line 2: {words}\n"), ["triage"])
         try_triage(runs, "q" * size)
         try_unknown(runs, "q" * size)
@@ -155,7 +155,7 @@ def try_whole(runs):
 
 def row(text, metrics):
     """The row of a text with these metrics set."""
-    rows, _ = ranking.rank([text.encode()], [(None, metric.encode()) for metric in metrics], False)
+    rows, _ = ranking.rank([(text.encode(), text.encode())], [(None, metric.encode()) for metric in metrics], False)
     return ranking.row_text(*rows)
 
 

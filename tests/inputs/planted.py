@@ -84,6 +84,8 @@ class Planted:
         """Another value of the same kind."""
         if isinstance(value, float):
             choices = [self.draw.randrange(101) / 10, value + 0.05, value - 1, 0, 10, 11, str(value)]
+            # a sub-score below 0 may be 0 too, and a string with a sign is none
+            choices = [other for other in choices if value >= 0 or other and not isinstance(other, str)]
         elif value in auditing.SPDX_TYPES.values():
             choices = auditing.SPDX_TYPES.values()
         elif value in auditing.METHODS.values():
@@ -91,6 +93,10 @@ class Planted:
         else:
             choices = [*WORDS, *auditing.VERSION_NAMES.values()]
         return self.draw.choice([other for other in choices if other != value])
+
+    def sub_scores(self, known):
+        """Those of a vector, where one below 0 may be 0."""
+        return {member: self.draw.choice((tenths, max(0, tenths))) / 10 for member, tenths in known.sub_scores().items()}
 
     def finish(self, holder, fault, places, already=()):
         """Makes some of the members wrong, each an object and a name in it, unless the vector has a fault itself."""
@@ -152,8 +158,7 @@ class Planted:
         text, known, fault = self.vector()
         holder, places = self.record(text, known)
         entry = {"source": "nvd@nist.gov", "type": "Primary", "cvssData": holder}
-        for member, tenths in known.sub_scores().items():
-            entry[member] = tenths / 10
+        entry |= self.sub_scores(known)
         if known.version == 20:
             entry["baseSeverity"] = known.severity_of(known.score).upper()
         places += [(entry, name) for name in entry if name not in ("source", "type", "cvssData")]
@@ -182,7 +187,7 @@ class Planted:
                 text, known, fault = self.vector(versions)
                 holder, places = self.record(text, known)
                 outer, name = OF_FEED[known.version]
-                entry = {member: tenths / 10 for member, tenths in known.sub_scores().items()}
+                entry = self.sub_scores(known)
                 if known.version == 20:
                     entry["severity"] = known.severity_of(known.score).upper()
                 places += [(entry, member) for member in entry]
@@ -249,7 +254,7 @@ class Planted:
         text, known, fault = self.vector()
         holder = {"source": "nvd@nist.gov", "version": auditing.VERSION_NAMES[known.version], "vector": text,
                   "metrics": {"baseScore": known.score / 10}, "vendorMetadata": {}}
-        holder["metrics"] |= {member: tenths / 10 for member, tenths in known.sub_scores().items()}
+        holder["metrics"] |= self.sub_scores(known)
         places = [(holder["metrics"], member) for member in holder["metrics"]]
         self.finish(holder, fault, [(holder, "version"), *places])
         return holder

@@ -53,7 +53,8 @@ function errorLine(made, [, , , start, length]) {
 
 const line = (made) => made && (made.vector ? `${made.vector} -` : `- ${made.error.message}`);
 
-// What the package answers to a row of test_capi, whose src/main.rt says what each mark asks: null where it cannot be asked.
+// What the package answers to a row of test_vectors about C, whose src/capi.rt says what each mark asks: null where it
+// cannot be asked.
 // Of an error it is given the expected columns.
 const MARKS = {
   facts: (text, options) => factsOf(text, options),
@@ -92,10 +93,12 @@ function expectedOf(mark, row) {
 }
 
 function checkMarks() {
-  const expected = textsOf("crates/test_capi/stdout");
+  const expected = textsOf("crates/test_vectors/stdout");
   const counts = {};
   let compared = 0;
-  linesOf("crates/test_capi/stdin").forEach((asked, row) => {
+  linesOf("crates/test_vectors/stdin").forEach((whole, row) => {
+    if (!String(whole).startsWith("c ")) return;
+    const asked = whole.subarray("c ".length);
     const isComplete = String(asked).startsWith("complete ");
     const own = isComplete ? asked.subarray("complete ".length) : asked;
     const mark = String(own).split(" ", 1)[0];

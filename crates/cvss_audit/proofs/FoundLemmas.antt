@@ -1,4 +1,4 @@
--- What is found at the places of a document, one after another.
+-- What is found at the locations of a document, one after another.
 use Rattle.std.proofs.Common.{◌≡◌, ℕ, ◌+◌, Bool, true, false, ◌&&◌, if◌then◌else◌, List, [], ◌∷◌, ◌++◌, length, take, flat_map, Option, Some, inl, inr, refl, sym, ap, ap₂, ◌∙◌, subst, append_assoc, append-nil}
 use Rattle.std.proofs.KnownBytes.{Appends-kept, Appends-nil, Appends-trans}
 use Rattle.std.proofs.Math.Bool.{and-true}
@@ -12,19 +12,19 @@ use Rattle.cvss_lines.specs.Answers.{Answer, Accepted, Rejected, is_accepted, wr
 use Rattle.cvss_lines.specs.Streaming.{IsPassed, WritesWaiting}
 use Rattle.cvss_lines.specs.declared.fault.RunFault.{RunFault}
 use Rattle.cvss_lines.specs.declared.fault.RunFault.TheVariants.{Memory, Write}
-use Rattle.cvss_audit.specs.Places.{Place, places_in}
+use Rattle.cvss_audit.specs.Locations.{Location, locations_in}
 use Rattle.cvss_audit.specs.Answers.{AreFound, Begins, BeginsFound, Found, IsAnswer, IsFound, all_agree, answer_of, texts_of, written_found}
 use Rattle.cvss_audit.specs.Inputs.{Input}
-use Rattle.cvss_audit.specs.private.Writing.{Answers, PassFound, StopsAnswering, StopsFound, StreamsFound, WritesPlace}
+use Rattle.cvss_audit.specs.private.Writing.{Answers, PassFound, StopsAnswering, StopsFound, StreamsFound, WritesLocation}
 use Rattle.serde_json.specs.Data.{Data}
 use Rattle.serde_json.specs.Read.{read}
 
-AreFound-push : (input : Input) (places : List Place) (found : List Found) (place : Place) (last : Found)
-    → AreFound input places found → IsFound input place last → AreFound input (places ++ place ∷ []) (found ++ last ∷ [])
-AreFound-push input [] [] place last are is = (is, tt)
-AreFound-push input [] (each ∷ more) place last are is = absurd are
-AreFound-push input (each ∷ more) [] place last are is = absurd are
-AreFound-push input (first ∷ places) (each ∷ more) place last are is = (are.0, AreFound-push input places more place last are.1 is)
+AreFound-push : (input : Input) (locations : List Location) (found : List Found) (location : Location) (last : Found)
+    → AreFound input locations found → IsFound input location last → AreFound input (locations ++ location ∷ []) (found ++ last ∷ [])
+AreFound-push input [] [] location last are is = (is, tt)
+AreFound-push input [] (each ∷ more) location last are is = absurd are
+AreFound-push input (each ∷ more) [] location last are is = absurd are
+AreFound-push input (first ∷ locations) (each ∷ more) location last are is = (are.0, AreFound-push input locations more location last are.1 is)
 
 all_agree-push : (found : List Found) (last : Found) → all_agree (found ++ last ∷ []) ≡ (all_agree found && last.agrees)
 all_agree-push found last =
@@ -42,10 +42,10 @@ written-push found last old middle new before next =
     ∙ ap (λ bytes. old ++ bytes) (sym (flat_map-append written_text (texts_of found) last.texts))
     ∙ ap (λ texts. old ++ flat_map written_text texts) (sym (texts_of-push found last))
 
-module _ (input : Input) (places : List Place) where
-  -- before the first place
-  pub StreamsFound-start : (left : List Place) (old : List ℕ) (w : Option (List ℕ)) → left ≡ places
-      → StreamsFound input places left old old w w true
+module _ (input : Input) (locations : List Location) where
+  -- before the first location
+  pub StreamsFound-start : (left : List Location) (old : List ℕ) (w : Option (List ℕ)) → left ≡ locations
+      → StreamsFound input locations left old old w w true
   StreamsFound-start left old w all = record {
     seen = [];
     split = sym all;
@@ -58,22 +58,22 @@ module _ (input : Input) (places : List Place) where
     together = sym (append-nil old);
   }
 
-  -- the places that are seen with one more, and those that are left
-  split_more : (seen : List Place) (place : Place) (left left' : List Place) → places ≡ seen ++ left → left ≡ place ∷ left'
-      → places ≡ (seen ++ place ∷ []) ++ left'
-  split_more seen place left left' split next =
-      split ∙ ap (λ each. seen ++ each) next ∙ sym (append_assoc seen (place ∷ []) left')
+  -- the locations that are seen with one more, and those that are left
+  split_more : (seen : List Location) (location : Location) (left left' : List Location) → locations ≡ seen ++ left → left ≡ location ∷ left'
+      → locations ≡ (seen ++ location ∷ []) ++ left'
+  split_more seen location left left' split next =
+      split ∙ ap (λ each. seen ++ each) next ∙ sym (append_assoc seen (location ∷ []) left')
 
-  -- what is found at one more place is in what was and what may be written
-  found_more : (seen : List Place) (place : Place) (left left' : List Place) (found : List Found) (last : Found)
-      → places ≡ seen ++ left → left ≡ place ∷ left' → AreFound input seen found → IsFound input place last
-      → BeginsFound input places (written_found (found ++ last ∷ []))
-  found_more seen place left left' found last split next are is = record {
-    first = seen ++ place ∷ [];
+  -- what is found at one more location is in what was and what may be written
+  found_more : (seen : List Location) (location : Location) (left left' : List Location) (found : List Found) (last : Found)
+      → locations ≡ seen ++ left → left ≡ location ∷ left' → AreFound input seen found → IsFound input location last
+      → BeginsFound input locations (written_found (found ++ last ∷ []))
+  found_more seen location left left' found last split next are is = record {
+    first = seen ++ location ∷ [];
     others = left';
-    split = split_more seen place left left' split next;
+    split = split_more seen location left left' split next;
     found = found ++ last ∷ [];
-    are_found = AreFound-push input seen found place last are is;
+    are_found = AreFound-push input seen found location last are is;
     written = refl;
   }
 
@@ -83,21 +83,21 @@ module _ (input : Input) (places : List Place) where
       ap (λ bytes. passed ++ bytes) written ∙ sym (append_assoc passed waits (flat_map written_text last.texts))
       ∙ written-push found last old (passed ++ waits) ((passed ++ waits) ++ flat_map written_text last.texts) together refl
 
-  -- after one more place, of which what waited may be written
-  pub StreamsFound-next : (place : Place) (left left' : List Place) (old waits middle new : List ℕ) (w w' w'' : Option (List ℕ)) (agree agrees : Bool)
-      → left ≡ place ∷ left' → StreamsFound input places left old waits w w' agree → WritesPlace input place waits middle agrees
-      → WritesWaiting middle new w' w'' → StreamsFound input places left' old new w w'' (agree && agrees)
-  StreamsFound-next place left left' old waits middle new w w' w'' agree agrees next before wrote = by_case where
+  -- after one more location, of which what waited may be written
+  pub StreamsFound-next : (location : Location) (left left' : List Location) (old waits middle new : List ℕ) (w w' w'' : Option (List ℕ)) (agree agrees : Bool)
+      → left ≡ location ∷ left' → StreamsFound input locations left old waits w w' agree → WritesLocation input location waits middle agrees
+      → WritesWaiting middle new w' w'' → StreamsFound input locations left' old new w w'' (agree && agrees)
+  StreamsFound-next location left left' old waits middle new w w' w'' agree agrees next before wrote = by_case where
     all : before.passed ++ middle ≡ old ++ written_found (before.found ++ wrote.found ∷ [])
     all = together_push before.passed waits old middle before.found wrote.found before.together wrote.written
 
-    more : (passed : List ℕ) → PassFound input places old passed → Appends w w'' passed
-        → passed ++ new ≡ old ++ written_found (before.found ++ wrote.found ∷ []) → StreamsFound input places left' old new w w'' (agree && agrees)
+    more : (passed : List ℕ) → PassFound input locations old passed → Appends w w'' passed
+        → passed ++ new ≡ old ++ written_found (before.found ++ wrote.found ∷ []) → StreamsFound input locations left' old new w w'' (agree && agrees)
     more passed pass appended together = record {
-      seen = before.seen ++ place ∷ [];
-      split = split_more before.seen place left left' before.split next;
+      seen = before.seen ++ location ∷ [];
+      split = split_more before.seen location left left' before.split next;
       found = before.found ++ wrote.found ∷ [];
-      are_found = AreFound-push input before.seen before.found place wrote.found before.are_found wrote.is_found;
+      are_found = AreFound-push input before.seen before.found location wrote.found before.are_found wrote.is_found;
       reported = ap₂ (λ (a b : Bool). a && b) before.reported wrote.reported ∙ sym (all_agree-push before.found wrote.found);
       passed = passed;
       pass = pass;
@@ -105,25 +105,25 @@ module _ (input : Input) (places : List Place) where
       together = together;
     }
 
-    by_case : WritesWaiting middle new w' w'' → StreamsFound input places left' old new w w'' (agree && agrees)
+    by_case : WritesWaiting middle new w' w'' → StreamsFound input locations left' old new w w'' (agree && agrees)
     by_case (inl kept) =
         more before.passed before.pass (Appends-kept w w' w'' before.passed before.appended kept.1) (ap (λ bytes. before.passed ++ bytes) kept.0 ∙ all)
     by_case (inr flushed) =
         more (before.passed ++ middle)
-        (inr (written_found (before.found ++ wrote.found ∷ []), found_more before.seen place left left' before.found wrote.found before.split next before.are_found wrote.is_found, all))
+        (inr (written_found (before.found ++ wrote.found ∷ []), found_more before.seen location left left' before.found wrote.found before.split next before.are_found wrote.is_found, all))
         (Appends-trans w w' w'' before.passed middle before.appended flushed.1)
         (ap (λ bytes. (before.passed ++ middle) ++ bytes) flushed.0 ∙ append-nil (before.passed ++ middle) ∙ all)
 
-  -- a write failed after one more place
-  pub StopsFound-write : (place : Place) (left left' : List Place) (old waits middle : List ℕ) (w w' w'' : Option (List ℕ)) (agree agrees : Bool) (fault : RunFault)
-      → left ≡ place ∷ left' → StreamsFound input places left old waits w w' agree → WritesPlace input place waits middle agrees
-      → (fault ≡ Write) × ((count : ℕ) × Appends w' w'' (take count middle)) → StopsFound input places old w w'' fault
-  StopsFound-write place left left' old waits middle w w' w'' agree agrees fault next before wrote stopped = record {
+  -- a write failed after one more location
+  pub StopsFound-write : (location : Location) (left left' : List Location) (old waits middle : List ℕ) (w w' w'' : Option (List ℕ)) (agree agrees : Bool) (fault : RunFault)
+      → left ≡ location ∷ left' → StreamsFound input locations left old waits w w' agree → WritesLocation input location waits middle agrees
+      → (fault ≡ Write) × ((count : ℕ) × Appends w' w'' (take count middle)) → StopsFound input locations old w w'' fault
+  StopsFound-write location left left' old waits middle w w' w'' agree agrees fault next before wrote stopped = record {
     no_read = λ read. absurd (cc stopped.0);
     memory = λ memory. absurd (cc stopped.0);
     write = λ _. record {
       begun = written_found (before.found ++ wrote.found ∷ []);
-      begins = found_more before.seen place left left' before.found wrote.found before.split next before.are_found wrote.is_found;
+      begins = found_more before.seen location left left' before.found wrote.found before.split next before.are_found wrote.is_found;
       count = length before.passed + stopped.1.0;
       appended = subst (Appends w w'')
           (sym (take-append-add before.passed middle stopped.1.0)
@@ -145,14 +145,14 @@ reported_answer found = reported (all_agree found) where
 
 -- what may be written of a document
 pass_document : (input : Input) (text old passed : List ℕ) (document : Data) → read text ≡ Some document
-    → PassFound input (places_in document) old passed → IsPassed (λ _. Begins input) 1 text old passed
+    → PassFound input (locations_in document) old passed → IsPassed (λ _. Begins input) 1 text old passed
 pass_document input text old passed document reads (inl none) = inl none
 pass_document input text old passed document reads (inr some) =
     inr (some.0, record { document = document; reads = reads; begins = some.1 }, some.2)
 
--- the answer to a document whose places are all seen
+-- the answer to a document whose locations are all seen
 pub Streams-document : (input : Input) (text old new : List ℕ) (w w' : Option (List ℕ)) (agree : Bool) (document : Data) → IsUtf8 text
-    → read text ≡ Some document → StreamsFound input (places_in document) [] old new w w' agree
+    → read text ≡ Some document → StreamsFound input (locations_in document) [] old new w w' agree
     → Answers input text old new w w' agree
 unfolding IsAnswer
 Streams-document input text old new w w' agree document utf8 reads streams = record {
@@ -174,7 +174,7 @@ Streams-document input text old new w w' agree document utf8 reads streams = rec
 
 -- a fault in the midst of a document
 pub Stops-document : (input : Input) (text old : List ℕ) (w w' : Option (List ℕ)) (fault : RunFault) (document : Data) → read text ≡ Some document
-    → StopsFound input (places_in document) old w w' fault → StopsAnswering input text old w w' fault
+    → StopsFound input (locations_in document) old w w' fault → StopsAnswering input text old w w' fault
 Stops-document input text old w w' fault document reads stops = record {
   no_read = stops.no_read;
   memory = λ is.

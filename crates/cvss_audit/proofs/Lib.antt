@@ -3,10 +3,10 @@ mod BeginningLemmas
 mod EndsLemmas
 mod FilesLemmas
 mod FoundLemmas
+mod LocationsLemmas
 mod ObjectLemmas
 mod OneLineLemmas
 mod PartsLemmas
-mod PlacesLemmas
 mod PlainLemmas
 mod PointerLemmas
 mod PrintsLemmas

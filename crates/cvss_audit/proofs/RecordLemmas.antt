@@ -26,7 +26,7 @@ use Rattle.cvss_vector.specs.declared.group.Group.TheVariants.{Base, Temporal, E
 use Rattle.cvss_report.specs.declared.score.Scores.{Scores}
 use Rattle.cvss_report.specs.Groups.{tenths_at}
 use Rattle.cvss_report.specs.laws.Members.{ascend}
-use Rattle.cvss_report.specs.Words.{Row}
+use Rattle.cvss_report.specs.Words.{ValueWord}
 use Rattle.cvss_report.specs.WordsV2 as words_v2
 use Rattle.cvss_report.specs.WordsV3 as words_v3
 use Rattle.cvss_report.specs.WordsV4 as words_v4
@@ -77,9 +77,9 @@ score_range : (tenths : Option ℕ) → IfSome tenths (λ each. each ≤ 100) �
 score_range None within = tt
 score_range (Some tenths) within = within
 
-word_range : (rows : List Row) (spelling : Option (List ℕ)) → InRange (Some (word_expected rows spelling))
-word_range rows None = tt
-word_range rows (Some spelling) = tt
+word_range : (words : List ValueWord) (spelling : Option (List ℕ)) → InRange (Some (word_expected words spelling))
+word_range words None = tt
+word_range words (Some spelling) = tt
 
 severity_range : (cvss : Cvss) (tenths : Option ℕ) → InRange (option_map (severity_expected cvss) tenths)
 severity_range cvss None = tt

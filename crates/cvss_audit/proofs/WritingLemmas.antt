@@ -11,7 +11,7 @@ use Rattle.cvss_audit.specs.Inputs.{Input}
 use Rattle.cvss_audit.specs.Members.{Member, object_of, with_members}
 use Rattle.cvss_audit.specs.Lines.{AreDifferenceLines, AreVectorLines, IsDifferenceLine, missing_lines}
 use Rattle.cvss_audit.specs.Objects.{missing_of}
-use Rattle.cvss_audit.specs.Places.{Place}
+use Rattle.cvss_audit.specs.Locations.{Location}
 use Rattle.cvss_audit.specs.private.Writing.{WritesLine, WritesTexts}
 use Rattle.cvss_audit.proofs.ObjectLemmas.{with_members-append}
 use Rattle.serde_json.specs.Data.{Members, no_members, object}
@@ -21,10 +21,10 @@ pub one_written : (P : List (List ℕ) → Type 0) (text old new : List ℕ) →
 one_written P text old new is written = record { texts = text ∷ []; are = is; written = one_text old text new written }
 
 -- a line is written before those of the other differences
-pub difference_written : (input : Input) (place : Place) (difference : Difference) (rest : List Difference) (old middle new : List ℕ)
-    → WritesLine (IsDifferenceLine input place difference) old middle → WritesTexts (AreDifferenceLines input place rest) middle new
-    → WritesTexts (AreDifferenceLines input place (difference ∷ rest)) old new
-difference_written input place difference rest old middle new line others = record {
+pub difference_written : (input : Input) (location : Location) (difference : Difference) (rest : List Difference) (old middle new : List ℕ)
+    → WritesLine (IsDifferenceLine input location difference) old middle → WritesTexts (AreDifferenceLines input location rest) middle new
+    → WritesTexts (AreDifferenceLines input location (difference ∷ rest)) old new
+difference_written input location difference rest old middle new line others = record {
   texts = line.text ∷ others.texts;
   are = (line.is, others.are);
   written = others.written ∙ ap (λ bytes. bytes ++ flat_map written_text others.texts) line.written
@@ -32,11 +32,11 @@ difference_written input place difference rest old middle new line others = reco
 }
 
 -- the lines about an accepted vector are written
-pub vector_written : (input : Input) (place : Place) (cvss : Cvss) (differences : List Difference) (old middle new : List ℕ)
-    → middle ≡ old ++ flat_map written_text (missing_lines input.allow_incomplete input place (missing_of cvss))
-    → WritesTexts (AreDifferenceLines input place differences) middle new → WritesTexts (AreVectorLines input place cvss differences) old new
-vector_written input place cvss differences old middle new first others =
-    let missing = missing_lines input.allow_incomplete input place (missing_of cvss) in
+pub vector_written : (input : Input) (location : Location) (cvss : Cvss) (differences : List Difference) (old middle new : List ℕ)
+    → middle ≡ old ++ flat_map written_text (missing_lines input.allow_incomplete input location (missing_of cvss))
+    → WritesTexts (AreDifferenceLines input location differences) middle new → WritesTexts (AreVectorLines input location cvss differences) old new
+vector_written input location cvss differences old middle new first others =
+    let missing = missing_lines input.allow_incomplete input location (missing_of cvss) in
     record {
       texts = missing ++ others.texts;
       are = record { lines = others.texts; are_lines = others.are; are = refl };

@@ -17,99 +17,99 @@ use Rattle.cvss_audit.specs.Differences.{Difference}
 use Rattle.cvss_audit.specs.Findings.{Finding, IsFinding, IsRatedIn, agrees, rejected, tenths_of, vector}
 use Rattle.cvss_audit.specs.Inputs.{Input, line_of}
 use Rattle.cvss_audit.specs.Lines.{AreLines, error_line}
-use Rattle.cvss_audit.specs.Objects.{accepted_members, place_members, error_member, error_value}
-use Rattle.cvss_audit.specs.Places.{Place, places_in}
+use Rattle.cvss_audit.specs.Objects.{accepted_members, location_members, error_member, error_value}
+use Rattle.cvss_audit.specs.Locations.{Location, locations_in}
 use Rattle.cvss_report.specs.Gates.{is_failing, is_passed_over as is_below}
 use Rattle.cvss_report.specs.declared.gate.Gate.{Gate}
 use Rattle.cvss_audit.specs.declared.documents.input.AuditForm.{AuditForm}
 use Rattle.cvss_audit.specs.declared.documents.input.AuditForm.TheVariants.{Disagreements, Objects, DifferingObjects}
 
 -- the facts of a vector that an object reports, and the differences from them in the document
-pub record IsVectorObject (input : Input) (place : Place) (cvss : Cvss) (differences : List Difference) (value : Data) : Type 0 where
+pub record IsVectorObject (input : Input) (location : Location) (cvss : Cvss) (differences : List Difference) (value : Data) : Type 0 where
   pub scores : Evaluation
   pub are_scores : IsEvaluation cvss scores
-  pub is : value ≡ object_of (place_members input place ++ accepted_members cvss scores differences)
+  pub is : value ≡ object_of (location_members input location ++ accepted_members cvss scores differences)
 
--- the object says of what is found at the place
-abbrev pub IsObjectOf : Input → Place → Finding → Data → Type 0
-IsObjectOf input place (vector cvss differences) value = IsVectorObject input place cvss differences value
-IsObjectOf input place (rejected reason) value = value ≡ object_of (place_members input place ++ error_member reason ∷ [])
+-- the object says of what is found at the location
+abbrev pub IsObjectOf : Input → Location → Finding → Data → Type 0
+IsObjectOf input location (vector cvss differences) value = IsVectorObject input location cvss differences value
+IsObjectOf input location (rejected reason) value = value ≡ object_of (location_members input location ++ error_member reason ∷ [])
 
 -- the one text is that object
-pub record AreObjects (input : Input) (place : Place) (finding : Finding) (texts : List (List ℕ)) : Type 0 where
+pub record AreObjects (input : Input) (location : Location) (finding : Finding) (texts : List (List ℕ)) : Type 0 where
   pub value : Data
-  pub is_object : IsObjectOf input place finding value
+  pub is_object : IsObjectOf input location finding value
   pub text : List ℕ
   pub is_text : IsTextOf value text
   pub are : texts ≡ text ∷ []
 
 -- there is an object only where something is wrong
-abbrev pub AreObjectsUnless : Bool → Input → Place → Finding → List (List ℕ) → Type 0
-AreObjectsUnless true input place finding texts = texts ≡ []
-AreObjectsUnless false input place finding texts = AreObjects input place finding texts
+abbrev pub AreObjectsUnless : Bool → Input → Location → Finding → List (List ℕ) → Type 0
+AreObjectsUnless true input location finding texts = texts ≡ []
+AreObjectsUnless false input location finding texts = AreObjects input location finding texts
 
--- the texts in this form say of what is found at the place
-abbrev pub AreTextsIn : AuditForm → Input → Place → Finding → List (List ℕ) → Type 0
-AreTextsIn Disagreements input place finding texts = AreLines input place finding texts
-AreTextsIn Objects input place finding texts = AreObjects input place finding texts
-AreTextsIn DifferingObjects input place finding texts = AreObjectsUnless (agrees input finding) input place finding texts
+-- the texts in this form say of what is found at the location
+abbrev pub AreTextsIn : AuditForm → Input → Location → Finding → List (List ℕ) → Type 0
+AreTextsIn Disagreements input location finding texts = AreLines input location finding texts
+AreTextsIn Objects input location finding texts = AreObjects input location finding texts
+AreTextsIn DifferingObjects input location finding texts = AreObjectsUnless (agrees input finding) input location finding texts
 
 -- nothing is written for a vector that is passed over, and nothing where nothing is printed
 abbrev pub is_hidden : Gate → Option ℕ → Bool
 is_hidden gate score = is_below gate score || gate.quiet
 
-abbrev pub AreTextsIf : Bool → Input → Place → Finding → List (List ℕ) → Type 0
-AreTextsIf true input place finding texts = texts ≡ []
-AreTextsIf false input place finding texts = AreTextsIn input.form input place finding texts
+abbrev pub AreTextsIf : Bool → Input → Location → Finding → List (List ℕ) → Type 0
+AreTextsIf true input location finding texts = texts ≡ []
+AreTextsIf false input location finding texts = AreTextsIn input.form input location finding texts
 
 -- the vector is passed over; or all agrees, and the gate does not fail on the vector
 abbrev pub is_clean : Gate → Option ℕ → Bool → Bool
 is_clean gate score agrees = is_below gate score || (agrees && not (is_failing gate score))
 
--- what is written for a place, and whether its vector is passed over, or is accepted and allowed, does not fail and nothing
--- differs
+-- what is written for a location, and whether its vector is passed over, or is accepted and allowed, does not fail and
+-- nothing differs
 pub record Found : Type 0 where
   pub texts : List (List ℕ)
   pub agrees : Bool
 
--- this is found at the place
-pub record IsFound (input : Input) (place : Place) (found : Found) : Type 0 where
+-- this is found at the location
+pub record IsFound (input : Input) (location : Location) (found : Found) : Type 0 where
   pub finding : Finding
-  pub is_finding : IsFinding place finding
+  pub is_finding : IsFinding location finding
   pub rated : Option Rated
   pub is_rated : IsRatedIn input finding rated
-  pub are_texts : AreTextsIf (is_hidden input.gate (tenths_of rated)) input place finding found.texts
+  pub are_texts : AreTextsIf (is_hidden input.gate (tenths_of rated)) input location finding found.texts
   pub reported : found.agrees ≡ is_clean input.gate (tenths_of rated) (agrees input finding)
 
--- these are found at the places, in their order
-abbrev pub AreFound : Input → List Place → List Found → Type 0
+-- these are found at the locations, in their order
+abbrev pub AreFound : Input → List Location → List Found → Type 0
 AreFound input [] [] = ⊤
 AreFound input [] (found ∷ more) = ⊥
-AreFound input (place ∷ places) [] = ⊥
-AreFound input (place ∷ places) (found ∷ more) = IsFound input place found × AreFound input places more
+AreFound input (location ∷ locations) [] = ⊥
+AreFound input (location ∷ locations) (found ∷ more) = IsFound input location found × AreFound input locations more
 
 -- all vectors are accepted and allowed, and nothing differs
 abbrev pub all_agree : List Found → Bool
 all_agree found = list_all (λ each. each.agrees) found
 
--- the texts for the places
+-- the texts for the locations
 abbrev pub texts_of : List Found → List (List ℕ)
 texts_of found = flat_map (λ each. each.texts) found
 
--- what is written for places, each text with a byte 10
+-- what is written for locations, each text with a byte 10
 abbrev pub written_found : List Found → List ℕ
 written_found found = flat_map written_text (texts_of found)
 
--- the bytes are what is written for the first of the places
-pub record BeginsFound (input : Input) (places : List Place) (bytes : List ℕ) : Type 0 where
-  pub first : List Place
-  pub others : List Place
-  pub split : places ≡ first ++ others
+-- the bytes are what is written for the first of the locations
+pub record BeginsFound (input : Input) (locations : List Location) (bytes : List ℕ) : Type 0 where
+  pub first : List Location
+  pub others : List Location
+  pub split : locations ≡ first ++ others
   pub found : List Found
   pub are_found : AreFound input first found
   pub written : bytes ≡ written_found found
 
--- the answer to a document: what is written for its places. The document is accepted if all agree.
+-- the answer to a document: what is written for its locations. The document is accepted if all agree.
 abbrev pub answer_of : List Found → Answer
 answer_of found = if all_agree found then Accepted (texts_of found) else Rejected (texts_of found)
 
@@ -171,7 +171,7 @@ pub record IsDocument (input : Input) (text : List ℕ) (answer : Answer) : Type
   pub document : Data
   pub reads : read text ≡ Some document
   pub found : List Found
-  pub are_found : AreFound input (places_in document) found
+  pub are_found : AreFound input (locations_in document) found
   pub is : answer ≡ answer_of found
 
 -- this is an answer to the text of a document
@@ -183,7 +183,7 @@ IsAnswer input text answer =
 pub record Begins (input : Input) (text bytes : List ℕ) : Type 0 where
   pub document : Data
   pub reads : read text ≡ Some document
-  pub begins : BeginsFound input (places_in document) bytes
+  pub begins : BeginsFound input (locations_in document) bytes
 
 -- an answer to the line of this number, where each line is a document
 abbrev pub IsLineAnswer : Input → Rule

@@ -10,20 +10,21 @@ use Rattle.cvss_base.specs.SeverityText.{text_of as severity_text}
 use Rattle.serde_json.specs.Data.{Data, Members, no_members, member, string}
 use Rattle.serde_json.specs.Find.{as_number, as_str}
 use Rattle.serde_json.specs.View.{view}
-use Rattle.cvss_audit.specs.Expected.{agrees, expected_at, expected_value, is_text}
+use Rattle.cvss_audit.specs.Expected.{agrees, expected_at, expected_value, is_number, is_text}
 use Rattle.cvss_report.specs.Record.{Expected, text, score, severity_word}
 use Rattle.cvss_report.specs.Groups.{AreScoresOf}
 use Rattle.cvss_audit.specs.Members.{Member}
-use Rattle.cvss_audit.specs.Places.{Around, Place, given_at, is_among, object_at, text_at}
+use Rattle.cvss_audit.specs.Locations.{Around, Location, given_at, is_among, object_at, text_at}
+use Rattle.cvss_audit.specs.Scores.{minus_two_tenths}
 use Rattle.cvss_audit.specs.SubScores.{AreSubScoresOf}
 use Rattle.cvss_vector.specs.Evaluation.{version_of, version_text}
 use Rattle.cvss_audit.specs.declared.disagreements.claim.Claim as code_claim
-use Rattle.cvss_audit.specs.declared.disagreements.claim.Claim.TheVariants.{Number, Text, Severity}
+use Rattle.cvss_audit.specs.declared.disagreements.claim.Claim.TheVariants.{Number, Impact, Text, Severity}
 use Rattle.cvss_audit.specs.declared.disagreements.difference.Difference as code
 use Rattle.cvss_audit.specs.declared.disagreements.difference.Said.{Said}
 use Rattle.cvss_audit.specs.declared.disagreements.difference.Said.TheVariants.{Value, Name}
-use Rattle.cvss_audit.specs.declared.places.form.Form.{Form}
-use Rattle.cvss_audit.specs.declared.places.form.Form.TheVariants.{Record, GitHub, Osv, Rating, TrivyV2, TrivyV3, TrivyV40, RustSec, Spdx}
+use Rattle.cvss_audit.specs.declared.locations.form.Form.{Form}
+use Rattle.cvss_audit.specs.declared.locations.form.Form.TheVariants.{Record, GitHub, Osv, Rating, TrivyV2, TrivyV3, TrivyV40, RustSec, Spdx}
 use Rattle.cvss_audit.specs.declared.expected.sub_scores.SubScores.{SubScores}
 use Rattle.cvss_report.specs.declared.score.Scores.{Scores}
 
@@ -40,10 +41,11 @@ list_of (member name said rest) = (name, said) ∷ list_of rest
 abbrev pub difference_from : Member → Expected → Option Difference
 difference_from said expected = if agrees expected said.1 then None else Some (said.0, said.1, expected_value expected)
 
--- what a member is to say: so many tenths, if it is a number or written as one in a string; a text; or a severity, unless it is
--- unknown
+-- what a member is to say: so many tenths, if it is a number or written as one in a string; an impact, which may be 0 or -0.2
+-- where it is below 0; a text; or a severity, unless it is unknown
 pub data Claim : Type 0 where
   tenths : ℕ → Claim
+  impact : ℕ → Bool → Claim
   word : List ℕ → Claim
   severity : List ℕ → Claim
 
@@ -56,9 +58,15 @@ begins_with_digit (byte ∷ _) = is_ascii_digit byte
 abbrev pub is_numeric : Data → Bool
 is_numeric said = is_some (as_number said) || unwrap_or (option_map begins_with_digit (as_str said)) false
 
--- what is expected of a value by a claim, if anything is; a string is no number, so it disagrees
+-- so many tenths are expected of a value that is numeric; a string is no number, so it disagrees
+abbrev pub expected_number : ℕ → Data → Option Expected
+expected_number count said = if is_numeric said then Some (score count) else None
+
+-- what is expected of a value by a claim, if anything is
 abbrev pub expected_by : Claim → Data → Option Expected
-expected_by (tenths count) said = if is_numeric said then Some (score count) else None
+expected_by (tenths count) said = expected_number count said
+expected_by (impact count below_zero) said =
+    if below_zero && is_number minus_two_tenths said then None else expected_number count said
 expected_by (word expected) said = Some (text expected)
 expected_by (severity expected) said = if is_text (codes "unknown") said then None else Some (text expected)
 
@@ -110,7 +118,7 @@ abbrev pub part_differences : Option SubScores → Members → List Difference
 part_differences None object = []
 part_differences (Some reported) object =
     differences_at (codes "exploitabilityScore") (tenths reported.exploitability) object
-    ++ differences_at (codes "impactScore") (tenths reported.impact) object
+    ++ differences_at (codes "impactScore") (impact reported.impact reported.is_below_zero) object
 
 -- the differences of the base score and the sub-scores in `metrics`, as grype has them
 abbrev pub metrics_differences : Scores → Option SubScores → Option Members → List Difference
@@ -259,22 +267,23 @@ around_differences cvss scores parts (Some around) =
     ++ (outer_differences cvss around.2
     ++ (severity_differences cvss scores.base around ++ sub_score_differences parts around))
 
--- the differences at a place: those of the object's members, and then those of what is around it
-abbrev pub differences_of : Cvss → Scores → Option SubScores → Place → List Difference
-differences_of cvss scores parts place =
-    member_differences cvss scores parts place.1 place.3 ++ around_differences cvss scores parts place.4.0
+-- the differences at a location: those of the object's members, and then those of what is around it
+abbrev pub differences_of : Cvss → Scores → Option SubScores → Location → List Difference
+differences_of cvss scores parts location =
+    member_differences cvss scores parts location.1 location.3 ++ around_differences cvss scores parts location.4.0
 
--- these are the differences at the place from the vector
-pub record AreDifferencesAt (cvss : Cvss) (place : Place) (differences : List Difference) : Type 0 where
+-- these are the differences at the location from the vector
+pub record AreDifferencesAt (cvss : Cvss) (location : Location) (differences : List Difference) : Type 0 where
   pub scores : Scores
   pub are_scores : AreScoresOf cvss scores
   pub parts : Option SubScores
   pub are_parts : AreSubScoresOf cvss parts
-  pub are : differences ≡ differences_of cvss scores parts place
+  pub are : differences ≡ differences_of cvss scores parts location
 
 -- a claim, as the code holds it
 abbrev pub claim_view : code_claim.Claim → Claim
 claim_view (Number count) = tenths count
+claim_view (Impact count below_zero) = impact count below_zero
 claim_view (Text expected) = word expected.now
 claim_view (Severity expected) = severity expected.now
 

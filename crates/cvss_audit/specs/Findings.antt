@@ -15,7 +15,7 @@ use Rattle.cvss_vector.specs.declared.vector.Cvss.{Cvss}
 use Rattle.cvss_report.specs.Tallies.{at_most}
 use Rattle.cvss_audit.specs.Differences.{AreDifferencesAt, Difference, difference_view}
 use Rattle.cvss_audit.specs.Inputs.{Input}
-use Rattle.cvss_audit.specs.Places.{Place}
+use Rattle.cvss_audit.specs.Locations.{Location}
 use Rattle.cvss_audit.specs.declared.written.finding.Finding as code
 
 -- a vector, and where the document disagrees with it; or why there is none
@@ -24,9 +24,9 @@ pub data Finding : Type 0 where
   rejected : List ℕ → Finding
 
 -- the text denotes the vector, with which the document disagrees here
-pub record IsVectorAt (place : Place) (text : List ℕ) (cvss : Cvss) (differences : List Difference) : Type 0 where
+pub record IsVectorAt (location : Location) (text : List ℕ) (cvss : Cvss) (differences : List Difference) : Type 0 where
   pub denoted : DenotesCvss text cvss
-  pub are_differences : AreDifferencesAt cvss place differences
+  pub are_differences : AreDifferencesAt cvss location differences
 
 -- the text denotes no vector, for this first reason
 pub record IsReason (text reason : List ℕ) : Type 0 where
@@ -35,15 +35,15 @@ pub record IsReason (text reason : List ℕ) : Type 0 where
   pub no_want : error ≢ OutOfMemory
   pub is : reason ≡ error_text error
 
--- this is found at the place, where this text is, or no string
-abbrev pub IsFoundFor : Place → Option (List ℕ) → Finding → Type 0
-IsFoundFor place (Some text) (vector cvss differences) = IsVectorAt place text cvss differences
-IsFoundFor place (Some text) (rejected reason) = IsReason text reason
-IsFoundFor place None (vector cvss differences) = ⊥
-IsFoundFor place None (rejected reason) = reason ≡ codes "not a string"
+-- this is found at the location, where this text is, or no string
+abbrev pub IsFoundFor : Location → Option (List ℕ) → Finding → Type 0
+IsFoundFor location (Some text) (vector cvss differences) = IsVectorAt location text cvss differences
+IsFoundFor location (Some text) (rejected reason) = IsReason text reason
+IsFoundFor location None (vector cvss differences) = ⊥
+IsFoundFor location None (rejected reason) = reason ≡ codes "not a string"
 
-abbrev pub IsFinding : Place → Finding → Type 0
-IsFinding place finding = IsFoundFor place place.2 finding
+abbrev pub IsFinding : Location → Finding → Type 0
+IsFinding location finding = IsFoundFor location location.2 finding
 
 -- nothing differs
 abbrev pub nothing_differs : List Difference → Bool

@@ -6,10 +6,10 @@ pub mod Findings
 pub mod Files
 pub mod Inputs
 pub mod Lines
+pub mod Locations
+pub mod LocationsLeft
 pub mod Members
 pub mod Objects
-pub mod Places
-pub mod PlacesLeft
 pub mod Scores
 pub mod SubScores
 pub mod Task

@@ -11,7 +11,7 @@ use Rattle.cvss_audit.specs.Differences.{Difference}
 use Rattle.cvss_audit.specs.Findings.{Finding, vector, rejected}
 use Rattle.cvss_audit.specs.Inputs.{Input}
 use Rattle.cvss_audit.specs.Objects.{missing_of}
-use Rattle.cvss_audit.specs.Places.{Place}
+use Rattle.cvss_audit.specs.Locations.{Location}
 
 -- the name of the file and a colon
 abbrev pub file_text : Option (List ℕ) → List ℕ
@@ -40,16 +40,16 @@ abbrev pub id_text : Option (List ℕ) → List ℕ
 id_text None = []
 id_text (Some id) = escaped id ++ codes " "
 
--- the beginning of a line about a place
-abbrev pub start_text : Input → Place → List ℕ
-start_text input place = location_text input place.0 ++ id_text place.4.1
+-- the beginning of a line about a location
+abbrev pub start_text : Input → Location → List ℕ
+start_text input location = location_text input location.0 ++ id_text location.4.1
 
 -- a line that says why a vector, or a document, is rejected
 abbrev pub reason_text : List ℕ → List ℕ
 reason_text reason = codes "error: " ++ escaped reason
 
-abbrev pub rejected_line : Input → Place → List ℕ → List ℕ
-rejected_line input place reason = start_text input place ++ reason_text reason
+abbrev pub rejected_line : Input → Location → List ℕ → List ℕ
+rejected_line input location reason = start_text input location ++ reason_text reason
 
 abbrev pub error_line : Input → List ℕ → List ℕ
 error_line input reason = location_text input [] ++ reason_text reason
@@ -58,14 +58,14 @@ error_line input reason = location_text input [] ++ reason_text reason
 abbrev pub name_text : List ℕ → List ℕ
 name_text name = 32 ∷ name
 
-abbrev pub missing_line : Input → Place → List (List ℕ) → List ℕ
-missing_line input place names = start_text input place ++ (codes "missing:" ++ flat_map name_text names)
+abbrev pub missing_line : Input → Location → List (List ℕ) → List ℕ
+missing_line input location names = start_text input location ++ (codes "missing:" ++ flat_map name_text names)
 
 -- that line, where it lacks some and may not
-abbrev pub missing_lines : Bool → Input → Place → List (List ℕ) → List (List ℕ)
-missing_lines true input place names = []
-missing_lines false input place [] = []
-missing_lines false input place (name ∷ names) = missing_line input place (name ∷ names) ∷ []
+abbrev pub missing_lines : Bool → Input → Location → List (List ℕ) → List (List ℕ)
+missing_lines true input location names = []
+missing_lines false input location [] = []
+missing_lines false input location (name ∷ names) = missing_line input location (name ∷ names) ∷ []
 
 -- how a value is written: as in JSON, a number with any digits that read back; an array or an object by its kind
 abbrev pub IsSaid : Data → List ℕ → Type 0
@@ -82,28 +82,28 @@ IsWanted null text = text ≡ codes "absent"
 IsWanted value text = IsSaid value text
 
 -- a line that says what a member says, and what it should
-pub record IsDifferenceLine (input : Input) (place : Place) (difference : Difference) (line : List ℕ) : Type 0 where
+pub record IsDifferenceLine (input : Input) (location : Location) (difference : Difference) (line : List ℕ) : Type 0 where
   pub says : List ℕ
   pub is_said : IsSaid difference.1 says
   pub wanted : List ℕ
   pub is_wanted : IsWanted difference.2 wanted
-  pub are : line ≡ start_text input place ++ (escaped difference.0 ++ (codes ": says " ++ (says ++ (codes ", should be " ++ wanted))))
+  pub are : line ≡ start_text input location ++ (escaped difference.0 ++ (codes ": says " ++ (says ++ (codes ", should be " ++ wanted))))
 
 -- a line for each difference, in their order
-abbrev pub AreDifferenceLines : Input → Place → List Difference → List (List ℕ) → Type 0
-AreDifferenceLines input place [] [] = ⊤
-AreDifferenceLines input place [] (line ∷ lines) = ⊥
-AreDifferenceLines input place (difference ∷ differences) [] = ⊥
-AreDifferenceLines input place (difference ∷ differences) (line ∷ lines) =
-    IsDifferenceLine input place difference line × AreDifferenceLines input place differences lines
+abbrev pub AreDifferenceLines : Input → Location → List Difference → List (List ℕ) → Type 0
+AreDifferenceLines input location [] [] = ⊤
+AreDifferenceLines input location [] (line ∷ lines) = ⊥
+AreDifferenceLines input location (difference ∷ differences) [] = ⊥
+AreDifferenceLines input location (difference ∷ differences) (line ∷ lines) =
+    IsDifferenceLine input location difference line × AreDifferenceLines input location differences lines
 
 -- the lines about an accepted vector
-pub record AreVectorLines (input : Input) (place : Place) (cvss : Cvss) (differences : List Difference) (texts : List (List ℕ)) : Type 0 where
+pub record AreVectorLines (input : Input) (location : Location) (cvss : Cvss) (differences : List Difference) (texts : List (List ℕ)) : Type 0 where
   pub lines : List (List ℕ)
-  pub are_lines : AreDifferenceLines input place differences lines
-  pub are : texts ≡ missing_lines input.allow_incomplete input place (missing_of cvss) ++ lines
+  pub are_lines : AreDifferenceLines input location differences lines
+  pub are : texts ≡ missing_lines input.allow_incomplete input location (missing_of cvss) ++ lines
 
--- the lines about what is found at a place
-abbrev pub AreLines : Input → Place → Finding → List (List ℕ) → Type 0
-AreLines input place (vector cvss differences) texts = AreVectorLines input place cvss differences texts
-AreLines input place (rejected reason) texts = texts ≡ rejected_line input place reason ∷ []
+-- the lines about what is found at a location
+abbrev pub AreLines : Input → Location → Finding → List (List ℕ) → Type 0
+AreLines input location (vector cvss differences) texts = AreVectorLines input location cvss differences texts
+AreLines input location (rejected reason) texts = texts ≡ rejected_line input location reason ∷ []

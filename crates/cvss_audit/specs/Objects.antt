@@ -18,7 +18,7 @@ use Rattle.cvss_vector.specs.declared.vector.Cvss.{Cvss}
 use Rattle.cvss_vector.specs.declared.vector.Cvss.TheVariants.{CvssV20, CvssV30, CvssV31, CvssV40}
 use Rattle.cvss_audit.specs.Differences.{Difference}
 use Rattle.cvss_audit.specs.Members.{Member, object_of}
-use Rattle.cvss_audit.specs.Places.{Place}
+use Rattle.cvss_audit.specs.Locations.{Location}
 use Rattle.cvss_audit.specs.Scores.{score_value}
 use Rattle.serde_json.specs.Data.{Data, unsigned, number, string, array}
 use Rattle.serde_json.specs.View.{items_of}
@@ -43,10 +43,10 @@ abbrev pub error_value : Input → List ℕ → Data
 error_value input reason = object_of (input_members input ++ error_member reason ∷ [])
 
 -- where a vector is, in which document, by the id of the nearest object that has one, and its text as it is there
-abbrev pub place_members : Input → Place → List Member
-place_members input place =
-    (codes "at", string place.0)
-    ∷ (input_members input ++ (member_if (codes "id") (option_map string place.4.1) ++ member_if (codes "given") (option_map string place.2)))
+abbrev pub location_members : Input → Location → List Member
+location_members input location =
+    (codes "at", string location.0)
+    ∷ (input_members input ++ (member_if (codes "id") (option_map string location.4.1) ++ member_if (codes "given") (option_map string location.2)))
 
 -- the value of a score
 abbrev pub rated_value : Rated → Data

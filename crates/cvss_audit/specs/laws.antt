@@ -1,3 +1,4 @@
+pub mod Impacts
 pub mod ObjectTexts
 pub mod Pointers
 pub mod Records

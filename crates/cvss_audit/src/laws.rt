@@ -1,18 +1,22 @@
-//! Laws of places, objects and records, each the contract of a function that does nothing. A proof that needs a law calls
-//! it.
+//! Laws of locations, objects and records, each the contract of a function that does nothing. A proof
+//! that needs a law calls it.
 
-ghost use Rattle.std.specs.Prelude.{◌≡◌, All, Float, ℕ, List, Some};
+ghost use Rattle.std.specs.Prelude.{◌≡◌, All, Float, ℕ, List, Some, true};
 ghost use Rattle.cvss_vector.specs.declared.vector.Cvss.{Cvss};
 ghost use Rattle.cvss_base.specs.Equality.{ClonesAlways, ClonesByValue, EqualsByValue};
 ghost use Rattle.cvss_audit.specs.Members.{Member, object_of};
-ghost use Rattle.cvss_audit.specs.Places.{places_in};
+ghost use Rattle.cvss_audit.specs.Locations.{locations_in};
+ghost use Rattle.cvss_audit.specs.SubScores.{is_below_zero};
 ghost use Rattle.cvss_audit.specs.Texts.{IsTextOf};
+ghost use Rattle.cvss_audit.specs.laws.Impacts.{IsNearMinusTwoTenths};
 ghost use Rattle.cvss_audit.specs.laws.ObjectTexts.{AreInOrder, AreMemberTexts, IsUnescaped};
 ghost use Rattle.cvss_audit.specs.laws.Pointers.{HasNamesOnce, LeadsTo};
 ghost use Rattle.cvss_audit.specs.laws.Records.{AreInRange, record_members};
 ghost use Rattle.cvss_report.specs.Record.{IsRecordText};
 ghost use Rattle.cvss_json.specs.Json as written;
 ghost use Rattle.cvss_laws.specs.any.GivenBack.{IsGivenBack};
+ghost use Rattle.cvss_score.specs.v3.Scores.{impact};
+ghost use Rattle.cvss_score.specs.declared.v3.weights.Weights.{Weights};
 ghost use Rattle.json.specs.Print.{IsNumber};
 ghost use Rattle.serde_json.specs.Data.{Data, float, number, object, string};
 ghost use Rattle.serde_json.specs.Read.{number_of};
@@ -21,10 +25,10 @@ use crate::{Around, AuditForm, Context, Counts, Form};
 use cvss_laws::any::texts_denote_one_vector;
 
 /// In a document whose objects have each name once, as a document has that was read, the pointer of
-/// each place leads to the place's object.
+/// each location leads to the location's object.
 pub fn pointers_lead_to_objects()
     ensures { (document : Data) → HasNamesOnce document
-        → All (λ place. LeadsTo place.0 document (object place.3)) (places_in document) }
+        → All (λ location. LeadsTo location.0 document (object location.3)) (locations_in document) }
 {}
 
 /// A record determines its vector: two vectors that their own texts give back, as each vector is that
@@ -59,12 +63,17 @@ pub fn records_read_back()
     written_objects_read_back();
 }
 
+/// Where Impact of CVSS v3 is below 0, -0.2 is the tenth that is nearest to it.
+pub fn impacts_below_zero_are_near_minus_two_tenths()
+    ensures { (w : Weights) → is_below_zero w ≡ true → IsNearMinusTwoTenths (impact w) }
+{}
+
 /// Two forms are equal exactly if they are one value.
 pub fn equality_is_that_of_values()
     ensures { EqualsByValue ⟦<Form as PartialEq>⟧.eq }
 {}
 
-/// A clone of a form, of counts, or of what is around a place, is that value.
+/// A clone of a form, of counts, or of what is around a location, is that value.
 pub fn clones_are_equal()
     ensures audit_form { ClonesByValue ⟦<AuditForm as Clone>⟧.is_clone }
     ensures around { ClonesByValue ⟦<Around<'static> as Clone>⟧.is_clone }
@@ -73,7 +82,7 @@ pub fn clones_are_equal()
     ensures form { ClonesByValue ⟦<Form as Clone>⟧.is_clone }
 {}
 
-/// To clone a form, counts, or what is around a place, takes no memory, so it is never refused.
+/// To clone a form, counts, or what is around a location, takes no memory, so it is never refused.
 pub fn values_are_cloned_without_memory()
     ensures audit_form { ClonesAlways ⟦<AuditForm as Clone>⟧.is_infallible }
     ensures around { ClonesAlways ⟦<Around<'static> as Clone>⟧.is_infallible }

@@ -10,9 +10,9 @@ use crate::group::MetricGroup;
 use std::alloc::Global;
 
 /// The abbreviation, the name in words, the group, and the metric as messages have it.
-pub type Row = (&'static str, &'static str, MetricGroup, &'static str);
+pub type MetricFacts = (&'static str, &'static str, MetricGroup, &'static str);
 
-/// The row of a version, a group, an abbreviation and a name in words.
+/// The facts of a metric, by its version, group, abbreviation and name in words.
 macro_rules! row {
     ($version:ident $group:ident $name:ident $words:literal) => {
         (
@@ -34,7 +34,7 @@ pub trait Named: Copy + 'static {
 
     ghost declared: { List Self };
 
-    fn row(self) -> Row
+    fn row(self) -> MetricFacts
         ensures abbreviation { result.0.now ≡ (row_of self).0 }
         ensures words { result.1.now ≡ (row_of self).1 }
         ensures group { result.2 ≡ (row_of self).2 }

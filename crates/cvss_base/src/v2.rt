@@ -8,7 +8,7 @@ ghost use Rattle.cvss_base.specs.V2Types.{v2_reason, row_of, name_of, descriptio
 
 use crate::error::Error;
 use crate::group::MetricGroup::{self, Base, Environmental, Temporal};
-use crate::named::{Named, Row, from_name, row};
+use crate::named::{MetricFacts, Named, from_name, row};
 use MetricType::*;
 use std::alloc::Global;
 use std::fmt;
@@ -36,7 +36,7 @@ pub enum MetricType {
 const ALL: [MetricType; 14] = [A, AC, AV, Au, C, I, E, RL, RC, CDP, TD, CR, IR, AR];
 
 /// The abbreviation of each metric type, its name in words and its group, as they are declared.
-const ROWS: [Row; 14] = [
+const ROWS: [MetricFacts; 14] = [
     row!(v2 Base A "Availability Impact"),
     row!(v2 Base AC "Access Complexity"),
     row!(v2 Base AV "Access Vector"),
@@ -98,7 +98,7 @@ impl Named for MetricType {
 
     ghost first = { Prim.search rules };
 
-    fn row(self) -> Row {
+    fn row(self) -> MetricFacts {
         let row = &ROWS[self as usize];
         *row
     }

@@ -8,7 +8,7 @@ ghost use Rattle.cvss_base.specs.V3Types.{v3_reason, row_of, name_of, descriptio
 
 use crate::error::Error;
 use crate::group::MetricGroup::{self, Base, Environmental, Temporal};
-use crate::named::{Named, Row, from_name, row};
+use crate::named::{MetricFacts, Named, from_name, row};
 use MetricType::*;
 use std::alloc::Global;
 use std::fmt;
@@ -46,7 +46,7 @@ const ALL: [MetricType; 22] = [
 ];
 
 /// The abbreviation of each metric type, its name in words and its group, as they are declared.
-const ROWS: [Row; 22] = [
+const ROWS: [MetricFacts; 22] = [
     row!(v3 Base A "Availability Impact"),
     row!(v3 Base AC "Attack Complexity"),
     row!(v3 Base AV "Attack Vector"),
@@ -116,7 +116,7 @@ impl Named for MetricType {
 
     ghost first = { Prim.search rules };
 
-    fn row(self) -> Row {
+    fn row(self) -> MetricFacts {
         let row = &ROWS[self as usize];
         *row
     }

@@ -8,7 +8,7 @@ ghost use Rattle.cvss_base.specs.V4Types.{v4_reason, row_of, name_of, descriptio
 
 use crate::error::Error;
 use crate::group::MetricGroup::{self, Base, Environmental, Supplemental, Threat};
-use crate::named::{Named, Row, from_name, row};
+use crate::named::{MetricFacts, Named, from_name, row};
 use MetricType::*;
 use std::alloc::Global;
 use std::fmt;
@@ -60,7 +60,7 @@ const ALL: [MetricType; MOST_METRICS] = [
 ];
 
 /// The abbreviation of each metric type, its name in words and its group, as they are declared.
-const ROWS: [Row; MOST_METRICS] = [
+const ROWS: [MetricFacts; MOST_METRICS] = [
     row!(v4 Base AC "Attack Complexity"),
     row!(v4 Base AT "Attack Requirements"),
     row!(v4 Base AV "Attack Vector"),
@@ -147,7 +147,7 @@ impl Named for MetricType {
 
     ghost first = { Prim.search rules };
 
-    fn row(self) -> Row {
+    fn row(self) -> MetricFacts {
         let row = &ROWS[self as usize];
         *row
     }

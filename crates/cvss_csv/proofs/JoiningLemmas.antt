@@ -5,10 +5,10 @@ use Rattle.std.specs.Io.BufRead.{ends_with_byte}
 use Rattle.std.proofs.lemmas.Bool.{and_parts, cases_Bool, cond-true, cond-false, eqb-true, ltb-true}
 use Rattle.std.proofs.lemmas.List.{take_all, take_more}
 use Rattle.cvss_lines.specs.Lines.{all_but_last, last_piece}
-use Rattle.cvss_csv.specs.Fields.{comma, cut, fields, is_end, line_feed, next, place_after}
+use Rattle.cvss_csv.specs.Fields.{comma, cut, fields, is_end, line_feed, next, state_after}
 use Rattle.cvss_csv.specs.Records.{ended_record, is_open, is_quoted, last_record, pieces, record_text, records}
-use Rattle.cvss_csv.specs.declared.place.Place.{Place}
-use Rattle.cvss_csv.specs.declared.place.Place.TheVariants.{Start, Plain, Quoted, Closing}
+use Rattle.cvss_csv.specs.declared.state.State.{State}
+use Rattle.cvss_csv.specs.declared.state.State.TheVariants.{Start, Plain, Quoted, Closing}
 use Rattle.cvss_csv.proofs.CuttingLemmas.{end_is, end_outside}
 
 some_onto : (x : ℕ) (parts : List (List ℕ)) → 0 < length (onto_first x parts)
@@ -16,7 +16,7 @@ some_onto x [] = omega arith
 some_onto x (part ∷ parts) = omega arith
 
 -- there is a piece
-pub some_piece : (d : ℕ) (p : Place) (xs : List ℕ) → 0 < length (cut d p xs)
+pub some_piece : (d : ℕ) (p : State) (xs : List ℕ) → 0 < length (cut d p xs)
 some_piece d p [] = omega arith
 some_piece d p (x ∷ xs) = elim (cases_Bool (is_end d p x)) [
   | inl holds ↦ subst (λ (ps : List (List ℕ)). 0 < length ps) (sym (cond-true (is_end d p x) ([] ∷ cut d Start xs) (onto_first x (cut d (next p x) xs)) holds)) (omega arith)
@@ -33,7 +33,7 @@ join_onto d x (part ∷ []) = refl
 join_onto d x (part ∷ another ∷ parts) = refl
 
 -- the pieces, with the delimiter between each two, are the text
-pub join_cut : (d : ℕ) (p : Place) (xs : List ℕ) → join_with_byte d (cut d p xs) ≡ xs
+pub join_cut : (d : ℕ) (p : State) (xs : List ℕ) → join_with_byte d (cut d p xs) ≡ xs
 join_cut d p [] = refl
 join_cut d p (x ∷ xs) = elim (cases_Bool (is_end d p x)) [
   | inl holds ↦
@@ -90,7 +90,7 @@ pub join_records : (text : List ℕ) → flat_map record_text (records text) ≡
 join_records text = records_of_pieces (pieces text) (some_piece line_feed Start text) ∙ join_cut line_feed Start text
 
 -- after a comma that ends a field the next one begins
-restarts : (p : Place) (x : ℕ) → is_end comma p x ≡ true → next p x ≡ Start
+restarts : (p : State) (x : ℕ) → is_end comma p x ≡ true → next p x ≡ Start
 restarts Start x ends = ap (next Start) (eqb-true x comma ends)
 restarts Plain x ends = ap (next Plain) (eqb-true x comma ends)
 restarts Quoted x ends = absurd (true≢false (sym ends))
@@ -100,11 +100,11 @@ onto_append : (x : ℕ) (parts more : List (List ℕ)) → 0 < length parts → 
 onto_append x [] more some = absurd (omega (arith, some))
 onto_append x (part ∷ parts) more some = refl
 
-append_cut : (p : Place) (xs more : List ℕ) → is_quoted (place_after p xs) ≡ false → cut comma p (xs ++ comma ∷ more) ≡ cut comma p xs ++ cut comma Start more
+append_cut : (p : State) (xs more : List ℕ) → is_quoted (state_after p xs) ≡ false → cut comma p (xs ++ comma ∷ more) ≡ cut comma p xs ++ cut comma Start more
 append_cut p [] more closed = cond-true (is_end comma p comma) ([] ∷ cut comma Start more) (onto_first comma (cut comma (next p comma) more)) (end_outside comma p comma closed)
 append_cut p (x ∷ xs) more closed = elim (cases_Bool (is_end comma p x)) [
   | inl holds ↦
-      let rest = append_cut Start xs more (subst (λ q. is_quoted (place_after q xs) ≡ false) (restarts p x holds) closed) in
+      let rest = append_cut Start xs more (subst (λ q. is_quoted (state_after q xs) ≡ false) (restarts p x holds) closed) in
       cond-true (is_end comma p x) ([] ∷ cut comma Start (xs ++ comma ∷ more)) (onto_first x (cut comma (next p x) (xs ++ comma ∷ more))) holds
       ∙ ap (λ ps. [] ∷ ps) rest
       ∙ ap (λ ps. ps ++ cut comma Start more) (sym (cond-true (is_end comma p x) ([] ∷ cut comma Start xs) (onto_first x (cut comma (next p x) xs)) holds))

@@ -2,8 +2,8 @@ mod CountingLemmas
 mod CuttingLemmas
 mod DifferentLemmas
 mod FieldLemmas
-mod HeaderLemmas
 mod JoiningLemmas
+mod LayoutLemmas
 mod ReadingLemmas
 mod ReadsLemmas
 mod RecordFacts

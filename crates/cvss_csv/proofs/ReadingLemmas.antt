@@ -5,22 +5,22 @@ use Rattle.std.specs.Io.BufRead.{ends_with_byte, strip_last}
 use Rattle.std.proofs.lemmas.Bool.{cases_Bool, cond-true, cond-false}
 use Rattle.std.proofs.lemmas.List.{map-append}
 use Rattle.cvss_lines.specs.Lines.{all_but_last, last_piece}
-use Rattle.cvss_csv.specs.Fields.{cut, is_end, line_feed, next, place_after}
+use Rattle.cvss_csv.specs.Fields.{cut, is_end, line_feed, next, state_after}
 use Rattle.cvss_csv.specs.Records.{Record, ended_record, ended_records, is_open, is_quoted, last_record, pieces}
 use Rattle.cvss_csv.specs.private.Cutting.{IsWithin}
 use Rattle.cvss_csv.specs.private.Steps.{unended_piece}
-use Rattle.cvss_csv.specs.declared.place.Place.{Place}
-use Rattle.cvss_csv.specs.declared.place.Place.TheVariants.{Start, Plain, Quoted, Closing}
+use Rattle.cvss_csv.specs.declared.state.State.{State}
+use Rattle.cvss_csv.specs.declared.state.State.TheVariants.{Start, Plain, Quoted, Closing}
 use Rattle.cvss_csv.proofs.CuttingLemmas.{cut_piece, cut_whole, end_is}
 use Rattle.cvss_csv.proofs.JoiningLemmas.{some_piece, split_end}
 
--- the place after one text and another
-pub place_append : (p : Place) (xs ys : List ℕ) → place_after p (xs ++ ys) ≡ place_after (place_after p xs) ys
-place_append p [] ys = refl
-place_append p (x ∷ xs) ys = place_append (next p x) xs ys
+-- the state after one text and another
+pub state_append : (p : State) (xs ys : List ℕ) → state_after p (xs ++ ys) ≡ state_after (state_after p xs) ys
+state_append p [] ys = refl
+state_append p (x ∷ xs) ys = state_append (next p x) xs ys
 
 -- a line feed outside quotes begins a record
-pub feed_restarts : (p : Place) → is_end line_feed p line_feed ≡ true → next p line_feed ≡ Start
+pub feed_restarts : (p : State) → is_end line_feed p line_feed ≡ true → next p line_feed ≡ Start
 feed_restarts Start ends = refl
 feed_restarts Plain ends = refl
 feed_restarts Quoted ends = absurd (true≢false (sym ends))
@@ -55,23 +55,23 @@ join_onto_first x (p ∷ []) [] some more = absurd (omega (arith, more))
 join_onto_first x (p ∷ []) (q ∷ qs) some more = refl
 join_onto_first x (p ∷ another ∷ ps) qs some more = refl
 
-cut_append : (p : Place) (xs ys : List ℕ) → cut line_feed p (xs ++ ys) ≡ join_pieces (cut line_feed p xs) (cut line_feed (place_after p xs) ys)
+cut_append : (p : State) (xs ys : List ℕ) → cut line_feed p (xs ++ ys) ≡ join_pieces (cut line_feed p xs) (cut line_feed (state_after p xs) ys)
 cut_append p [] ys = sym (onto_nothing (cut line_feed p ys))
 cut_append p (x ∷ xs) ys =
-    let after = cut line_feed (place_after (next p x) xs) ys in
+    let after = cut line_feed (state_after (next p x) xs) ys in
     elim (cases_Bool (is_end line_feed p x)) [
       | inl holds ↦
           let same = end_is line_feed p x holds in
           let starts : next p x ≡ Start = ap (next p) same ∙ feed_restarts p (ap (is_end line_feed p) (sym same) ∙ holds) in
           cond-true (is_end line_feed p x) ([] ∷ cut line_feed Start (xs ++ ys)) (onto_first x (cut line_feed (next p x) (xs ++ ys))) holds
           ∙ ap (λ ps. [] ∷ ps) (cut_append Start xs ys)
-          ∙ ap (λ q. [] ∷ join_pieces (cut line_feed Start xs) (cut line_feed (place_after q xs) ys)) (sym starts)
+          ∙ ap (λ q. [] ∷ join_pieces (cut line_feed Start xs) (cut line_feed (state_after q xs) ys)) (sym starts)
           ∙ sym (join_empty (cut line_feed Start xs) after (some_piece line_feed Start xs))
           ∙ ap (λ ps. join_pieces ps after) (sym (cond-true (is_end line_feed p x) ([] ∷ cut line_feed Start xs) (onto_first x (cut line_feed (next p x) xs)) holds))
       | inr fails ↦
           cond-false (is_end line_feed p x) ([] ∷ cut line_feed Start (xs ++ ys)) (onto_first x (cut line_feed (next p x) (xs ++ ys))) fails
           ∙ ap (onto_first x) (cut_append (next p x) xs ys)
-          ∙ sym (join_onto_first x (cut line_feed (next p x) xs) after (some_piece line_feed (next p x) xs) (some_piece line_feed (place_after (next p x) xs) ys))
+          ∙ sym (join_onto_first x (cut line_feed (next p x) xs) after (some_piece line_feed (next p x) xs) (some_piece line_feed (state_after (next p x) xs) ys))
           ∙ ap (λ ps. join_pieces ps after) (sym (cond-false (is_end line_feed p x) ([] ∷ cut line_feed Start xs) (onto_first x (cut line_feed (next p x) xs)) fails))
     ]
 
@@ -97,7 +97,7 @@ after_first p (another ∷ ps) some = (refl, refl)
 abbrev pub Cut : List ℕ → List Record → List ℕ → Type 0
 Cut text ended rest = (ended_records text ≡ ended) × (unended_piece text ≡ rest)
 
-module _ (read : List ℕ) (p last : Place) (placed : place_after Start read ≡ p) where
+module _ (read : List ℕ) (p last : State) (state_is : state_after Start read ≡ p) where
   -- a record that ends after what was read
   pub Cut-more : (piece rest : List ℕ) → IsWithin line_feed p piece last → is_end line_feed last line_feed ≡ true
       → Cut (read ++ (piece ++ line_feed ∷ rest)) (ended_records read ++ ended_record (unended_piece read ++ piece) ∷ ended_records rest) (unended_piece rest)
@@ -106,7 +106,7 @@ module _ (read : List ℕ) (p last : Place) (placed : place_after Start read ≡
       let joined = unended_piece read ++ piece in
       let own : pieces (read ++ (piece ++ line_feed ∷ rest)) ≡ front ++ joined ∷ pieces rest =
       cut_append Start read (piece ++ line_feed ∷ rest)
-      ∙ ap (λ qs. join_pieces (pieces read) qs) (ap (λ q. cut line_feed q (piece ++ line_feed ∷ rest)) placed ∙ cut_piece line_feed p last piece rest within ends) in
+      ∙ ap (λ qs. join_pieces (pieces read) qs) (ap (λ q. cut line_feed q (piece ++ line_feed ∷ rest)) state_is ∙ cut_piece line_feed p last piece rest within ends) in
       let more = after_first joined (pieces rest) (some_piece line_feed Start rest) in (
         ap (λ ps. map ended_record (all_but_last ps)) own
             ∙ ap (map ended_record) (all_but_last-append front (joined ∷ pieces rest) (omega arith) ∙ ap (λ ps. front ++ ps) more.0)
@@ -121,7 +121,7 @@ module _ (read : List ℕ) (p last : Place) (placed : place_after Start read ≡
       let joined = unended_piece read ++ rest in
       let own : pieces (read ++ rest) ≡ front ++ joined ∷ [] =
       cut_append Start read rest
-      ∙ ap (λ qs. join_pieces (pieces read) qs) (ap (λ q. cut line_feed q rest) placed ∙ cut_whole line_feed p last rest within) in (
+      ∙ ap (λ qs. join_pieces (pieces read) qs) (ap (λ q. cut line_feed q rest) state_is ∙ cut_whole line_feed p last rest within) in (
         ap (λ ps. map ended_record (all_but_last ps)) own ∙ ap (map ended_record) (all_but_last-append front (joined ∷ []) (omega arith) ∙ append-nil front),
         ap last_piece own ∙ last_piece-append front (joined ∷ []) (omega arith),
       )
@@ -133,7 +133,7 @@ pub last_record-some : (bytes : List ℕ) → 0 < length bytes → last_record b
 last_record-some [] some = absurd (omega (arith, some))
 last_record-some (byte ∷ bytes) some = refl
 
-quoted_stays : (p : Place) → is_quoted (next p 13) ≡ false → is_quoted p ≡ false
+quoted_stays : (p : State) → is_quoted (next p 13) ≡ false → is_quoted p ≡ false
 quoted_stays Start closed = refl
 quoted_stays Plain closed = refl
 quoted_stays Quoted closed = absurd (true≢false closed)
@@ -145,12 +145,12 @@ ended_is_closed piece closed = elim (cases_Bool (ends_with_byte 13 piece)) [
   | inl holds ↦
       let body = strip_last 13 piece in
       let split : body ++ 13 ∷ [] ≡ piece = ap (λ ys. ys ++ 13 ∷ []) (cond-true (ends_with_byte 13 piece) _ piece holds) ∙ split_end piece holds in
-      quoted_stays (place_after Start body) (ap is_quoted (sym (place_append Start body (13 ∷ []))) ∙ ap is_open split ∙ closed)
+      quoted_stays (state_after Start body) (ap is_quoted (sym (state_append Start body (13 ∷ []))) ∙ ap is_open split ∙ closed)
   | inr fails ↦ ap is_open (cond-false (ends_with_byte 13 piece) _ piece fails) ∙ closed
 ]
 
 -- a line feed ends a piece only outside quotes
-pub end_is_outside : (p : Place) → is_end line_feed p line_feed ≡ true → is_quoted p ≡ false
+pub end_is_outside : (p : State) → is_end line_feed p line_feed ≡ true → is_quoted p ≡ false
 end_is_outside Start ends = refl
 end_is_outside Plain ends = refl
 end_is_outside Quoted ends = absurd (true≢false (sym ends))
@@ -159,11 +159,11 @@ end_is_outside Closing ends = refl
 -- the records that are ended in a text are so in more of it
 pub ended_before : (xs ys : List ℕ) → (more : List Record) × (ended_records (xs ++ ys) ≡ ended_records xs ++ more)
 ended_before xs ys =
-    let after = cut line_feed (place_after Start xs) ys in
+    let after = cut line_feed (state_after Start xs) ys in
     let front = all_but_last (pieces xs) in
     let back = onto_front (last_piece (pieces xs)) after in (
       map ended_record (all_but_last back),
       ap (λ ps. map ended_record (all_but_last ps)) (cut_append Start xs ys)
-          ∙ ap (map ended_record) (all_but_last-append front back (some_front (last_piece (pieces xs)) after (some_piece line_feed (place_after Start xs) ys)))
+          ∙ ap (map ended_record) (all_but_last-append front back (some_front (last_piece (pieces xs)) after (some_piece line_feed (state_after Start xs) ys)))
           ∙ map-append ended_record front (all_but_last back),
     )

@@ -7,7 +7,7 @@ use Rattle.cvss_csv.specs.Answers.{Answered, IsAnswerBy, IsAnswerTo, searched}
 use Rattle.cvss_csv.specs.Cells.{IsReadAs, Names, Nothing, Reason, Verdict, VectorIs, counted_as}
 use Rattle.cvss_csv.specs.Fields.{fields}
 use Rattle.cvss_csv.specs.Guards.{shown_record}
-use Rattle.cvss_csv.specs.Rows.{AreRows, IsRow, Row, between, later_rows, rows_text}
+use Rattle.cvss_csv.specs.Rows.{AreRows, IsRow, WrittenRow, between, later_rows, rows_text}
 use Rattle.cvss_csv.specs.Tallies.{IsKept, kept_in}
 use Rattle.cvss_csv.specs.Writing.{Writes}
 use Rattle.cvss_csv.specs.declared.asked.Asked.{Asked}
@@ -48,16 +48,16 @@ module _ (asked : Asked) (body line_end : List ℕ) where
         counts = subst (λ c. Counts before c after) (writes.counts ∙ is_counted.1) counts;
       }
 
-  rows_push : (texts : List (List ℕ)) (rows : List Row) (text : List ℕ) (row : Row) → AreRows asked body line_end texts rows → IsRow asked body line_end text row
+  rows_push : (texts : List (List ℕ)) (rows : List WrittenRow) (text : List ℕ) (row : WrittenRow) → AreRows asked body line_end texts rows → IsRow asked body line_end text row
       → AreRows asked body line_end (texts ++ text ∷ []) (rows ++ row ∷ [])
   rows_push [] [] text row are is = (is, tt)
   rows_push [] (first ∷ rows) text row are is = absurd are
   rows_push (each ∷ texts) [] text row are is = absurd are
   rows_push (each ∷ texts) (first ∷ rows) text row are is = (are.0, rows_push texts rows text row are.1 is)
 
-  later_push : (rows : List Row) (row : Row) → later_rows line_end (rows ++ row ∷ []) ≡ later_rows line_end rows ++ (between line_end ++ row.bytes)
+  later_push : (rows : List WrittenRow) (row : WrittenRow) → later_rows line_end (rows ++ row ∷ []) ≡ later_rows line_end rows ++ (between line_end ++ row.bytes)
   later_push rows row =
-      flat_map-append (λ (each : Row). between line_end ++ each.bytes) rows (row ∷ []) ∙ ap (λ more. later_rows line_end rows ++ more) (append-nil (between line_end ++ row.bytes))
+      flat_map-append (λ (each : WrittenRow). between line_end ++ each.bytes) rows (row ∷ []) ∙ ap (λ more. later_rows line_end rows ++ more) (append-nil (between line_end ++ row.bytes))
 
   -- no row
   pub later_none : (old : List ℕ) (summary : Summary) → WritesLater asked body line_end [] old old summary summary
@@ -77,8 +77,8 @@ module _ (asked : Asked) (body line_end : List ℕ) where
         are_rows = subst (λ texts. AreRows asked body line_end texts (done.rows ++ one.row ∷ [])) more
             (rows_push (kept_in (take index all)) done.rows (get_or all index d).text.items one.row done.are_rows one.is_row);
         written = together ∙ ap (λ ys. old ++ ys) (sym (later_push done.rows one.row));
-        counts = subst (λ cs. CountsAll first cs after) (sym (map-append (λ (row : Row). row.accepted) done.rows (one.row ∷ [])))
-            (CountsAll-push first before after (map (λ (row : Row). row.accepted) done.rows) one.row.accepted done.counts one.counts);
+        counts = subst (λ cs. CountsAll first cs after) (sym (map-append (λ (row : WrittenRow). row.accepted) done.rows (one.row ∷ [])))
+            (CountsAll-push first before after (map (λ (row : WrittenRow). row.accepted) done.rows) one.row.accepted done.counts one.counts);
       }
 
   -- the first, and others
@@ -104,7 +104,7 @@ module _ (asked : Asked) (body line_end : List ℕ) where
   pub rows_found : (cells : Cells) (old new : List ℕ) (before after : Summary) (empty full : Different) → IsKept empty [] → FindsInAll IsKept (searched cells (fields body)) empty full
       → WritesRows asked body line_end (kept_in full.kept.items) old new before after → WritesFound asked cells body line_end old new before after
   rows_found cells old new before after empty full none finds writes = record {
-    answered = record { bytes = rows_text line_end writes.rows; counted = map (λ (row : Row). row.accepted) writes.rows };
+    answered = record { bytes = rows_text line_end writes.rows; counted = map (λ (row : WrittenRow). row.accepted) writes.rows };
     has_rows = record {
       texts = finds.own;
       are_texts = finds.are_texts;

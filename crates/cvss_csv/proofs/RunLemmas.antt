@@ -7,17 +7,18 @@ use lib.Seq.{take-append_seam}
 use Rattle.cvss_lines.specs.declared.buffered.OutputBuffer.{OutputBuffer}
 use Rattle.cvss_lines.specs.declared.fault.RunFault.{RunFault}
 use Rattle.cvss_lines.specs.declared.fault.RunFault.TheVariants.{Read, Write, Memory}
-use Rattle.cvss_csv.specs.Fields.{place_after}
+use Rattle.cvss_csv.specs.Fields.{state_after}
 use Rattle.cvss_csv.specs.Answers.{Answered}
 use Rattle.cvss_csv.specs.Records.{Record, ended_records, last_record, records}
-use Rattle.cvss_csv.specs.Runs.{AreAllAnswers, AreRead, Ends, LacksColumn, answer_bytes, summary_of}
+use Rattle.cvss_csv.specs.Layouts.{LacksColumn}
+use Rattle.cvss_csv.specs.Runs.{AreAllAnswers, AreRead, Ends, answer_bytes, summary_of}
 use Rattle.cvss_csv.specs.private.Steps.{Awaits, Reads, HasAnswered, Stops, unended_piece}
 use Rattle.cvss_csv.specs.declared.asked.Asked.{Asked}
 use Rattle.cvss_csv.specs.declared.asked.Column.{Column}
 use Rattle.cvss_csv.specs.declared.fault.CsvFault.{CsvFault}
 use Rattle.cvss_csv.specs.declared.fault.CsvFault.TheVariants.{Run}
 use Rattle.cvss_csv.specs.declared.pending.Pending.{Pending}
-use Rattle.cvss_csv.specs.declared.place.Place.TheVariants.{Start}
+use Rattle.cvss_csv.specs.declared.state.State.TheVariants.{Start}
 use Rattle.cvss_csv.specs.declared.progress.Progress.{Progress}
 use Rattle.cvss_csv.proofs.ReadingLemmas.{ended_before}
 
@@ -31,7 +32,7 @@ pub record Between (asked : Asked) (column : Column) (unread unread' written wri
   pub appended : Appends written written' passed
   pub awaits : Awaits asked column passed input pending
   pub none_waits : pending.progress.answers.bytes.items ≡ []
-  pub placed : place_after Start pending.cut.items ≡ pending.place
+  pub state_is : state_after Start pending.cut.items ≡ pending.state
 
 -- all of an input is read
 pub record IsAllRead (unread unread' : Option (List ℕ)) (input : List ℕ) : Type 0 where
@@ -59,7 +60,7 @@ reported (Err fault) given P is p = subst (λ f. P (Err f)) (sym is) p
 
 module _ {asked : Asked} {column : Column} where
   -- before the first read, nothing is answered
-  pub Between_start : {u w : Option (List ℕ)} (pending : Pending) → pending.cut.items ≡ [] → pending.place ≡ Start → pending.progress.answerer.asked ≡ asked
+  pub Between_start : {u w : Option (List ℕ)} (pending : Pending) → pending.cut.items ≡ [] → pending.state ≡ Start → pending.progress.answerer.asked ≡ asked
       → pending.progress.cells ≡ None → pending.progress.answers.bytes.items ≡ [] → pending.progress.summary ≡ summary_of []
       → Between asked column u u w w pending
   Between_start {u} {w} pending none restarted is_asked unknown none_waits fresh = record {
@@ -70,10 +71,10 @@ module _ {asked : Asked} {column : Column} where
     awaits = record {
       has_answered = record { answers = []; answered = tt; together = none_waits; counted = fresh; is_asked = is_asked; is_known = unknown };
       kept = none;
-      placed = sym restarted;
+      state_is = sym restarted;
     };
     none_waits = none_waits;
-    placed = ap (place_after Start) none ∙ sym restarted;
+    state_is = ap (state_after Start) none ∙ sym restarted;
   }
 
   -- what waited is written
@@ -94,9 +95,9 @@ module _ {asked : Asked} {column : Column} where
   module _ {u0 u u' w0 w : Option (List ℕ)} {now : Pending} (b : Between asked column u0 u w0 w now) where
     -- after a chunk
     pub Between_chunk : {w' : Option (List ℕ)} {next : Pending} (answers : OutputBuffer) (chunk : List ℕ) → Consumes u u' chunk → Reads column chunk now next
-        → place_after Start next.cut.items ≡ next.place → Appends w w' next.progress.answers.bytes.items → answers.bytes.items ≡ []
+        → state_after Start next.cut.items ≡ next.state → Appends w w' next.progress.answers.bytes.items → answers.bytes.items ≡ []
         → Between asked column u0 u' w0 w' (record next { progress = record next.progress { answers = answers } })
-    Between_chunk {w'} {next} answers chunk read reads placed appended none =
+    Between_chunk {w'} {next} answers chunk read reads state_is appended none =
         let here = reads asked b.passed b.input b.awaits in
         record {
           input = b.input ++ chunk;
@@ -106,10 +107,10 @@ module _ {asked : Asked} {column : Column} where
           awaits = record {
             has_answered = answered_written b.passed _ next.progress answers here.has_answered none;
             kept = here.kept;
-            placed = here.placed;
+            state_is = here.state_is;
           };
           none_waits = none;
-          placed = placed;
+          state_is = state_is;
         }
 
     -- after a read that failed

@@ -2,7 +2,7 @@
 use Rattle.std.proofs.Common.{◌≡◌, ℕ, Bool, false, List, [], ◌∷◌, ◌++◌, map, Option, Result, IfOk, refl, sym, subst, append_assoc, append-nil}
 use Rattle.std.proofs.lemmas.List.{map-append}
 use Rattle.cvss_matches.specs.CandidatesLeft.{IsFirstFound, NoneFound}
-use Rattle.cvss_matches.specs.Matches.{AreFound, Placed, candidates_of}
+use Rattle.cvss_matches.specs.Matches.{AreFound, Candidate, candidates_of}
 use Rattle.cvss_matches.proofs.FoundLemmas.{AreFound-first, AreFound-none}
 use Rattle.cvss_csv.specs.Answers.{AreTextsOf, IsVerdictBy, IsVerdictOf, searched}
 use Rattle.cvss_csv.specs.Fields.{fields, value}
@@ -23,26 +23,26 @@ module _ {N : Type 0} (IsOf : N → List (List ℕ) → Type 0) where
 
   -- ---- in a value
 
-  pub found_start : (all left : List Placed) (note : N) → left ≡ all → HasFound IsOf all left note note
+  pub found_start : (all left : List Candidate) (note : N) → left ≡ all → HasFound IsOf all left note note
   found_start all left note is = record {
     found = [];
     are_found = λ more are. subst (λ candidates. AreFound candidates more) is are;
     adds = adds_none note;
   }
 
-  pub found_next : (all left after : List Placed) (candidate : Placed) (old middle new : N)
+  pub found_next : (all left after : List Candidate) (candidate : Candidate) (old middle new : N)
       → HasFound IsOf all left old middle → IsFirstFound left candidate after → Adds IsOf (candidate.text ∷ []) middle new → HasFound IsOf all after old new
   found_next all left after candidate old middle new before first noted = record {
     found = before.found ++ candidate ∷ [];
     are_found = λ more are. subst (AreFound all) (sym (append_assoc before.found (candidate ∷ []) more))
         (before.are_found (candidate ∷ more) (AreFound-first left after candidate more first are));
-    adds = subst (λ own. Adds IsOf own old new) (sym (map-append (λ (each : Placed). each.text) before.found (candidate ∷ [])))
-        (adds_more (map (λ (each : Placed). each.text) before.found) (candidate.text ∷ []) old middle new before.adds noted);
+    adds = subst (λ own. Adds IsOf own old new) (sym (map-append (λ (each : Candidate). each.text) before.found (candidate ∷ [])))
+        (adds_more (map (λ (each : Candidate). each.text) before.found) (candidate.text ∷ []) old middle new before.adds noted);
   }
 
-  pub found_all : (text : List ℕ) (left : List Placed) (old new : N) → HasFound IsOf (candidates_of text) left old new → NoneFound left → FindsIn IsOf text old new
+  pub found_all : (text : List ℕ) (left : List Candidate) (old new : N) → HasFound IsOf (candidates_of text) left old new → NoneFound left → FindsIn IsOf text old new
   found_all text left old new has none = record {
-    own = map (λ (each : Placed). each.text) has.found;
+    own = map (λ (each : Candidate). each.text) has.found;
     are_texts = record {
       found = has.found;
       are_found = subst (AreFound (candidates_of text)) (append-nil has.found) (has.are_found [] (AreFound-none left none));

@@ -4,7 +4,8 @@ use Rattle.std.proofs.lemmas.Grind.{flat_map-append}
 use Rattle.cvss_lines.specs.declared.summary.Summary.{Summary}
 use Rattle.cvss_csv.specs.Answers.{Answered, IsAnswerTo}
 use Rattle.cvss_csv.specs.Records.{Record}
-use Rattle.cvss_csv.specs.Runs.{AreAllAnswers, AreAnswers, LacksColumn, SaysFirst, answer_bytes, counted_in, summary_by, summary_of}
+use Rattle.cvss_csv.specs.Layouts.{LacksColumn, SaysFirst}
+use Rattle.cvss_csv.specs.Runs.{AreAllAnswers, AreAnswers, answer_bytes, counted_in, summary_by, summary_of}
 use Rattle.cvss_csv.specs.private.Counting.{CountsAll}
 use Rattle.cvss_csv.specs.private.Steps.{AnswersRecord, CannotAnswer, IsKnown, IsKnownBy, HasAnswered, Stops}
 use Rattle.cvss_csv.specs.declared.asked.Asked.{Asked}

@@ -7,10 +7,10 @@ use Rattle.std.proofs.lemmas.List.{take_all}
 use Rattle.std.proofs.lemmas.List.Elements.{All-head, All-tail}
 use Rattle.cvss_csv.specs.Fields.{comma, fields, line_feed, next, quote, unquoted, value}
 use Rattle.cvss_csv.specs.Quoting.{doubled, field_of, wants_quotes}
-use Rattle.cvss_csv.specs.declared.place.Place.TheVariants.{Start, Quoted, Closing}
+use Rattle.cvss_csv.specs.declared.state.State.TheVariants.{Start, Quoted, Closing}
 use Rattle.cvss_csv.specs.private.Cutting.{IsWithin}
 use Rattle.cvss_csv.specs.private.Values.{after_quote}
-use Rattle.cvss_csv.proofs.CuttingLemmas.{cut_whole, outside_run, quiet_place, within_append}
+use Rattle.cvss_csv.proofs.CuttingLemmas.{cut_whole, outside_run, quiet_state, within_append}
 
 -- a byte that is no quote stays
 unquoted_byte : (x : ℕ) (xs : List ℕ) → x ≢ quote → unquoted (x ∷ xs) ≡ x ∷ unquoted xs
@@ -126,6 +126,6 @@ field_of_one text = elim (cases_Bool (list_any wants_quotes text)) [
       let parts = or_parts (eqb byte quote) (eqb byte comma || (eqb byte line_feed || eqb byte 13)) (none_wants text k none below) in
       (eqb-false byte quote parts.0, eqb-false byte comma (or_parts (eqb byte comma) (eqb byte line_feed || eqb byte 13) parts.1).0)
 
-  as_they_are : list_any wants_quotes text ≡ false → IsWithin comma Start text (quiet_place Start text)
-  as_they_are none = subst (λ ys. IsWithin comma Start ys (quiet_place Start ys)) (take_all (length text) text (omega arith))
+  as_they_are : list_any wants_quotes text ≡ false → IsWithin comma Start text (quiet_state Start text)
+  as_they_are none = subst (λ ys. IsWithin comma Start ys (quiet_state Start ys)) (take_all (length text) text (omega arith))
       (outside_run comma Start text (length text) refl (λ k below. (no_one k none below).0) (λ k below. (no_one k none below).1))

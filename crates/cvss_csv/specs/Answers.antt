@@ -1,21 +1,19 @@
 -- The answer to a record: its bytes, and six cells after them; or a row for each of its vectors.
-use Rattle.std.specs.Prelude.{◌≡◌, ◌⊎◌, ℕ, suc, Bool, true, false, List, [], ◌∷◌, ◌++◌, bytes_eq, codes, drop, map, take, Option, None, Some, option_map, if◌then◌else◌}
+use Rattle.std.specs.Prelude.{◌≡◌, ◌⊎◌, ℕ, Bool, true, false, List, [], ◌∷◌, ◌++◌, codes, drop, map, take, Option, None, Some, if◌then◌else◌}
 use Rattle.std.specs.Str.{IsTrimAscii}
-use Rattle.cvss_matches.specs.Matches.{AreFound, Placed, candidates_of}
+use Rattle.cvss_matches.specs.Matches.{AreFound, Candidate, candidates_of}
 use Rattle.cvss_csv.specs.Cells.{AreAllEqual, AreCells, IsReadAs, Names, Nothing, Reason, Verdict, counted_as}
 use Rattle.cvss_csv.specs.Fields.{fields, quote, value}
 use Rattle.cvss_csv.specs.Guards.{shown_record}
 use Rattle.cvss_csv.specs.Records.{is_open}
-use Rattle.cvss_csv.specs.Rows.{AreDifferent, AreRows, Row, rows_text}
+use Rattle.cvss_csv.specs.Rows.{AreDifferent, AreRows, WrittenRow, rows_text}
 use Rattle.cvss_csv.specs.declared.asked.Asked.{Asked}
 use Rattle.cvss_csv.specs.declared.asked.Cells.{Cells}
 use Rattle.cvss_csv.specs.declared.asked.Cells.TheVariants.{Any, At}
-use Rattle.cvss_csv.specs.declared.asked.Column.{Column}
-use Rattle.cvss_csv.specs.declared.asked.Column.TheVariants.{AnyColumn, Index, Named}
 
 -- these are the texts of the vectors that are found in a value, in their order
 pub record AreTextsIn (searched : List ℕ) (texts : List (List ℕ)) : Type 0 where
-  pub found : List Placed
+  pub found : List Candidate
   pub are_found : AreFound (candidates_of searched) found
   pub are : texts ≡ map (λ each. each.text) found
 
@@ -70,36 +68,6 @@ IsVerdictOf true is_header allow_incomplete cells body verdict = verdict ≡ Rea
 IsVerdictOf false true allow_incomplete cells body verdict = verdict ≡ Names
 IsVerdictOf false false allow_incomplete cells body verdict = IsVerdictOn allow_incomplete cells (fields body) verdict
 
--- ---- the first record
-
--- the index of the first field that has this value
-abbrev pub index_of : List ℕ → List (List ℕ) → Option ℕ
-index_of name [] = None
-index_of name (field ∷ more) = if bytes_eq (value field) name then Some 0 else option_map suc (index_of name more)
-
--- the cells that are searched, by the column and the fields of the first record; none, where no field has the column's name
-abbrev pub cells_by : Column → List (List ℕ) → Option Cells
-cells_by AnyColumn all = Some Any
-cells_by (Index index) all = Some (At index)
-cells_by (Named name) all = option_map At (index_of name.now all)
-
--- no text is found
-abbrev pub is_none_found : List (List ℕ) → Bool
-is_none_found [] = true
-is_none_found (text ∷ texts) = false
-
--- whether a record has no vector in any field
-pub record LacksVector (all : List (List ℕ)) (lacks : Bool) : Type 0 where
-  pub texts : List (List ℕ)
-  pub are_texts : AreTextsOf all texts
-  pub is : lacks ≡ is_none_found texts
-
--- whether the first record is a header: if the column has a name, or if no vector is found in the record
-abbrev pub IsHeader : Column → List (List ℕ) → Bool → Type 0
-IsHeader AnyColumn all is_header = LacksVector all is_header
-IsHeader (Index index) all is_header = LacksVector all is_header
-IsHeader (Named name) all is_header = is_header ≡ true
-
 -- ---- the bytes of the answer
 
 -- the quote that closes the last field of a record where it is not closed
@@ -137,7 +105,7 @@ pub record HasRows (asked : Asked) (cells : Cells) (body line_end : List ℕ) (a
   pub are_texts : AreTextsOf (searched cells (fields body)) texts
   pub different : List (List ℕ)
   pub are_different : AreDifferent [] texts different
-  pub rows : List Row
+  pub rows : List WrittenRow
   pub are_rows : AreRows asked body line_end different rows
   pub bytes : answered.bytes ≡ rows_text line_end rows
   pub counts : answered.counted ≡ map (λ row. row.accepted) rows

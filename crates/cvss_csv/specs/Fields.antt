@@ -1,8 +1,8 @@
 -- The fields of a record, and their values: RFC 4180, section 2, rules 4 to 7.
-use Rattle.std.specs.Prelude.{ℕ, ◌==◌, ◌||◌, Bool, false, List, [], ◌∷◌, if◌then◌else◌}
+use Rattle.std.specs.Prelude.{ℕ, ◌==◌, ◌||◌, Bool, false, List, [], ◌∷◌, drop, if◌then◌else◌, take}
 use Rattle.std.specs.List.{onto_first}
-use Rattle.cvss_csv.specs.declared.place.Place.{Place}
-use Rattle.cvss_csv.specs.declared.place.Place.TheVariants.{Start, Plain, Quoted, Closing}
+use Rattle.cvss_csv.specs.declared.state.State.{State}
+use Rattle.cvss_csv.specs.declared.state.State.TheVariants.{Start, Plain, Quoted, Closing}
 
 -- the byte around a quoted field
 abbrev pub quote : ℕ
@@ -16,36 +16,36 @@ comma = 44
 abbrev pub line_feed : ℕ
 line_feed = 10
 
--- the place after a byte that is outside quotes and is no quote: a comma and a line feed begin a field
-abbrev pub after_unquoted : ℕ → Place
+-- the state after a byte that is outside quotes and is no quote: a comma and a line feed begin a field
+abbrev pub after_unquoted : ℕ → State
 after_unquoted byte = if (byte == comma) || (byte == line_feed) then Start else Plain
 
--- the place after a byte. A quote with which a field begins opens it; in it a quote closes it, unless another follows. A
+-- the state after a byte. A quote with which a field begins opens it; in it a quote closes it, unless another follows. A
 -- quote anywhere else is a byte like others.
-abbrev pub next : Place → ℕ → Place
+abbrev pub next : State → ℕ → State
 next Start byte = if byte == quote then Quoted else after_unquoted byte
 next Plain byte = after_unquoted byte
 next Quoted byte = if byte == quote then Closing else Quoted
 next Closing byte = if byte == quote then Quoted else after_unquoted byte
 
--- the place after some bytes
-abbrev pub place_after : Place → List ℕ → Place
-place_after place [] = place
-place_after place (byte ∷ bytes) = place_after (next place byte) bytes
+-- the state after some bytes
+abbrev pub state_after : State → List ℕ → State
+state_after state [] = state
+state_after state (byte ∷ bytes) = state_after (next state byte) bytes
 
 -- the byte is a delimiter outside quotes
-abbrev pub is_end : ℕ → Place → ℕ → Bool
+abbrev pub is_end : ℕ → State → ℕ → Bool
 is_end delimiter Quoted byte = false
 is_end delimiter Start byte = byte == delimiter
 is_end delimiter Plain byte = byte == delimiter
 is_end delimiter Closing byte = byte == delimiter
 
--- the pieces of a text between the delimiters that are outside quotes, from this place on
-abbrev pub cut : ℕ → Place → List ℕ → List (List ℕ)
-cut delimiter place [] = [] ∷ []
-cut delimiter place (byte ∷ bytes) =
-    if is_end delimiter place byte then [] ∷ cut delimiter Start bytes
-    else onto_first byte (cut delimiter (next place byte) bytes)
+-- the pieces of a text between the delimiters that are outside quotes, in this state
+abbrev pub cut : ℕ → State → List ℕ → List (List ℕ)
+cut delimiter state [] = [] ∷ []
+cut delimiter state (byte ∷ bytes) =
+    if is_end delimiter state byte then [] ∷ cut delimiter Start bytes
+    else onto_first byte (cut delimiter (next state byte) bytes)
 
 -- the fields of a record, which is given without its line end
 abbrev pub fields : List ℕ → List (List ℕ)
@@ -64,3 +64,12 @@ unquoted (byte ∷ following ∷ bytes) =
 abbrev pub value : List ℕ → List ℕ
 value [] = []
 value (byte ∷ bytes) = if byte == quote then unquoted bytes else byte ∷ bytes
+
+-- the value of the first of some fields, and nothing where there is none
+abbrev pub first_value : List (List ℕ) → List ℕ
+first_value [] = []
+first_value (field ∷ more) = value field
+
+-- the value of the field with this index, counted from 0; nothing, where there is none
+abbrev pub value_at : ℕ → List (List ℕ) → List ℕ
+value_at index all = first_value (take 1 (drop index all))

@@ -2,6 +2,7 @@ pub mod Answers
 pub mod Cells
 pub mod Fields
 pub mod Guards
+pub mod Layouts
 pub mod Quoting
 pub mod Records
 pub mod Rows

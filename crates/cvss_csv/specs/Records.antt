@@ -2,9 +2,9 @@
 use Rattle.std.specs.Prelude.{◌≡◌, ◌<◌, ℕ, Bool, true, false, List, [], ◌∷◌, ◌++◌, length, map, if◌then◌else◌}
 use Rattle.std.specs.Io.BufRead.{ends_with_byte, strip_last}
 use Rattle.cvss_lines.specs.Lines.{all_but_last, last_piece}
-use Rattle.cvss_csv.specs.Fields.{cut, line_feed, place_after}
-use Rattle.cvss_csv.specs.declared.place.Place.{Place}
-use Rattle.cvss_csv.specs.declared.place.Place.TheVariants.{Start, Plain, Quoted, Closing}
+use Rattle.cvss_csv.specs.Fields.{cut, line_feed, state_after}
+use Rattle.cvss_csv.specs.declared.state.State.{State}
+use Rattle.cvss_csv.specs.declared.state.State.TheVariants.{Start, Plain, Quoted, Closing}
 use Rattle.cvss_csv.specs.declared.record.CutRecord.{CutRecord}
 
 -- a record: its fields with the commas between them, and its line end
@@ -40,8 +40,8 @@ records text = ended_records text ++ last_record (last_piece (pieces text))
 abbrev pub record_text : Record → List ℕ
 record_text each = each.body ++ each.line_end
 
--- a quoted field is not closed at this place
-abbrev pub is_quoted : Place → Bool
+-- a quoted field is not closed in this state
+abbrev pub is_quoted : State → Bool
 is_quoted Start = false
 is_quoted Plain = false
 is_quoted Quoted = true
@@ -49,7 +49,7 @@ is_quoted Closing = false
 
 -- the last field of a record is quoted and not closed
 abbrev pub is_open : List ℕ → Bool
-is_open body = is_quoted (place_after Start body)
+is_open body = is_quoted (state_after Start body)
 
 -- a record that is cut off a text
 abbrev pub as_record : CutRecord → Record

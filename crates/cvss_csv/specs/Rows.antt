@@ -22,12 +22,12 @@ AreDifferent before (text ∷ texts) own =
 -- ---- their rows
 
 -- the bytes of a row, and whether its vector is accepted
-pub record Row : Type 0 where
+pub record WrittenRow : Type 0 where
   pub bytes : List ℕ
   pub accepted : Bool
 
 -- the record, the cells of the vector after it, and the line end
-pub record IsRow (asked : Asked) (body line_end text : List ℕ) (row : Row) : Type 0 where
+pub record IsRow (asked : Asked) (body line_end text : List ℕ) (row : WrittenRow) : Type 0 where
   pub verdict : Verdict
   pub is : IsReadAs asked.allow_incomplete text verdict
   pub cells : List ℕ
@@ -36,7 +36,7 @@ pub record IsRow (asked : Asked) (body line_end text : List ℕ) (row : Row) : T
   pub counts : counted_as verdict ≡ Some row.accepted
 
 -- a row for each text, in their order
-abbrev pub AreRows : Asked → List ℕ → List ℕ → List (List ℕ) → List Row → Type 0
+abbrev pub AreRows : Asked → List ℕ → List ℕ → List (List ℕ) → List WrittenRow → Type 0
 AreRows asked body line_end [] [] = ⊤
 AreRows asked body line_end [] (row ∷ rows) = ⊥
 AreRows asked body line_end (text ∷ texts) [] = ⊥
@@ -48,10 +48,10 @@ between [] = line_feed ∷ []
 between (byte ∷ bytes) = []
 
 -- rows after another one
-abbrev pub later_rows : List ℕ → List Row → List ℕ
+abbrev pub later_rows : List ℕ → List WrittenRow → List ℕ
 later_rows line_end rows = flat_map (λ row. between line_end ++ row.bytes) rows
 
 -- the rows of a record with this line end
-abbrev pub rows_text : List ℕ → List Row → List ℕ
+abbrev pub rows_text : List ℕ → List WrittenRow → List ℕ
 rows_text line_end [] = []
 rows_text line_end (row ∷ rows) = row.bytes ++ later_rows line_end rows

@@ -1,10 +1,10 @@
 -- The answers to the records of a text, and what a run has read and written when it ends, well or with a fault.
-use Rattle.std.specs.Prelude.{◌≡◌, ℕ, ◌-◌, ◌^◌, ◌⊎◌, min, not, Bool, false, List, [], ◌∷◌, flat_map, take, Option, None, Some, ⊤, count_by, Result, IfOk, IsErrOf}
+use Rattle.std.specs.Prelude.{◌≡◌, ℕ, ◌-◌, ◌^◌, ◌⊎◌, min, not, Bool, false, List, [], ◌∷◌, flat_map, take, Option, ⊤, count_by, Result, IfOk, IsErrOf}
 use Rattle.std.specs.Io.KnownBytes.{Appends, Consumes, IsAtEnd}
 use Rattle.cvss_lines.specs.declared.fault.RunFault.TheVariants.{Read, Write, Memory}
 use Rattle.cvss_lines.specs.declared.summary.Summary.{Summary}
-use Rattle.cvss_csv.specs.Answers.{Answered, IsAnswerTo, IsHeader, cells_by}
-use Rattle.cvss_csv.specs.Fields.{fields}
+use Rattle.cvss_csv.specs.Answers.{Answered, IsAnswerTo}
+use Rattle.cvss_csv.specs.Layouts.{LacksColumn, SaysFirst}
 use Rattle.cvss_csv.specs.Records.{Record, ended_records, records}
 use Rattle.cvss_csv.specs.declared.asked.Asked.{Asked}
 use Rattle.cvss_csv.specs.declared.asked.Cells.{Cells}
@@ -22,11 +22,6 @@ AreAnswers asked cells (each ∷ more) [] = ⊥
 AreAnswers asked cells (each ∷ more) (answer ∷ answers) =
     IsAnswerTo asked cells false each.body each.line_end answer × AreAnswers asked cells more answers
 
--- what the first record says: which cells are searched, and whether it is a header
-pub record SaysFirst (column : Column) (body : List ℕ) (cells : Cells) (is_header : Bool) : Type 0 where
-  pub searched : cells_by column (fields body) ≡ Some cells
-  pub header : IsHeader column (fields body) is_header
-
 -- the records of a text have these answers, in their order
 abbrev pub AreAllAnswers : Asked → Column → List Record → List Answered → Type 0
 AreAllAnswers asked column [] [] = ⊤
@@ -35,11 +30,6 @@ AreAllAnswers asked column (first ∷ more) [] = ⊥
 AreAllAnswers asked column (first ∷ more) (answer ∷ answers) =
     (cells : Cells) × (is_header : Bool) × SaysFirst column first.body cells is_header
     × IsAnswerTo asked cells is_header first.body first.line_end answer × AreAnswers asked cells more answers
-
--- no cell of the first record has the name of the column
-abbrev pub LacksColumn : Column → List Record → Type 0
-LacksColumn column [] = ⊥
-LacksColumn column (first ∷ more) = cells_by column (fields first.body) ≡ None
 
 -- the bytes of the answers
 abbrev pub answer_bytes : List Answered → List ℕ
@@ -110,7 +100,7 @@ pub record AnswersCut (asked : Asked) (column : Column) (unread unread' written 
   pub answered : AreAllAnswers asked column all answers
   pub appended : Appends written written' (take count (answer_bytes answers))
 
--- the first record that was read has no cell with the name of the column, and nothing is written
+-- the first record that was read lacks the column, and nothing is written
 pub record AnswersNothing (column : Column) (unread unread' written written' : Option (List ℕ)) : Type 0 where
   pub all : List Record
   pub are_read : AreRead unread unread' all

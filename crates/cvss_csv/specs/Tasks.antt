@@ -11,7 +11,7 @@ use Rattle.cvss_csv.specs.declared.asked.Column.{Column}
 abbrev pub one_rejected : Summary
 one_rejected = record { accepted = 0; rejected = 1 }
 
--- as a run. An input whose first record has no cell with the name of the column counts as one rejected record.
+-- as a run. An input whose first record lacks the column counts as one rejected record.
 pub record TaskEnds (asked : Asked) (column : Column) (unread unread' written written' : Option (List ℕ))
     (outcome : Result Summary RunFault) : Type 0 where
   pub answered : IfOk outcome (λ summary. AnswersAll asked column unread unread' written written' summary

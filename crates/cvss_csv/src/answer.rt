@@ -13,9 +13,10 @@ use crate::cells::{push_names, push_nothing, push_read, push_reason};
 use crate::different::Different;
 use crate::fields::field_at;
 use crate::guarding::push_shown;
+use crate::record::CutRecord;
 use crate::search::search;
 use crate::tally::{Count, Tally};
-use crate::value::{decode, value_as_is};
+use crate::value::value_in;
 use cvss_lines::OutputBuffer;
 use std::alloc::{AllocError, Global};
 
@@ -49,9 +50,9 @@ impl Answerer {
         }
     }
 
-    /// Appends the one answer to a record: the record, six cells and its line end. The record may be a header,
-    /// and is given by whether its last field is quoted and not closed. Returns whether it is accepted or
-    /// rejected; neither, where it is a header or empty, or where the cell of its vector is.
+    /// Appends the one answer to a record, which may be a header: the record, six cells and its line end.
+    /// Returns whether it is accepted or rejected; neither, where it is a header or empty, or where the cell of
+    /// its vector is.
     ///
     /// # Errors
     ///
@@ -60,30 +61,27 @@ impl Answerer {
         &mut self,
         cells: Cells,
         is_header: bool,
-        body: &[u8],
-        unclosed: bool,
-        line_end: &[u8],
+        cut: &CutRecord<'_>,
         out: &mut OutputBuffer,
     ) -> Result<Option<bool>, AllocError>
-        requires { unclosed ≡ is_open body.now }
-        ensures answered { IfOk result (WritesAnswer self.old.asked cells is_header body.now line_end.now
-            out.old.bytes.items out.new.bytes.items) }
+        requires { cut.now.unclosed ≡ is_open cut.now.body.now }
+        ensures answered { IfOk result (WritesAnswer self.old.asked cells is_header cut.now.body.now
+            cut.now.line_end.now out.old.bytes.items out.new.bytes.items) }
         ensures asked { self.new.asked ≡ self.old.asked }
     {
-        if body.is_empty() {
-            out.push(line_end)?;
+        if cut.body.is_empty() {
+            out.push(cut.line_end)?;
             return Ok(None);
         }
-        push_shown(self.asked.guarded, body, out)?;
-        push_closing(unclosed, out)?;
-        let counted = self.push_cells(cells, is_header, body, unclosed, out)?;
-        out.push(line_end)?;
+        push_shown(self.asked.guarded, cut.body, out)?;
+        push_closing(cut.unclosed, out)?;
+        let counted = self.push_cells(cells, is_header, cut, out)?;
+        out.push(cut.line_end)?;
         Ok(counted)
     }
 
-    /// Appends the six cells of a record, which may be a header, and is given without its line end and by
-    /// whether its last field is quoted and not closed. Returns whether it is accepted or rejected; neither, where the
-    /// cell of its vector is empty.
+    /// Appends the six cells of a record, which may be a header. Returns whether it is accepted or rejected;
+    /// neither, where the cell of its vector is empty.
     ///
     /// # Errors
     ///
@@ -92,24 +90,23 @@ impl Answerer {
         &mut self,
         cells: Cells,
         is_header: bool,
-        body: &[u8],
-        unclosed: bool,
+        cut: &CutRecord<'_>,
         out: &mut OutputBuffer,
     ) -> Result<Option<bool>, AllocError>
-        ensures cells { IfOk result (Writes self.old.asked
-            (IsVerdictOf unclosed is_header self.old.asked.allow_incomplete cells body.now)
+        ensures cells { IfOk result (Writes self.old.asked (IsVerdictOf cut.now.unclosed is_header
+            self.old.asked.allow_incomplete cells cut.now.body.now)
             out.old.bytes.items out.new.bytes.items) }
         ensures asked { self.new.asked ≡ self.old.asked }
     {
-        if unclosed {
+        if cut.unclosed {
             return push_reason(self.asked, b"a quoted field is not closed", out);
         }
         if is_header {
             return push_names(self.asked, out);
         }
         self.tally.clear();
-        search(cells, body, &mut self.value, &mut self.tally)?;
-        self.push_found(cells, body, out)
+        search(cells, cut.body, &mut self.value, &mut self.tally)?;
+        self.push_found(cells, cut.body, out)
     }
 
     /// Appends the cells of a record by the vectors that are found.
@@ -164,13 +161,8 @@ impl Answerer {
             out.old.bytes.items out.new.bytes.items) }
         ensures asked { self.new.asked ≡ self.old.asked }
     {
-        match value_as_is(field) {
-            Some(value) => push_trimmed(self.asked, value, &mut self.reason, out),
-            None => {
-                decode(field, &mut self.value)?;
-                push_trimmed(self.asked, &self.value, &mut self.reason, out)
-            }
-        }
+        let value = value_in(field, &mut self.value)?;
+        push_trimmed(self.asked, value, &mut self.reason, out)
     }
 }
 

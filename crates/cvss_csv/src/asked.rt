@@ -7,8 +7,8 @@ use cvss_vector::Scoring;
 pub enum Column<'a> {
     /// Any: the first vector that is found in one.
     AnyColumn,
-    /// The one with this index, counted from 0.
-    Index(usize),
+    /// The one with this index, counted from 0, and its number as it is given.
+    Index(usize, &'a [u8]),
     /// The one under the cell of the first record that has this value.
     Named(&'a [u8]),
 }

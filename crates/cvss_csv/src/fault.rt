@@ -12,7 +12,7 @@ use std::alloc::AllocError;
 pub enum CsvFault {
     /// The reader or the writer failed, or memory was refused.
     Run(RunFault),
-    /// No cell of the first record has the name of the column.
+    /// The first record lacks the column.
     UnknownColumn,
 }
 

@@ -6,7 +6,7 @@ ghost use Rattle.cvss_csv.specs.Fields.{fields};
 ghost use Rattle.cvss_csv.specs.private.Cutting.{IsNextField, fields_left};
 
 use crate::cutting::cut_first;
-use crate::place::{COMMA, Place};
+use crate::state::{COMMA, State};
 
 /// The fields of a record, in order. It takes no memory, and looks at each byte once.
 #[derive(Clone, Copy)]
@@ -28,7 +28,7 @@ impl<'a> Fields<'a> {
         ensures { IsNextField self.old result self.new }
     {
         let rest = self.rest?;
-        match cut_first(COMMA, Place::Start, rest) {
+        match cut_first(COMMA, State::Start, rest) {
             Ok((field, following)) => {
                 self.rest = Some(following);
                 Some(field)

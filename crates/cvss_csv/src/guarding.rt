@@ -6,7 +6,7 @@ ghost use Rattle.cvss_csv.specs.Guards.{guarded_field, guarded_fields, shown_rec
 ghost use Rattle.cvss_report.specs.Cells.{guard};
 
 use crate::fields::Fields;
-use crate::place::QUOTE;
+use crate::state::QUOTE;
 use cvss_lines::OutputBuffer;
 use cvss_report::is_formula;
 use std::alloc::AllocError;

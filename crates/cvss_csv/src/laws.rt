@@ -10,7 +10,8 @@ ghost use Rattle.cvss_csv.specs.Records.{is_open, record_text, records};
 use crate::asked::{Asked, Cells, Column};
 use crate::fault::CsvFault;
 use crate::fields::Fields;
-use crate::place::Place;
+use crate::layout::Layout;
+use crate::state::State;
 use crate::tally::Count;
 
 /// The fields of a record with the commas between them are the record, and the records of a text one
@@ -41,13 +42,14 @@ pub fn equality_is_that_of_values()
     ensures fault { EqualsByValue ⟦<CsvFault as PartialEq>⟧.eq }
 {}
 
-/// A clone of what is asked, of a fault, of a place, of a count or of fields is that value.
+/// A clone of what is asked, of a layout, of a fault, of a state, of a count or of fields is that value.
 pub fn clones_are_equal()
     ensures asked { ClonesByValue ⟦<Asked as Clone>⟧.is_clone }
     ensures cells { ClonesByValue ⟦<Cells as Clone>⟧.is_clone }
     ensures column { ClonesByValue ⟦<Column<'static> as Clone>⟧.is_clone }
+    ensures layout { ClonesByValue ⟦<Layout as Clone>⟧.is_clone }
     ensures fault { ClonesByValue ⟦<CsvFault as Clone>⟧.is_clone }
-    ensures place { ClonesByValue ⟦<Place as Clone>⟧.is_clone }
+    ensures state { ClonesByValue ⟦<State as Clone>⟧.is_clone }
     ensures count { ClonesByValue ⟦<Count as Clone>⟧.is_clone }
     ensures fields { ClonesByValue ⟦<Fields<'static> as Clone>⟧.is_clone }
 {}
@@ -57,8 +59,9 @@ pub fn values_are_cloned_without_memory()
     ensures asked { ClonesAlways ⟦<Asked as Clone>⟧.is_infallible }
     ensures cells { ClonesAlways ⟦<Cells as Clone>⟧.is_infallible }
     ensures column { ClonesAlways ⟦<Column<'static> as Clone>⟧.is_infallible }
+    ensures layout { ClonesAlways ⟦<Layout as Clone>⟧.is_infallible }
     ensures fault { ClonesAlways ⟦<CsvFault as Clone>⟧.is_infallible }
-    ensures place { ClonesAlways ⟦<Place as Clone>⟧.is_infallible }
+    ensures state { ClonesAlways ⟦<State as Clone>⟧.is_infallible }
     ensures count { ClonesAlways ⟦<Count as Clone>⟧.is_infallible }
     ensures fields { ClonesAlways ⟦<Fields<'static> as Clone>⟧.is_infallible }
 {}

@@ -12,6 +12,8 @@ use crate::answer::Answerer;
 use crate::asked::{Asked, Cells, Column};
 use crate::counting::{count, nothing_counted};
 use crate::fault::CsvFault;
+use crate::layout::layout_by;
+use crate::record::CutRecord;
 use cvss_lines::{OutputBuffer, Summary};
 use std::alloc::Global;
 
@@ -43,44 +45,38 @@ impl Progress {
         }
     }
 
-    /// Answers the next record, which is given without its line end, and by whether its last field is quoted
-    /// and not closed.
+    /// Answers the next record.
     pub(crate) fn answer_record(
         &mut self,
         column: Column<'_>,
-        body: &[u8],
-        unclosed: bool,
-        line_end: &[u8],
+        cut: &CutRecord<'_>,
     ) -> Result<(), CsvFault>
-        requires { unclosed ≡ is_open body.now }
-        ensures answered { OnOk result (AnswersRecord column.entry body.now line_end.now self.old self.new) }
-        ensures stopped { IfErr result (CannotAnswer column.entry body.now self.old) }
+        requires { cut.now.unclosed ≡ is_open cut.now.body.now }
+        ensures answered { OnOk result (AnswersRecord column.entry cut.now.body.now cut.now.line_end.now
+            self.old self.new) }
+        ensures stopped { IfErr result (CannotAnswer column.entry cut.now.body.now self.old) }
     {
         match self.cells {
-            Some(cells) => self.answer_next(cells, false, body, unclosed, line_end),
-            None => self.answer_first(column, body, unclosed, line_end),
+            Some(cells) => self.answer_next(cells, false, cut),
+            None => self.answer_first(column, cut),
         }
     }
 
     /// Answers the first record.
-    fn answer_first(
-        &mut self,
-        column: Column<'_>,
-        body: &[u8],
-        unclosed: bool,
-        line_end: &[u8],
-    ) -> Result<(), CsvFault>
+    fn answer_first(&mut self, column: Column<'_>, cut: &CutRecord<'_>) -> Result<(), CsvFault>
         requires first { self.old.cells ≡ None }
-        requires unclosed { unclosed ≡ is_open body.now }
-        ensures answered { OnOk result (AnswersRecord column.entry body.now line_end.now self.old self.new) }
-        ensures stopped { IfErr result (CannotAnswer column.entry body.now self.old) }
+        requires unclosed { cut.now.unclosed ≡ is_open cut.now.body.now }
+        ensures answered { OnOk result (AnswersRecord column.entry cut.now.body.now cut.now.line_end.now
+            self.old self.new) }
+        ensures stopped { IfErr result (CannotAnswer column.entry cut.now.body.now self.old) }
     {
-        let Some(cells) = self.answerer.cells_by(column, body)? else {
+        let answerer = &mut self.answerer;
+        let said = layout_by(column, cut.body, &mut answerer.value, &mut answerer.tally)?;
+        let Some(layout) = said else {
             return Err(CsvFault::UnknownColumn);
         };
-        let is_header = self.answerer.is_header(column, body)?;
-        self.cells = Some(cells);
-        self.answer_next(cells, is_header, body, unclosed, line_end)
+        self.cells = Some(layout.cells);
+        self.answer_next(layout.cells, layout.has_header, cut)
     }
 
     /// Answers a record whose cells are known.
@@ -88,25 +84,23 @@ impl Progress {
         &mut self,
         cells: Cells,
         is_header: bool,
-        body: &[u8],
-        unclosed: bool,
-        line_end: &[u8],
+        cut: &CutRecord<'_>,
     ) -> Result<(), CsvFault>
-        requires { unclosed ≡ is_open body.now }
+        requires { cut.now.unclosed ≡ is_open cut.now.body.now }
         ensures answered { OnOk result
-            (AnswersNext cells is_header body.now line_end.now self.old self.new) }
+            (AnswersNext cells is_header cut.now.body.now cut.now.line_end.now self.old self.new) }
         ensures stopped { IfErr result (λ fault. fault ≡ Run Memory) }
     {
         if !self.answerer.asked.each {
-            return self.answer_once(cells, is_header, body, unclosed, line_end);
+            return self.answer_once(cells, is_header, cut);
         }
-        if body.is_empty() {
+        if cut.body.is_empty() {
             return Ok(());
         }
-        if unclosed || is_header {
-            return self.answer_once(cells, is_header, body, unclosed, line_end);
+        if cut.unclosed || is_header {
+            return self.answer_once(cells, is_header, cut);
         }
-        self.answer_each(cells, body, line_end)
+        self.answer_each(cells, cut)
     }
 
     /// Answers a record once.
@@ -114,35 +108,27 @@ impl Progress {
         &mut self,
         cells: Cells,
         is_header: bool,
-        body: &[u8],
-        unclosed: bool,
-        line_end: &[u8],
+        cut: &CutRecord<'_>,
     ) -> Result<(), CsvFault>
-        requires { unclosed ≡ is_open body.now }
-        ensures answered { OnOk result
-            (AnswersAs (IsOneAnswer self.old.answerer.asked cells is_header body.now line_end.now)
-            self.old self.new) }
+        requires { cut.now.unclosed ≡ is_open cut.now.body.now }
+        ensures answered { OnOk result (AnswersAs (IsOneAnswer self.old.answerer.asked cells is_header
+            cut.now.body.now cut.now.line_end.now) self.old self.new) }
         ensures stopped { IfErr result (λ fault. fault ≡ Run Memory) }
     {
-        let counted = self.answerer.push_record(
-            cells,
-            is_header,
-            body,
-            unclosed,
-            line_end,
-            &mut self.answers,
-        )?;
+        let answerer = &mut self.answerer;
+        let counted = answerer.push_record(cells, is_header, cut, &mut self.answers)?;
         count(&mut self.summary, counted);
         Ok(())
     }
 
     /// Answers a record by a row for each of its vectors.
-    fn answer_each(&mut self, cells: Cells, body: &[u8], line_end: &[u8]) -> Result<(), CsvFault>
-        ensures answered { OnOk result
-            (AnswersAs (HasRows self.old.answerer.asked cells body.now line_end.now) self.old self.new) }
+    fn answer_each(&mut self, cells: Cells, cut: &CutRecord<'_>) -> Result<(), CsvFault>
+        ensures answered { OnOk result (AnswersAs (HasRows self.old.answerer.asked cells cut.now.body.now
+            cut.now.line_end.now) self.old self.new) }
         ensures stopped { IfErr result (λ fault. fault ≡ Run Memory) }
     {
-        self.answerer.push_rows(cells, body, line_end, &mut self.summary, &mut self.answers)?;
+        let answerer = &mut self.answerer;
+        answerer.push_rows(cells, cut, &mut self.summary, &mut self.answers)?;
         Ok(())
     }
 }

@@ -4,7 +4,7 @@ ghost use Rattle.std.specs.Prelude.{◌≡◌, ◌++◌, OnOk, flat_map};
 ghost use Rattle.std.specs.List.{list_any};
 ghost use Rattle.cvss_csv.specs.Quoting.{doubled, field_of, wants_quotes};
 
-use crate::place::{COMMA, QUOTE};
+use crate::state::{COMMA, QUOTE};
 use cvss_lines::OutputBuffer;
 use std::alloc::AllocError;
 

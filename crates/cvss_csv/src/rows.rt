@@ -11,6 +11,7 @@ use crate::cells::push_read;
 use crate::counting::count;
 use crate::different::Kept;
 use crate::guarding::push_shown;
+use crate::record::CutRecord;
 use crate::search::search;
 use cvss_lines::{OutputBuffer, Summary};
 use std::alloc::AllocError;
@@ -19,13 +20,11 @@ use std::alloc::AllocError;
 #[derive(Drop)]
 struct Repeated<'a> {
     asked: Asked,
-    body: &'a [u8],
-    line_end: &'a [u8],
+    cut: &'a CutRecord<'a>,
 }
 
 impl Answerer {
-    /// Appends a row for each vector that is found in a record, which is given without its line end, and
-    /// counts them.
+    /// Appends a row for each vector that is found in a record, and counts them.
     ///
     /// # Errors
     ///
@@ -33,21 +32,19 @@ impl Answerer {
     pub(crate) fn push_rows(
         &mut self,
         cells: Cells,
-        body: &[u8],
-        line_end: &[u8],
+        cut: &CutRecord<'_>,
         summary: &mut Summary,
         out: &mut OutputBuffer,
     ) -> Result<(), AllocError>
-        ensures rows { OnOk result (WritesFound self.old.asked cells body.now line_end.now
+        ensures rows { OnOk result (WritesFound self.old.asked cells cut.now.body.now cut.now.line_end.now
             out.old.bytes.items out.new.bytes.items summary.old summary.new) }
         ensures asked { self.new.asked ≡ self.old.asked }
     {
         self.different.clear();
-        search(cells, body, &mut self.value, &mut self.different)?;
+        search(cells, cut.body, &mut self.value, &mut self.different)?;
         let record = Repeated {
             asked: self.asked,
-            body,
-            line_end,
+            cut,
         };
         record.push_all(&self.different.kept, &mut self.reason, summary, out)
     }
@@ -62,7 +59,7 @@ impl Repeated<'_> {
         summary: &mut Summary,
         out: &mut OutputBuffer,
     ) -> Result<(), AllocError>
-        ensures { OnOk result (WritesRows self.now.asked self.now.body.now self.now.line_end.now
+        ensures { OnOk result (WritesRows self.now.asked self.now.cut.now.body.now self.now.cut.now.line_end.now
             (kept_in kept.now) out.old.bytes.items out.new.bytes.items summary.old summary.new) }
     {
         match kept.split_first() {
@@ -82,7 +79,7 @@ impl Repeated<'_> {
         summary: &mut Summary,
         out: &mut OutputBuffer,
     ) -> Result<(), AllocError>
-        ensures { OnOk result (WritesLater self.now.asked self.now.body.now self.now.line_end.now
+        ensures { OnOk result (WritesLater self.now.asked self.now.cut.now.body.now self.now.cut.now.line_end.now
             (kept_in kept.now) out.old.bytes.items out.new.bytes.items summary.old summary.new) }
     {
         for each in kept {
@@ -95,9 +92,9 @@ impl Repeated<'_> {
     /// Appends what is between two rows.
     fn push_between(&self, out: &mut OutputBuffer) -> Result<(), AllocError>
         ensures { OnOk result (out.new.bytes.items
-            ≡ out.old.bytes.items ++ between self.now.line_end.now) }
+            ≡ out.old.bytes.items ++ between self.now.cut.now.line_end.now) }
     {
-        match self.line_end {
+        match self.cut.line_end {
             [] => out.push(b"\n"),
             _ => Ok(()),
         }
@@ -111,12 +108,12 @@ impl Repeated<'_> {
         summary: &mut Summary,
         out: &mut OutputBuffer,
     ) -> Result<(), AllocError>
-        ensures { OnOk result (WritesRow self.now.asked self.now.body.now self.now.line_end.now
+        ensures { OnOk result (WritesRow self.now.asked self.now.cut.now.body.now self.now.cut.now.line_end.now
             text.now out.old.bytes.items out.new.bytes.items summary.old summary.new) }
     {
-        push_shown(self.asked.guarded, self.body, out)?;
+        push_shown(self.asked.guarded, self.cut.body, out)?;
         let accepted = push_read(self.asked, text, room, out)?;
-        out.push(self.line_end)?;
+        out.push(self.cut.line_end)?;
         count(summary, accepted);
         Ok(())
     }

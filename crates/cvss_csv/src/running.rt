@@ -19,7 +19,7 @@ use std::io::{Read, Write};
 ///
 /// # Errors
 ///
-/// The first record has no cell with the name of the column, and nothing is written; or out of memory, or a
+/// The first record lacks the column, and nothing is written; or out of memory, or a
 /// failure of the reader or the writer, after a beginning of the answers.
 pub fn run_csv<R: Read, W: Write>(
     asked: Asked,

@@ -8,7 +8,7 @@ ghost use Rattle.cvss_csv.specs.private.Searching.{FindsIn, FindsInAll};
 use crate::asked::Cells;
 use crate::fields::{Fields, field_at};
 use crate::notes::Notes;
-use crate::value::{decode, value_as_is};
+use crate::value::value_in;
 use cvss_matches::Matches;
 use std::alloc::AllocError;
 
@@ -44,13 +44,7 @@ fn search_all<N: Notes>(body: &[u8], room: &mut Vec<u8>, notes: &mut N) -> Resul
 fn search_field<N: Notes>(field: &[u8], room: &mut Vec<u8>, notes: &mut N) -> Result<(), AllocError>
     ensures { OnOk result (FindsIn N.is_of (value field.now) notes.old notes.new) }
 {
-    match value_as_is(field) {
-        Some(text) => search_value(text, notes),
-        None => {
-            decode(field, room)?;
-            search_value(room, notes)
-        }
-    }
+    search_value(value_in(field, room)?, notes)
 }
 
 fn search_value<N: Notes>(text: &[u8], notes: &mut N) -> Result<(), AllocError>

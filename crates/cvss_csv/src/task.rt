@@ -17,7 +17,7 @@ use std::io::{Read, Write};
 pub struct CsvTask<'a> {
     pub asked: Asked,
     pub column: Column<'a>,
-    /// Set where the first record of an input has no cell with the name of the column. The input counts as
+    /// Set where the first record of an input lacks the column. The input counts as
     /// one rejected record then.
     pub lacks_column: &'a Cell<bool>,
 }

@@ -1,12 +1,15 @@
 //! The value of a field.
 
-ghost use Rattle.std.specs.Prelude.{◌≡◌, ◌≢◌, ◌<◌, ◌++◌, ◌∷◌, All, IfSome, MatchOption, OnOk, length};
-ghost use Rattle.cvss_csv.specs.Fields.{quote, unquoted, value};
+ghost use Rattle.std.specs.Prelude.{◌≡◌, ◌≢◌, ◌<◌, ◌++◌, ◌∷◌, All, IfOk, IfSome, MatchOption, OnOk, length};
+ghost use Rattle.std.specs.Cow.{cow_slice_items};
+ghost use Rattle.cvss_csv.specs.Fields.{fields, quote, unquoted, value, value_at};
 ghost use Rattle.cvss_csv.specs.private.Values.{after_quote};
 
-use crate::place::QUOTE;
+use crate::fields::field_at;
+use crate::state::QUOTE;
 use cvss_lines::either_or_len;
-use std::alloc::AllocError;
+use std::alloc::{AllocError, Global};
+use std::borrow::CowSlice;
 
 /// The value of a field, if its bytes are in the field as they are: no quote is doubled, and none closes
 /// the field before its end.
@@ -28,6 +31,51 @@ fn unquoted_as_is(inner: &[u8]) -> Option<&[u8]>
         return None;
     }
     Some(&inner[..end])
+}
+
+/// The value of the field of a record with this index, counted from 0; nothing, where there is none. It takes
+/// no memory where the value is in the record as it is.
+///
+/// # Errors
+///
+/// Out of memory.
+pub fn value_at(alloc: Global, index: usize, body: &[u8]) -> Result<CowSlice<'_, u8>, AllocError>
+    ensures { IfOk result (λ text. cow_slice_items text ≡ value_at index (fields body.now)) }
+{
+    match field_at(index, body) {
+        Some(field) => value_of(alloc, field),
+        None => Ok(CowSlice::Borrowed(&[])),
+    }
+}
+
+/// The value of a field.
+fn value_of(alloc: Global, field: &[u8]) -> Result<CowSlice<'_, u8>, AllocError>
+    ensures { IfOk result (λ text. cow_slice_items text ≡ value field.now) }
+{
+    if let Some(text) = value_as_is(field) {
+        return Ok(CowSlice::Borrowed(text));
+    }
+    let mut text = Vec::new(alloc);
+    decode(field, &mut text)?;
+    Ok(CowSlice::Owned(text))
+}
+
+/// The value of a field, which a buffer has where it is not in the field as it is.
+///
+/// # Errors
+///
+/// Out of memory.
+#[inline(always)]
+pub(crate) fn value_in<'a>(field: &'a [u8], room: &'a mut Vec<u8>) -> Result<&'a [u8], AllocError>
+    ensures { IfOk result (λ text. text.now ≡ value field.now) }
+{
+    match value_as_is(field) {
+        Some(text) => Ok(text),
+        None => {
+            decode(field, room)?;
+            Ok(room)
+        }
+    }
 }
 
 /// Writes the value of a field over what a buffer has.

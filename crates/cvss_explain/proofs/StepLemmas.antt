@@ -5,12 +5,13 @@ use Rattle.cvss_base.specs.Exact.{Exact, of_count, ◌over◌, ◌≈◌}
 use Rattle.cvss_score.specs.v2.Scores.{IsPublished}
 use Rattle.cvss_score.specs.v3.private.Near.{Approximates}
 use Rattle.cvss_vector.specs.Answers.{score_of_tenths}
+use Rattle.cvss_vector.specs.declared.published.Bounds.TheVariants.{OfV2}
 use Rattle.cvss_explain.proofs.CloseLemmas.{near_by, near_units}
 use Rattle.cvss_explain.proofs.NearLemmas.{near_equal}
 use Rattle.cvss_explain.specs.Near.{AreNearest, IsNear, IsNearBy, IsNearOf}
 use Rattle.cvss_explain.specs.Steps.{IsNumber, IsScore}
 use Rattle.cvss_explain.specs.declared.step.Amount.{Amount}
-use Rattle.cvss_explain.specs.declared.step.Amount.TheVariants.{Score}
+use Rattle.cvss_explain.specs.declared.step.Amount.TheVariants.{Rated}
 use Rattle.cvss_explain.specs.declared.step.Quantity.{Quantity}
 use Rattle.cvss_explain.specs.declared.step.Step.{Step}
 
@@ -45,6 +46,6 @@ module _ {quantity : Quantity} {step : Step} where
 
   -- a score that is raised to 0 where it is negative
   pub published_step : (IsTenths : ℤ → Type 0) (number : ℤ) (t t' : ℕ) → t' ≡ t → pos t ≡ int_max (pos 0) number → IsTenths number
-      → step ≡ record { quantity = quantity; amount = Score t' } → IsScore quantity Score (IsPublished IsTenths) step
+      → step ≡ record { quantity = quantity; amount = Rated OfV2 t' } → IsScore quantity (Rated OfV2) (IsPublished IsTenths) step
   published_step IsTenths number t t' same raised is =
-      score_step Score (IsPublished IsTenths) t t' same (record { number = number; is_number = is; is_count = rw (sym raised) refl })
+      score_step (Rated OfV2) (IsPublished IsTenths) t t' same (record { number = number; is_number = is; is_count = rw (sym raised) refl })

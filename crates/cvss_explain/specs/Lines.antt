@@ -1,5 +1,5 @@
 -- The lines of explanations for people.
-use Rattle.std.specs.Prelude.{◌≡◌, ℕ, Bool, ◌-◌, ◌==◌, if◌then◌else◌, List, [], ◌∷◌, ◌++◌, codes, length, map, flat_map, take}
+use Rattle.std.specs.Prelude.{◌≡◌, ℕ, ◌-◌, ◌==◌, if◌then◌else◌, List, [], ◌∷◌, ◌++◌, codes, length, map, flat_map, take}
 use Rattle.std.specs.Char.{to_ascii_lowercase}
 use Rattle.std.specs.Option.{option_map_or}
 use Rattle.cvss_base.specs.SeverityText.{text_of as severity_text}
@@ -32,19 +32,19 @@ metric_line name spelling figure description word =
     ++ description ++ codes ": " ++ spoken word ++ codes "\n"
 
 -- the line of a metric, if the vector has it
-abbrev pub metric_text : {V K : Type 0} → Version V K → (K → List ℕ) → (K → List words.Row) → (K → List ℕ) → V → K → List ℕ
+abbrev pub metric_text : {V K : Type 0} → Version V K → (K → List ℕ) → (K → List words.ValueWord) → (K → List ℕ) → V → K → List ℕ
 metric_text version description words figure v kind =
     option_map_or (λ spelling. metric_line (version.name kind) spelling (figure kind) (description kind) (word_in (words kind) spelling)) (held version v kind) []
 
 -- a number on the way to a score, or a score: what it is called, and its text
-abbrev pub Row : Type 0
-Row = List ℕ × List ℕ
+abbrev pub TitledFigure : Type 0
+TitledFigure = List ℕ × List ℕ
 
-abbrev pub row_line : Row → List ℕ
+abbrev pub row_line : TitledFigure → List ℕ
 row_line row = codes "  " ++ padded 36 row.0 ++ row.1 ++ codes "\n"
 
 -- the lines of rows
-abbrev pub rows_text : List Row → List ℕ
+abbrev pub rows_text : List TitledFigure → List ℕ
 rows_text rows = flat_map row_line rows
 
 -- a score of so many tenths, and its severity

@@ -1,9 +1,8 @@
 -- Steps on the way to a score, which both forms of an explanation are made of.
 use Rattle.std.specs.Prelude.{◌≡◌, ℕ, ℤ, ⊤, Bool, if◌then◌else◌, List, [], ◌∷◌, ◌++◌, codes, map, Option, Some, None, slice_get}
 use Rattle.std.specs.Option.{option_map, option_map_or}
-use Rattle.cvss_base.specs.SeverityScale.{severity_of_score}
 use Rattle.cvss_base.specs.SeverityText.{text_of as severity_text}
-use Rattle.cvss_explain.specs.Lines.{Row, rated_text, rows_text}
+use Rattle.cvss_explain.specs.Lines.{TitledFigure, rated_text, rows_text}
 use Rattle.cvss_explain.specs.declared.step.Amount.{Amount}
 use Rattle.cvss_explain.specs.declared.step.Amount.TheVariants.{Number, Score, Rated}
 use Rattle.cvss_explain.specs.declared.step.Quantity.{Quantity}
@@ -13,6 +12,7 @@ use Rattle.cvss_explain.specs.declared.object.Entry.{Entry}
 use Rattle.cvss_explain.specs.declared.object.Entry.TheVariants.{Value, Severity}
 use Rattle.cvss_json.specs.Json.{Member, decimal_text, string_text, tenths_text}
 use Rattle.cvss_vector.specs.Answers.{score_of_tenths}
+use Rattle.cvss_vector.specs.Published.{severity_within}
 
 -- the key of a quantity in an object, and its title for people
 abbrev pub words_of : Quantity → List ℕ × List ℕ
@@ -55,11 +55,11 @@ AreSteps _ _ = ⊥
 abbrev pub value_text : Amount → List ℕ
 value_text (Number count) = decimal_text count
 value_text (Score tenths) = tenths_text tenths
-value_text (Rated tenths) = tenths_text tenths
+value_text (Rated bounds tenths) = tenths_text tenths
 
 -- the severity of a score that has one
 abbrev pub severity_member : Amount → Option Member
-severity_member (Rated tenths) = Some (codes "severity", string_text (severity_text (severity_of_score (score_of_tenths tenths))))
+severity_member (Rated bounds tenths) = Some (codes "severity", string_text (severity_text (severity_within bounds (score_of_tenths tenths))))
 severity_member amount = None
 
 -- the member of an object of steps: the amount of the step at an index, or its severity
@@ -69,11 +69,11 @@ entry_member steps (Severity index) = option_map_or (λ step. severity_member st
 
 -- the amount for people
 abbrev pub amount_text : Amount → List ℕ
-amount_text (Rated tenths) = rated_text tenths (severity_of_score (score_of_tenths tenths))
+amount_text (Rated bounds tenths) = rated_text tenths (severity_within bounds (score_of_tenths tenths))
 amount_text amount = value_text amount
 
 -- the row of a step for people
-abbrev pub row_of : Step → Row
+abbrev pub row_of : Step → TitledFigure
 row_of step = ((words_of step.quantity).1, amount_text step.amount)
 
 -- the lines of steps

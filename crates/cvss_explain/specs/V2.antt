@@ -1,5 +1,5 @@
 -- The explanations of the scores of CVSS v2: guide, section 3.2.
-use Rattle.std.specs.Prelude.{◌≡◌, ℕ, ◌*◌, pos, List, [], ◌∷◌, ◌++◌, codes, flat_map, map, Option}
+use Rattle.std.specs.Prelude.{◌≡◌, ℕ, ◌*◌, pos, List, [], ◌∷◌, ◌++◌, flat_map, map, Option}
 use Rattle.std.specs.List.{filter_map}
 use Rattle.cvss_base.specs.Exact.{tenths, thousandths}
 use Rattle.cvss_base.specs.V2Types.{description_of, name_of}
@@ -11,7 +11,7 @@ use Rattle.cvss_explain.specs.Parts.{ways_text}
 use Rattle.cvss_explain.specs.Steps.{AreSteps, IsNumber, IsScore, entry_member, ways_lines}
 use Rattle.cvss_explain.specs.declared.object.Entry.{Entry}
 use Rattle.cvss_explain.specs.declared.object.Entry.TheVariants.{Value}
-use Rattle.cvss_explain.specs.declared.step.Amount.TheVariants.{Score}
+use Rattle.cvss_explain.specs.declared.step.Amount.TheVariants.{Rated}
 use Rattle.cvss_explain.specs.declared.step.Quantity.TheVariants.{Impact, Exploitability, Factor, BeforeRounding, BaseScore, TemporalScore, AdjustedImpact, AdjustedBase, AdjustedTemporal, EnvironmentalScore}
 use Rattle.cvss_explain.specs.declared.step.Step.{Step}
 use Rattle.cvss_explain.specs.declared.v2.steps.Steps.{Steps}
@@ -22,6 +22,7 @@ use Rattle.cvss_report.specs.WordsV2.{words_of}
 use Rattle.cvss_score.specs.declared.v2.weights.Weights.{Weights}
 use Rattle.cvss_score.specs.v2.Scores as scores
 use Rattle.cvss_vector.specs.declared.group.Group.TheVariants.{Temporal, Environmental}
+use Rattle.cvss_vector.specs.declared.published.Bounds.TheVariants.{OfV2}
 use Rattle.cvss_vector.specs.declared.v2.vector.Vector.{Vector}
 use Rattle.cvss_vector.specs.declared.vector.Cvss.{Cvss}
 use Rattle.cvss_vector.specs.declared.vector.Cvss.TheVariants.{CvssV20}
@@ -35,7 +36,7 @@ base_steps w =
     ∷ IsNumber Exploitability (IsNear (scores.exploitability w))
     ∷ IsNumber Factor (IsNear (scores.f (scores.impact w)))
     ∷ IsNumber BeforeRounding (IsNear (scores.base_number (scores.impact w) (scores.exploitability w)))
-    ∷ IsScore BaseScore Score (scores.IsBaseScore w)
+    ∷ IsScore BaseScore (Rated OfV2) (scores.IsBaseScore w)
     ∷ []
 
 -- the steps to the temporal score, which is made of the base score before that is raised to 0
@@ -43,7 +44,7 @@ abbrev pub temporal_steps : Weights → List (Step → Type 0)
 temporal_steps w =
     IsNumber BeforeRounding (IsNearOf (scores.IsBase w (scores.impact w))
     (λ base. scores.temporal_number (tenths base) (thousandths w.e) (thousandths w.rl) (thousandths w.rc)))
-    ∷ IsScore TemporalScore Score (scores.IsTemporalScore w)
+    ∷ IsScore TemporalScore (Rated OfV2) (scores.IsTemporalScore w)
     ∷ []
 
 -- the steps to the environmental score
@@ -54,7 +55,7 @@ environmental_steps w =
     ∷ IsNumber AdjustedTemporal (IsTenth (scores.IsTemporal w (scores.adjusted_impact w)))
     ∷ IsNumber BeforeRounding (IsNearOf (scores.IsTemporal w (scores.adjusted_impact w))
     (λ temporal. scores.environmental_number (tenths temporal) (thousandths w.cdp) (thousandths w.td)))
-    ∷ IsScore EnvironmentalScore Score (scores.IsEnvironmentalScore w)
+    ∷ IsScore EnvironmentalScore (Rated OfV2) (scores.IsEnvironmentalScore w)
     ∷ []
 
 pub record AreStepsOf (w : Weights) (steps : Steps) : Type 0 where

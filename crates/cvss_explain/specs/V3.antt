@@ -24,6 +24,7 @@ use Rattle.cvss_score.specs.declared.v3.weights.Weights.{Weights}
 use Rattle.cvss_score.specs.v3.Scores as scores
 use Rattle.cvss_score.specs.v3.Weighing.{weight_in}
 use Rattle.cvss_vector.specs.declared.group.Group.TheVariants.{Temporal, Environmental}
+use Rattle.cvss_vector.specs.declared.published.Bounds.TheVariants.{SinceV3}
 use Rattle.cvss_vector.specs.declared.v3.vector.Vector.{Vector}
 use Rattle.cvss_vector.specs.declared.vector.Cvss.{Cvss}
 use Rattle.cvss_vector.specs.declared.vector.Cvss.TheVariants.{CvssV30}
@@ -36,7 +37,7 @@ base_steps minor w =
     ∷ IsNumber Impact (IsNearBy w.changed (scores.impact w))
     ∷ IsNumber Exploitability (IsNear (scores.exploitability w))
     ∷ IsNumber BeforeRounding (IsNearBy w.changed (scores.base_number w))
-    ∷ IsScore BaseScore Rated (scores.IsBaseScore minor w)
+    ∷ IsScore BaseScore (Rated SinceV3) (scores.IsBaseScore minor w)
     ∷ []
 
 -- so many tenths times E, RL and RC
@@ -46,7 +47,7 @@ times_temporal w IsTenths = IsNearOf IsTenths (λ tenths. scores.temporal_number
 -- the steps to the temporal score
 abbrev pub temporal_steps : ℕ → Weights → List (Step → Type 0)
 temporal_steps minor w =
-    IsNumber BeforeRounding (times_temporal w (scores.IsBase minor w)) ∷ IsScore TemporalScore Rated (scores.IsTemporalScore minor w) ∷ []
+    IsNumber BeforeRounding (times_temporal w (scores.IsBase minor w)) ∷ IsScore TemporalScore (Rated SinceV3) (scores.IsTemporalScore minor w) ∷ []
 
 -- so many tenths are the inner rounding of the environmental score
 abbrev pub IsFirst : ℕ → Weights → ℤ → Type 0
@@ -61,7 +62,7 @@ environmental_steps minor w =
     ∷ IsNumber BeforeFirstRounding (IsNearBy w.modified_changed (scores.environmental_number minor w))
     ∷ IsScore FirstScore Score (IsInTenths (IsFirst minor w))
     ∷ IsNumber BeforeRounding (times_temporal w (IsFirst minor w))
-    ∷ IsScore EnvironmentalScore Rated (scores.IsEnvironmentalScore minor w)
+    ∷ IsScore EnvironmentalScore (Rated SinceV3) (scores.IsEnvironmentalScore minor w)
     ∷ []
 
 pub record AreStepsOf (minor : ℕ) (w : Weights) (steps : Steps) : Type 0 where

@@ -6,7 +6,7 @@ use Rattle.cvss_base.specs.declared.v4.MetricType.{MetricType}
 use Rattle.cvss_base.specs.declared.v4.MetricType.TheVariants.{AC, AT, AV, PR, UI, VC, VI, VA, SC, SI, SA, E, CR, IR, AR}
 use Rattle.cvss_explain.specs.Decimal.{nearest_to}
 use Rattle.cvss_explain.specs.LettersV4.{effective_members}
-use Rattle.cvss_explain.specs.Lines.{Joins, Row, metric_text, rated_text, rows_text}
+use Rattle.cvss_explain.specs.Lines.{Joins, TitledFigure, metric_text, rated_text, rows_text}
 use Rattle.cvss_explain.specs.Parts.{score_member, severity_member, vector_member, version_member, with_line}
 use Rattle.cvss_json.specs.Json.{array_text, decimal_text, object_text, string_text, tenths_text}
 use Rattle.cvss_metric.specs.v4.Table.{printed}
@@ -176,15 +176,15 @@ abbrev pub contribution_text : ℕ → GroupExplanation → List ℕ
 contribution_text value group =
     codes "distance " ++ decimal group.distance ++ codes " of " ++ decimal group.depth ++ next_text value group.next group.taken
 
-abbrev pub group_row : ℕ → Group → Row
+abbrev pub group_row : ℕ → Group → TitledFigure
 group_row value (name, level, group) = (name ++ codes " level " ++ digits level, contribution_text value group)
 
 -- so many 504000ths of a point
-abbrev pub fraction_row : List ℕ → ℕ → Row
+abbrev pub fraction_row : List ℕ → ℕ → TitledFigure
 fraction_row title count = (title, decimal_text (pos (nearest_to count 504_000)))
 
 -- the five groups and the mean of what they take; without impact the score is 0
-abbrev pub group_rows : Explanation → Option GroupExplanations → List Row
+abbrev pub group_rows : Explanation → Option GroupExplanations → List TitledFigure
 group_rows explanation None = (codes "No impact", tenths_text 0) ∷ []
 group_rows explanation (Some groups) =
     map (group_row explanation.value) (named explanation.class groups)
@@ -192,12 +192,12 @@ group_rows explanation (Some groups) =
     ∷ []
 
 -- the row of a score by a nomenclature
-abbrev pub score_row : Nomenclature → ℕ → Row
+abbrev pub score_row : Nomenclature → ℕ → TitledFigure
 score_row nomenclature tenths =
     (nomenclature_text nomenclature ++ codes " score", rated_text tenths (severity_of_score (score_of_tenths tenths)))
 
 -- the way from the value of the class to the score
-abbrev pub numbers_rows : Vector → Explanation → ℕ → List Row
+abbrev pub numbers_rows : Vector → Explanation → ℕ → List TitledFigure
 numbers_rows v explanation tenths =
     (codes "MacroVector " ++ class_text explanation.class, tenths_text explanation.value)
     ∷ group_rows explanation explanation.groups

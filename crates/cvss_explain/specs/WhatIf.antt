@@ -9,7 +9,7 @@ use Rattle.cvss_base.specs.Tenths.{tenths_text}
 use Rattle.cvss_base.specs.Text.{component}
 use Rattle.cvss_base.specs.Version.{Version, held}
 use Rattle.cvss_explain.specs.Lines.{Joins, padded}
-use Rattle.cvss_report.specs.Words.{Row}
+use Rattle.cvss_report.specs.Words.{ValueWord}
 use Rattle.cvss_report.specs.WordsV2 as words_v2
 use Rattle.cvss_report.specs.WordsV3 as words_v3
 use Rattle.cvss_report.specs.WordsV4 as words_v4
@@ -34,19 +34,19 @@ pub record IsScored (cvss : Cvss) (set : List ℕ) (tenths : ℕ) : Type 0 where
   pub scored : IsOverallScore new (score_of_tenths tenths)
 
 -- the text of a metric's value; there is none where the value cannot be set
-abbrev pub IsCell : Cvss → List ℕ → Option (List ℕ) → Row → List ℕ → Type 0
-IsCell cvss name own row text =
-    ((tenths : ℕ) × IsScored cvss (component name row.0) tenths × (text ≡ cell_text (is_present own row.0) row.0 tenths))
-    ⊎ (((new : Cvss) → ¬ (IsWith cvss (component name row.0) new)) × (text ≡ []))
+abbrev pub IsCell : Cvss → List ℕ → Option (List ℕ) → ValueWord → List ℕ → Type 0
+IsCell cvss name own value text =
+    ((tenths : ℕ) × IsScored cvss (component name value.0) tenths × (text ≡ cell_text (is_present own value.0) value.0 tenths))
+    ⊎ (((new : Cvss) → ¬ (IsWith cvss (component name value.0) new)) × (text ≡ []))
 
 -- the line of a metric: its abbreviation, and its values
-pub record IsLine {V K : Type 0} (version : Version V K) (words : K → List Row) (cvss : Cvss) (v : V) (kind : K) (text : List ℕ) : Type 0 where
+pub record IsLine {V K : Type 0} (version : Version V K) (words : K → List ValueWord) (cvss : Cvss) (v : V) (kind : K) (text : List ℕ) : Type 0 where
   pub cells : List ℕ
   pub are : Joins (IsCell cvss (version.name kind) (held version v kind)) (words kind) cells
   pub is : text ≡ codes "  " ++ padded 3 (version.name kind) ++ cells ++ codes "\n"
 
 -- the lines of all metrics of the version, in printing order
-abbrev pub AreLines : {V K : Type 0} → Version V K → (K → List Row) → Cvss → V → List ℕ → Type 0
+abbrev pub AreLines : {V K : Type 0} → Version V K → (K → List ValueWord) → Cvss → V → List ℕ → Type 0
 AreLines version words cvss v = Joins (IsLine version words cvss v) version.printed
 
 abbrev pub IsTable : Cvss → List ℕ → Type 0

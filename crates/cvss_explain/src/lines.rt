@@ -11,7 +11,6 @@ ghost use Rattle.cvss_json.specs.Json.{tenths_text};
 use crate::groups::levels;
 use crate::step::{Amount, Step};
 use crate::v4::put_group;
-use cvss_base::{TENTH, severity_of_score};
 use cvss_json::Page;
 use cvss_lines::OutputBuffer;
 use cvss_score::v4::scoring::classes::MacroVector;
@@ -50,7 +49,7 @@ pub(crate) enum Figure<'a> {
 }
 
 /// A title, and what it comes to.
-pub(crate) type Row<'a> = (Title<'a>, Figure<'a>);
+pub(crate) type TitledFigure<'a> = (Title<'a>, Figure<'a>);
 
 /// Writes the component of a metric, in its column.
 pub(crate) fn write_component(
@@ -165,7 +164,7 @@ fn write_step(step: Step, answers: &mut OutputBuffer) -> Result<(), AllocError>
 /// Writes rows if a condition holds.
 pub(crate) fn write_rows_if(
     condition: bool,
-    rows: &[Row<'_>],
+    rows: &[TitledFigure<'_>],
     answers: &mut OutputBuffer,
 ) -> Result<(), AllocError>
     ensures { OnOk result (answers.new.bytes.items ≡ answers.old.bytes.items
@@ -178,7 +177,10 @@ pub(crate) fn write_rows_if(
 }
 
 /// Writes rows.
-pub(crate) fn write_rows(rows: &[Row<'_>], answers: &mut OutputBuffer) -> Result<(), AllocError>
+pub(crate) fn write_rows(
+    rows: &[TitledFigure<'_>],
+    answers: &mut OutputBuffer,
+) -> Result<(), AllocError>
     ensures { OnOk result (answers.new.bytes.items
         ≡ answers.old.bytes.items ++ rows_text (map row_view rows.now)) }
 {
@@ -189,7 +191,7 @@ pub(crate) fn write_rows(rows: &[Row<'_>], answers: &mut OutputBuffer) -> Result
 }
 
 /// Writes a row.
-fn write_row(row: Row<'_>, answers: &mut OutputBuffer) -> Result<(), AllocError>
+fn write_row(row: TitledFigure<'_>, answers: &mut OutputBuffer) -> Result<(), AllocError>
     ensures { OnOk result (answers.new.bytes.items
         ≡ answers.old.bytes.items ++ row_line (row_view row.entry)) }
 {
@@ -250,11 +252,10 @@ fn put_amount(amount: Amount, page: &mut Page)
     match amount {
         Amount::Number(count) => page.decimal(count),
         Amount::Score(tenths) => put_tenths(tenths, page),
-        Amount::Rated(tenths) => {
+        Amount::Rated(bounds, tenths) => {
             put_tenths(tenths, page);
             page.push(b" ");
-            let severity = severity_of_score(i128::from(tenths) * TENTH);
-            page.push(severity.as_str().as_bytes());
+            page.push(bounds.severity_of(tenths).as_str().as_bytes());
         }
     }
 }

@@ -6,7 +6,7 @@ ghost use Rattle.cvss_explain.specs.Lines.{metric_line, metric_text};
 use crate::lines::{FIGURE_WIDTH, write_component, write_padded, write_spoken};
 use cvss_json::Page;
 use cvss_lines::OutputBuffer;
-use cvss_report::names::{Row, word_in};
+use cvss_report::names::{ValueWord, word_in};
 use cvss_report::spelled;
 use cvss_text::print::Printed;
 use std::alloc::AllocError;
@@ -31,8 +31,8 @@ pub(crate) trait Explained: Printed {
         ensures { result.now ≡ description kind };
 
     /// How the values of a metric are spelled, each with its word.
-    fn rows(kind: Self::Kind) -> &'static [Row]
-        ensures { map (λ row. (row.0.now, row.1.now)) result.now ≡ words kind };
+    fn value_words(kind: Self::Kind) -> &'static [ValueWord]
+        ensures { map (λ word. (word.0.now, word.1.now)) result.now ≡ words kind };
 
     /// Writes the weight or effect of a metric.
     fn put_figure(&self, class: &Self::Class, kind: Self::Kind, page: &mut Page)
@@ -76,7 +76,7 @@ fn write_metric<V: Explained>(
     };
     let mut figure = Page::new();
     vector.put_figure(class, kind, &mut figure);
-    let word = word_in(V::rows(kind), spelling);
+    let word = word_in(V::value_words(kind), spelling);
     let (name, description) = (V::name(kind), V::description(kind));
     write_line(name, spelling, figure.bytes(), description, word, answers)
 }

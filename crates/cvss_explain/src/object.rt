@@ -6,7 +6,6 @@ ghost use Rattle.cvss_explain.specs.Steps.{entry_member, severity_member, value_
 ghost use Rattle.cvss_json.specs.Scalars.{member_room, member_view, scalar_room, scalar_text};
 
 use crate::step::{Amount, Step};
-use cvss_base::{TENTH, severity_of_score};
 use cvss_json::{Member, Members, Page, Scalar, put_member};
 
 /// A member of an object of steps.
@@ -58,7 +57,7 @@ fn value(amount: Amount) -> Scalar<'static>
 {
     match amount {
         Amount::Number(count) => Scalar::Decimal(count),
-        Amount::Score(tenths) | Amount::Rated(tenths) => Scalar::Tenths(tenths),
+        Amount::Score(tenths) | Amount::Rated(_, tenths) => Scalar::Tenths(tenths),
     }
 }
 
@@ -67,9 +66,11 @@ fn severity(amount: Amount) -> Option<Member<'static>>
     ensures text { severity_member amount ≡ option_map member_view result }
     ensures room { IfSome result (λ member. member_room member ≤ 58) }
 {
-    let Amount::Rated(tenths) = amount else {
-        return None;
-    };
-    let severity = severity_of_score(i128::from(tenths) * TENTH);
-    Some(("severity", Scalar::Text(severity.as_str())))
+    match amount {
+        Amount::Rated(bounds, tenths) => {
+            let severity = bounds.severity_of(tenths);
+            Some(("severity", Scalar::Text(severity.as_str())))
+        }
+        Amount::Number(_) | Amount::Score(_) => None,
+    }
 }

@@ -8,6 +8,7 @@ ghost use Rattle.cvss_explain.specs.Steps.{IsNumber, words_of};
 ghost use Rattle.cvss_explain.specs.declared.step.Amount.TheVariants.{Rated, Score};
 
 use crate::decimal::ten_millionths;
+use cvss_vector::Bounds;
 
 /// A number or a score of the equations of CVSS v2 (guide, section 3.2) or v3 (v3.1 specification, section
 /// 7; v3.0 specification, section 8).
@@ -72,8 +73,8 @@ pub enum Amount {
     Number(i64),
     /// A score of so many tenths.
     Score(u8),
-    /// A score of so many tenths, with its severity, which scores have since CVSS v3.
-    Rated(u8),
+    /// A score of so many tenths, with its severity by such bounds.
+    Rated(Bounds, u8),
 }
 
 /// A step.
@@ -129,12 +130,12 @@ impl Step {
         Step { quantity, amount }
     }
 
-    /// A score of so many tenths, with its severity.
-    pub(crate) fn rated(quantity: Quantity, tenths: u64) -> Step
+    /// A score of so many tenths, with its severity by such bounds.
+    pub(crate) fn rated(quantity: Quantity, bounds: Bounds, tenths: u64) -> Step
         requires { tenths ≤ 100 }
-        ensures { result ≡ record { quantity = quantity; amount = Rated tenths } }
+        ensures { result ≡ record { quantity = quantity; amount = Rated bounds tenths } }
     {
-        let amount = Amount::Rated(tenths as u8);
+        let amount = Amount::Rated(bounds, tenths as u8);
         Step { quantity, amount }
     }
 }

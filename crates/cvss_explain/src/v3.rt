@@ -164,7 +164,7 @@ impl Explained for Vector {
         kind.description()
     }
 
-    fn rows(kind: MetricType) -> &'static [names::Row] {
+    fn value_words(kind: MetricType) -> &'static [names::ValueWord] {
         v3::entry(kind).1
     }
 

@@ -12,7 +12,7 @@ use crate::lines::write_padded;
 use crate::metrics::Explained;
 use cvss_base::tenths::text_of;
 use cvss_lines::OutputBuffer;
-use cvss_report::names::Row;
+use cvss_report::names::ValueWord;
 use cvss_report::spelled;
 use cvss_vector::{Cvss, is_undefined};
 use std::alloc::{AllocError, Global};
@@ -70,7 +70,7 @@ fn write_line<V: Explained>(
         cvss,
         name,
         spelled(vector, kind),
-        V::rows(kind),
+        V::value_words(kind),
         answers,
     )?;
     answers.push(b"\n")
@@ -82,16 +82,16 @@ fn write_cells(
     cvss: &Cvss,
     name: &str,
     own: Option<&[u8]>,
-    rows: &[Row],
+    values: &[ValueWord],
     answers: &mut OutputBuffer,
 ) -> Result<(), AllocError>
     requires { HasScore cvss.now }
     ensures { OnOk result (Writes
-        (Joins (λ row. IsCell cvss.now name.now (option_copied own.entry) (row.0.now, row.1.now)) rows.now)
+        (Joins (λ value. IsCell cvss.now name.now (option_copied own.entry) (value.0.now, value.1.now)) values.now)
         answers.old.bytes.items answers.new.bytes.items) }
 {
-    for row in rows {
-        write_cell(alloc, cvss, name, own, *row, answers)?;
+    for value in values {
+        write_cell(alloc, cvss, name, own, *value, answers)?;
     }
     Ok(())
 }
@@ -101,17 +101,17 @@ fn write_cell(
     cvss: &Cvss,
     name: &str,
     own: Option<&[u8]>,
-    row: Row,
+    value: ValueWord,
     answers: &mut OutputBuffer,
 ) -> Result<(), AllocError>
     requires { HasScore cvss.now }
     ensures { OnOk result (Writes
         (IsCell cvss.now name.now (option_copied own.entry)
-        (row.entry.0.now, row.entry.1.now))
+        (value.entry.0.now, value.entry.1.now))
         answers.old.bytes.items answers.new.bytes.items) }
 {
-    match tenths_with(alloc, cvss, name, row.0)? {
-        Some(tenths) => write_value(is_present(own, row.0), row.0, tenths, answers),
+    match tenths_with(alloc, cvss, name, value.0)? {
+        Some(tenths) => write_value(is_present(own, value.0), value.0, tenths, answers),
         None => Ok(()),
     }
 }

@@ -1,4 +1,4 @@
--- A buffer of the caller, into which a text is written, an array, into which items are, the place of a value, or a struct
+-- A buffer of the caller, into which a text is written, an array, into which items are, the target of a value, or a struct
 -- that says its own size, so that a later release may lengthen it.
 use Rattle.std.specs.Prelude.{◌≡◌, ◌<◌, ◌≤◌, ◌⊎◌, ℕ, Bool, true, false, List, ◌++◌, length, drop, nat_le, if◌then◌else◌, Option, Some, None}
 
@@ -21,10 +21,10 @@ pub record IsLeft {X : Type 0} (old now : List X) (reported : ℕ) : Type 0 wher
   pub reported_is : reported ≡ 0
   pub now_is : now ≡ old
 
--- the text is at the beginning of the buffer, up to this place
-pub record HasPut {X : Type 0} (old text now : List X) (place : ℕ) : Type 0 where
+-- the text is at the beginning of the buffer, up to this offset
+pub record HasPut {X : Type 0} (old text now : List X) (offset : ℕ) : Type 0 where
   pub begins : now ≡ begun text old
-  pub place_is : place ≡ length text
+  pub offset_is : offset ≡ length text
 
 -- true is reported, and the value written; without one false is, and what was to be written is left as it was
 abbrev pub IsPut : {X : Type 0} → Option X → X → X → Bool → Type 0

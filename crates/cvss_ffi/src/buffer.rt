@@ -22,30 +22,31 @@ pub(crate) fn write<T: Copy>(items: &[T], buffer: &mut [T]) -> usize
 }
 
 /// Writes a value over another, if there is one, and returns whether there is.
-pub(crate) fn put<T: Drop>(value: Option<T>, place: &mut T) -> bool
-    ensures { IsPut value place.old place.new result }
+pub(crate) fn put<T: Drop>(value: Option<T>, target: &mut T) -> bool
+    ensures { IsPut value target.old target.new result }
 {
     let Some(value) = value else {
         return false;
     };
-    *place = value;
+    *target = value;
     true
 }
 
-/// Writes segments from a place in a buffer on where all of them fit, and returns the place after them.
-pub(crate) fn write_segments(segments: &[Segment<'_>], place: usize, buffer: &mut [u8]) -> usize
-    requires { place + length (text_of segments.now) < 2 ^ 64 }
-    ensures { IsWrittenAt place (text_of segments.now) buffer.old buffer.new result }
+/// Writes segments from an offset of a buffer on where all of them fit, and returns the offset after
+/// them.
+pub(crate) fn write_segments(segments: &[Segment<'_>], offset: usize, buffer: &mut [u8]) -> usize
+    requires { offset + length (text_of segments.now) < 2 ^ 64 }
+    ensures { IsWrittenAt offset (text_of segments.now) buffer.old buffer.new result }
 {
     let [segment, rest @ ..] = segments else {
-        return place;
+        return offset;
     };
-    let end = place + segment.bytes.len();
+    let end = offset + segment.bytes.len();
     let last = write_segments(rest, end, buffer);
     if last > buffer.len() {
         return last;
     }
-    let part = &mut buffer[place..end];
+    let part = &mut buffer[offset..end];
     part.copy_from_slice(segment.bytes);
     if segment.upper {
         part.make_ascii_uppercase();

@@ -2,7 +2,7 @@
 
 ghost use Rattle.std.specs.Prelude.{◌≡◌, ℕ, List, codes, drop, length, take};
 ghost use Rattle.cvss_base.specs.Rejection.{Rejection};
-ghost use Rattle.cvss_matches.specs.Matches.{AreFound, Placed, candidates_of};
+ghost use Rattle.cvss_matches.specs.Matches.{AreFound, Candidate, candidates_of};
 ghost use Rattle.cvss_vector.specs.Reasons.{reason_text};
 ghost use Rattle.cvss_vector.specs.declared.metric_type.MetricType.{MetricType};
 ghost use Rattle.cvss_vector.specs.v4.Merging.{effective_of};
@@ -32,7 +32,7 @@ pub fn quoted_parts_are_in_messages()
 /// Calls that go on where the one before says find exactly the matches of a text, in their order.
 #[tactic(auto, using(crate::proofs::MatchLemmas::found_in_turn))]
 pub fn calls_find_each_match()
-    ensures { (text : List ℕ) (found : List Placed) → AreFoundInTurn text 0 found
+    ensures { (text : List ℕ) (found : List Candidate) → AreFoundInTurn text 0 found
         → AreFound (candidates_of text) found }
 {}
 

@@ -46,7 +46,7 @@ fn first_match(text: &[u8], from: usize, size: u32) -> Option<CvssMatch>
     Some(CvssMatch {
         size,
         next,
-        offset: found.place,
+        offset: found.offset,
         length: found.text.len(),
     })
 }

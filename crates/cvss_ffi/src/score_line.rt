@@ -33,7 +33,7 @@ pub(crate) fn write_line<'a>(text: &'a [u8], flags: u32, end: &'a [u8], buffer: 
 }
 
 /// Writes the score line of a vector, whose canonical text has this length, and an end.
-// What follows the canonical text is written first: its place says whether the whole has room.
+// What follows the canonical text is written first: where it ends says whether the whole has room.
 fn write_line_of(cvss: &Cvss, text_length: usize, end: &[u8], buffer: &mut [u8]) -> usize
     requires scored { HasScore cvss.now }
     requires length { length (canonical_text cvss.now) ≡ text_length }

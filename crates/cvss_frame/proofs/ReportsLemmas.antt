@@ -1,11 +1,11 @@
 -- Texts that are reported one after another.
-use Rattle.std.proofs.Common.{◌≡◌, ℕ, zero, suc, ◌+◌, ◌-◌, ◌≤◌, arith, Bool, true, false, List, [], ◌∷◌, ◌++◌, Option, append_assoc, codes, refl, ◌∙◌, sym, ap, subst, length, drop, flat_map, take, get_or}
+use Rattle.std.proofs.Common.{◌≡◌, ℕ, zero, suc, ◌+◌, ◌-◌, ◌≤◌, arith, Bool, true, false, List, [], ◌∷◌, ◌++◌, Option, refl, sym, ap, subst, length, drop, flat_map, take, get_or}
 use Rattle.std.specs.Io.KnownBytes.{Appends}
 use Rattle.std.proofs.KnownBytes.{Appends-kept, Appends-nil, Appends-trans, Keeps-refl, Keeps-trans}
 use Rattle.std.proofs.Math.Seq.{take-append-add}
 use Rattle.std.proofs.lemmas.List.{take_rest}
 use Rattle.std.specs.Borrow.{Bor}
-use Rattle.cvss_frame.specs.Reports.{Reported, Reports, ReportsBy, error_report}
+use Rattle.cvss_frame.specs.Reports.{Reported, Reports, ReportsBy}
 
 -- a beginning of a text begins it where more follows, too
 take_within : (count : ℕ) (text more : List ℕ) → (within : ℕ) × (take count text ≡ take within (text ++ more))
@@ -40,12 +40,6 @@ Reports-none a = reports_none a.failed a.bytes
 -- a text is reported after one more
 pub Reports-first : (a b c : Reported) (one other text : List ℕ) → Reports a b one → Reports b c other → one ++ other ≡ text → Reports a c text
 Reports-first a b c one other text p q is = subst (Reports a c) is (Reports-then a b c one other p q)
-
--- the report of an error in parts, of which the last are reported as one
-pub error_parts : (name words : List ℕ) → codes "cvss: " ++ (name ++ (codes ": " ++ (words ++ 10 ∷ []))) ≡ error_report name words
-error_parts name words =
-    sym (append_assoc (codes "cvss: " ++ name ++ codes ": ") words (10 ∷ [])
-    ∙ (append_assoc (codes "cvss: " ++ name) (codes ": ") (words ++ 10 ∷ []) ∙ append_assoc (codes "cvss: ") name (codes ": " ++ (words ++ 10 ∷ []))))
 
 -- the first of several parts, and the others
 pub parts_first : (parts : List (Bor (List ℕ))) (first : Bor (List ℕ)) → 1 ≤ length parts

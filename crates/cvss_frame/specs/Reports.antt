@@ -1,5 +1,5 @@
 -- What a command reports on standard error.
-use Rattle.std.specs.Prelude.{◌≡◌, ◌⊎◌, ℕ, Bool, true, false, List, [], ◌∷◌, ◌++◌, codes, take, Option, None, IfSome, Result, Ok, Err}
+use Rattle.std.specs.Prelude.{◌≡◌, ◌⊎◌, ℕ, Bool, true, false, List, ◌++◌, codes, take, Option, None, IfSome, Result, Ok, Err}
 use Rattle.std.specs.Fmt.Cut.{IsTextOrCut}
 use Rattle.std.specs.Io.KnownBytes.{Appends, Keeps}
 use Rattle.cvss_lines.specs.declared.fault.RunFault.{RunFault}
@@ -27,22 +27,22 @@ ReportsBy false true written written' text = (count : ℕ) × Appends written wr
 abbrev pub Reports : Reported → Reported → List ℕ → Type 0
 Reports old new text = ReportsBy old.failed new.failed old.bytes new.bytes text
 
--- the report of an error says what it is about, by a name as it is shown, and then the words for the error
-abbrev pub error_report : List ℕ → List ℕ → List ℕ
-error_report name words = codes "cvss: " ++ name ++ codes ": " ++ words ++ 10 ∷ []
-
--- the name of an input as it is shown, or by its bytes where memory runs out
+-- a name as it is shown, or by its bytes where memory runs out
 abbrev pub IsShown : List ℕ → List ℕ → Type 0
 IsShown name shown = (shown ≡ shown_name name) ⊎ (shown ≡ shown_bytes name)
 
--- an error is reported that prints this text, if that is known: no contract says what an error of the system prints. A
--- text of more than 320 bytes is cut.
+-- a text is reported with a name in it, as it is shown
+pub record ReportsAbout (before name after : List ℕ) (old new : Reported) : Type 0 where
+  pub shown : List ℕ
+  pub shows : IsShown name shown
+  pub reports : Reports old new (before ++ (shown ++ after))
+
+-- an error is reported that prints this text, if that is known, and what it is about: no contract says what an error of the
+-- system prints. A text of more than 320 bytes is cut.
 pub record ReportsError (printed : Option (List ℕ)) (name : List ℕ) (old new : Reported) : Type 0 where
   pub words : List ℕ
   pub are : IfSome printed (λ text. IsTextOrCut 320 text words)
-  pub shown : List ℕ
-  pub shows : IsShown name shown
-  pub reports : Reports old new (error_report shown words)
+  pub reports : ReportsAbout (codes "cvss: ") name (codes ": " ++ (words ++ codes "\n")) old new
 
 -- the error is reported where an operand cannot be read, and nothing otherwise
 abbrev pub ReportsUnread : {X : Type 0} → List ℕ → Result X RunFault → Reported → Reported → Type 0

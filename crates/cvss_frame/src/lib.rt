@@ -21,7 +21,7 @@ pub use files::{Files, SystemFiles};
 pub use names::{is_plain, put_shown, shown_text};
 pub use operands::{are_many, serve_operands};
 pub use reading::read_whole;
-pub use report::{Report, report_error};
+pub use report::{Report, report_about, report_error};
 pub use served::{Served, exit_status};
 pub use sources::{Source, has_name, source_of};
 pub use streams::{Host, Streams};

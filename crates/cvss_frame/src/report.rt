@@ -1,9 +1,9 @@
 //! What is reported on standard error.
 
-ghost use Rattle.std.specs.Prelude.{◌≡◌, IfOk, false, flat_map};
+ghost use Rattle.std.specs.Prelude.{◌≡◌, ◌++◌, IfOk, false, flat_map};
 ghost use Rattle.cvss_json.specs.Sinks.{Adds};
 ghost use Rattle.cvss_frame.specs.Names.{shown_byte, shown_bytes, shown_name};
-ghost use Rattle.cvss_frame.specs.Reports.{Reports, ReportsError, error_report, reported};
+ghost use Rattle.cvss_frame.specs.Reports.{Reports, ReportsAbout, ReportsError, reported};
 
 use crate::names::{byte_escape, is_printable, put_shown};
 use cvss_json::{Growing, Sink};
@@ -48,18 +48,6 @@ impl<E: Write> Report<E> {
         }
     }
 
-    /// Reports a text that is given in parts. It is one write, so that the reports of programs that share
-    /// standard error do not mix, unless there is no memory to join the parts.
-    pub fn write_parts(&mut self, parts: &[&[u8]])
-        ensures { Reports (reported E.contents self.old) (reported E.contents self.new)
-            (flat_map (λ part. part.now) parts.now) }
-    {
-        match joined(self.alloc, parts) {
-            Ok(text) => self.write(&text),
-            Err(_) => self.write_each(parts),
-        }
-    }
-
     /// Reports a name by its bytes.
     fn write_shown(&mut self, name: &[u8])
         ensures { Reports (reported E.contents self.old) (reported E.contents self.new)
@@ -95,14 +83,64 @@ impl<E: Write> Report<E> {
     }
 }
 
-fn joined(alloc: Global, parts: &[&[u8]]) -> Result<Vec<u8>, AllocError>
-    ensures { IfOk result (λ text. text.items ≡ flat_map (λ part. part.now) parts.now) }
+/// Reports a text with a name in it, which is shown with escapes where it would break a line or a terminal. It
+/// is one write, so that the reports of programs that share standard error do not mix, unless memory runs out.
+pub fn report_about<E: Write>(before: &[u8], name: &[u8], after: &[&[u8]], report: &mut Report<E>)
+    ensures { ReportsAbout before.now name.now (flat_map (λ part. part.now) after.now)
+        (reported E.contents report.old) (reported E.contents report.new) }
 {
-    let mut text = Vec::new(alloc);
-    for part in parts {
-        text.extend_from_slice(part)?;
+    match text_about(report.alloc, before, name, after) {
+        Ok(text) => report.write(&text),
+        Err(_) => write_about(before, name, after, report),
     }
-    Ok(text)
+}
+
+/// The text with the name in it.
+///
+/// # Errors
+///
+/// Out of memory.
+fn text_about(
+    alloc: Global,
+    before: &[u8],
+    name: &[u8],
+    after: &[&[u8]],
+) -> Result<Vec<u8>, AllocError>
+    ensures { IfOk result (λ text. text.items
+        ≡ before.now ++ (shown_name name.now ++ flat_map (λ part. part.now) after.now)) }
+{
+    let mut text = Growing::new(alloc);
+    put_about(&mut text, before, name, after);
+    text.end()
+}
+
+fn put_about<S: Sink>(sink: &mut S, before: &[u8], name: &[u8], after: &[&[u8]])
+    ensures { Adds S.Holds (before.now ++ (shown_name name.now ++ flat_map (λ part. part.now) after.now))
+        sink.old sink.new }
+{
+    sink.push(before);
+    put_shown(sink, name);
+    put_parts(sink, after);
+}
+
+#[tactic(auto, using(cvss_json::proofs::AddsLemmas::join2, cvss_json::proofs::AddsLemmas::nothing))]
+fn put_parts<S: Sink>(sink: &mut S, parts: &[&[u8]])
+    ensures { Adds S.Holds (flat_map (λ part. part.now) parts.now) sink.old sink.new }
+{
+    if let [part, rest @ ..] = parts {
+        sink.push(part);
+        put_parts(sink, rest);
+    }
+}
+
+/// Reports the text in parts, which takes no memory. The name is shown by its bytes.
+fn write_about<E: Write>(before: &[u8], name: &[u8], after: &[&[u8]], report: &mut Report<E>)
+    ensures { Reports (reported E.contents report.old) (reported E.contents report.new)
+        (before.now ++ (shown_bytes name.now ++ flat_map (λ part. part.now) after.now)) }
+{
+    report.write(before);
+    report.write_shown(name);
+    report.write_each(after);
 }
 
 /// Reports an error, and what it is about.
@@ -111,41 +149,10 @@ pub fn report_error<D: Display + Drop, E: Write>(name: &[u8], error: D, report: 
         (reported E.contents report.old) (reported E.contents report.new) }
 {
     let words = InlineText::<WORDS>::of(error);
-    match error_text(report.alloc, name, words.as_str()) {
-        Ok(text) => report.write(&text),
-        Err(_) => write_error(name, words.as_str(), report),
-    }
-}
-
-/// The report of an error.
-///
-/// # Errors
-///
-/// Out of memory.
-fn error_text(alloc: Global, name: &[u8], words: &str) -> Result<Vec<u8>, AllocError>
-    ensures { IfOk result (λ text. text.items ≡ error_report (shown_name name.now) words.now) }
-{
-    let mut text = Growing::new(alloc);
-    put_error(&mut text, name, words);
-    text.end()
-}
-
-fn put_error<S: Sink>(sink: &mut S, name: &[u8], words: &str)
-    ensures { Adds S.Holds (error_report (shown_name name.now) words.now) sink.old sink.new }
-{
-    sink.push(b"cvss: ");
-    put_shown(sink, name);
-    sink.push(b": ");
-    sink.push(words.as_bytes());
-    sink.push(b"\n");
-}
-
-/// Reports an error in parts, which takes no memory.
-fn write_error<E: Write>(name: &[u8], words: &str, report: &mut Report<E>)
-    ensures { Reports (reported E.contents report.old) (reported E.contents report.new)
-        (error_report (shown_bytes name.now) words.now) }
-{
-    report.write(b"cvss: ");
-    report.write_shown(name);
-    report.write_parts(&[b": ", words.as_bytes(), b"\n"]);
+    report_about(
+        b"cvss: ",
+        name,
+        &[b": ", words.as_str().as_bytes(), b"\n"],
+        report,
+    );
 }

@@ -30,18 +30,18 @@ by_lines P last ended bytes = from [] bytes (All-nil _) where
   ]
 
 -- no line ends in bytes whose first line end is said to be at their length
-pub none_ends : (bytes : List ℕ) (place : ℕ) → IsFirstOf 10 10 bytes place → place ≡ length bytes → NoLineEnd bytes
-none_ends bytes place is all = All-from_get_or (λ byte. byte ≢ 10) bytes 0 (λ k within. is.without_one k (omega arith))
+pub none_ends : (bytes : List ℕ) (index : ℕ) → IsFirstOf 10 10 bytes index → index ≡ length bytes → NoLineEnd bytes
+none_ends bytes index is all = All-from_get_or (λ byte. byte ≢ 10) bytes 0 (λ k within. is.without_one k (omega arith))
 
 -- a line end within them ends the first line
-pub first_ends : (bytes : List ℕ) (place : ℕ) → IsFirstOf 10 10 bytes place → place < length bytes
-    → NoLineEnd (take place bytes) × (bytes ≡ take place bytes ++ 10 ∷ take (length bytes - (place + 1)) (drop (place + 1) bytes))
-first_ends bytes place is below =
-    let ends = split_at bytes place 0 below ∙ ap (λ byte. take place bytes ++ byte ∷ drop (suc place) bytes) (elim (is.found below) [ inl ends ↦ ends | inr ends ↦ ends ]) in (
-      All-from_get_or (λ byte. byte ≢ 10) (take place bytes) 0 (λ k within.
-          let before : k < place = omega (arith, within, length-take place bytes) in
-          subst (λ byte. byte ≢ 10) (sym (get_or-take place bytes k 0 before)) (is.without_one k before)),
-      ends ∙ ap (λ rest. take place bytes ++ 10 ∷ rest) (ap (λ n. drop n bytes) (sym (add-one place)) ∙ sym (take_rest bytes (place + 1))),
+pub first_ends : (bytes : List ℕ) (index : ℕ) → IsFirstOf 10 10 bytes index → index < length bytes
+    → NoLineEnd (take index bytes) × (bytes ≡ take index bytes ++ 10 ∷ take (length bytes - (index + 1)) (drop (index + 1) bytes))
+first_ends bytes index is below =
+    let ends = split_at bytes index 0 below ∙ ap (λ byte. take index bytes ++ byte ∷ drop (suc index) bytes) (elim (is.found below) [ inl ends ↦ ends | inr ends ↦ ends ]) in (
+      All-from_get_or (λ byte. byte ≢ 10) (take index bytes) 0 (λ k within.
+          let before : k < index = omega (arith, within, length-take index bytes) in
+          subst (λ byte. byte ≢ 10) (sym (get_or-take index bytes k 0 before)) (is.without_one k before)),
+      ends ∙ ap (λ rest. take index bytes ++ 10 ∷ rest) (ap (λ n. drop n bytes) (sym (add-one index)) ∙ sym (take_rest bytes (index + 1))),
     )
 
 -- these lines are ended in the bytes, and this follows them

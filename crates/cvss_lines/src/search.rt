@@ -8,7 +8,7 @@ use std::simd::prelude::*;
 /// How many bytes one step of the search compares.
 const LANES: usize = 16;
 
-/// The place of the first byte that is one of two, or the length where there is none.
+/// The index of the first byte that is one of two, or the length where there is none.
 #[inline(always)]
 pub fn either_or_len(bytes: &[u8], one: u8, other: u8) -> usize
     ensures { IsFirstOf one other bytes.now result }
@@ -24,14 +24,14 @@ pub fn either_or_len(bytes: &[u8], one: u8, other: u8) -> usize
     at + either_by_one(&bytes[at..], one, other)
 }
 
-/// The place of the first byte that is one of two, or the length where there is none, sought byte by
+/// The index of the first byte that is one of two, or the length where there is none, sought byte by
 /// byte.
 #[inline(always)]
 fn either_by_one(bytes: &[u8], one: u8, other: u8) -> usize
     ensures { IsFirstOf one other bytes.now result }
 {
     match bytes.iter().position(|byte| *byte == one || *byte == other) {
-        Some(place) => place,
+        Some(index) => index,
         None => bytes.len(),
     }
 }
@@ -48,7 +48,7 @@ fn run_in_lanes(bytes: &[u8], at: usize, byte: u8) -> usize
     first_set(same.to_bitmask())
 }
 
-/// The place of the lowest bit that is set, or `LANES` where none is.
+/// The index of the lowest bit that is set, or `LANES` where none is.
 #[inline(always)]
 fn first_set(bits: u64) -> usize
     ensures { result ≡ (if bits == 0 then LANES else trailing_zeros w64 bits) }

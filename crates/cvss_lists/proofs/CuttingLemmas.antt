@@ -7,7 +7,7 @@ use Rattle.std.proofs.lemmas.List.{take_all}
 use Rattle.cvss_base.specs.Text.{name_part}
 use Rattle.cvss_text.proofs.TextLemmas.{is_colon}
 
--- the place of the first colon
+-- the index of the first colon
 colon_at : (piece : List ℕ) (at : ℕ) → position is_colon piece ≡ Some at → position_or_len is_colon piece ≡ at
 colon_at piece at found = grind (arith, common_steps)
 

@@ -10,12 +10,12 @@ ghost use Rattle.cvss_lists.specs.private.Cutting.{pieces_after};
 pub(crate) fn cut(text: &[u8]) -> (&[u8], Option<&[u8]>)
     ensures { pieces text.now ≡ result.0.now ∷ pieces_after result.1 }
 {
-    let end = first_place(text, b'/').unwrap_or(text.len());
+    let end = first_index(text, b'/').unwrap_or(text.len());
     (&text[..end], text.get(end + 1..))
 }
 
-/// The place of the first byte with this value.
-fn first_place(text: &[u8], value: u8) -> Option<usize>
+/// The index of the first byte with this value.
+fn first_index(text: &[u8], value: u8) -> Option<usize>
     ensures { result ≡ position (λ byte. byte == value) text.now }
 {
     text.iter().position(|byte| *byte == value)
@@ -26,7 +26,7 @@ fn first_place(text: &[u8], value: u8) -> Option<usize>
 pub(crate) fn name_of(piece: &[u8]) -> &[u8]
     ensures { result.now ≡ name_part piece.now }
 {
-    let end = first_place(piece, b':').unwrap_or(piece.len());
+    let end = first_index(piece, b':').unwrap_or(piece.len());
     &piece[..end]
 }
 

@@ -130,5 +130,5 @@ accepted_whole text accepted = denoted_whole text accepted.cvss accepted.denoted
 pub accepted_between : (before text after : List ℕ) → IsAccepted text → IsMatchedBetween before text after
 accepted_between before text after accepted = matched_between before text after (accepted_whole text accepted)
 
-pub accepted_alone : (text : List ℕ) → IsAccepted text → candidates_of text ≡ record { place = 0; text = text } ∷ []
+pub accepted_alone : (text : List ℕ) → IsAccepted text → candidates_of text ≡ record { offset = 0; text = text } ∷ []
 accepted_alone text accepted = matched_alone text (accepted_whole text accepted)

@@ -9,7 +9,7 @@ use Rattle.std.proofs.lemmas.List.Elements.{All-weaker}
 use Rattle.std.proofs.lemmas.List.Folds.{list_any_none}
 use Rattle.std.proofs.lemmas.List.Sums.{AllPass-from_list_all}
 use Rattle.cvss_matches.specs.Parts.{backslash, begins_like, begins_part, begins_run, begins_with_prefix, is_like, is_run_byte, loose_prefixes, parts_of}
-use Rattle.cvss_matches.specs.Matches.{candidate_of, placed_from}
+use Rattle.cvss_matches.specs.Matches.{candidate_of, candidates_from}
 use Rattle.cvss_matches.specs.laws.Whole.{EndsOutside, is_edge}
 use Rattle.cvss_matches.proofs.PartLemmas.{concat-parts, parts_alone}
 use Rattle.cvss_matches.proofs.PrefixLemmas.{starts_before}
@@ -117,9 +117,9 @@ parts_after before rest outside = elim (either_apart before (reverse before) (sy
       (ap parts_of (append_assoc ends.front (ends.last ∷ []) rest) ∙ parts_after_byte ends.front ends.last rest ends.outside)
 ]
 
-pub placed_after : (place : ℕ) (parts after : List (List ℕ)) → placed_from place (parts ++ after) ≡ placed_from place parts ++ placed_from (place + length (concat parts)) after
-placed_after place [] after = ap (λ at. placed_from at after) (omega arith)
-placed_after place (part ∷ parts) after =
-    ap (λ more. candidate_of place part ∷ more)
-    (placed_after (place + length part) parts after
-    ∙ ap (λ at. placed_from (place + length part) parts ++ placed_from at after) (omega (arith, length-append part (concat parts))))
+pub candidates_from-append : (offset : ℕ) (parts after : List (List ℕ)) → candidates_from offset (parts ++ after) ≡ candidates_from offset parts ++ candidates_from (offset + length (concat parts)) after
+candidates_from-append offset [] after = ap (λ at. candidates_from at after) (omega arith)
+candidates_from-append offset (part ∷ parts) after =
+    ap (λ more. candidate_of offset part ∷ more)
+    (candidates_from-append (offset + length part) parts after
+    ∙ ap (λ at. candidates_from (offset + length part) parts ++ candidates_from at after) (omega (arith, length-append part (concat parts))))

@@ -5,7 +5,7 @@ use Rattle.cvss_vector.specs.Lines.{score_rule}
 use Rattle.cvss_vector.specs.declared.scoring.Scoring.{Scoring}
 use Rattle.cvss_vector.specs.declared.setting.Version.{Version}
 use Rattle.cvss_lines.specs.Answers.{Answer, Accepted, Rejected, is_accepted, texts_of}
-use Rattle.cvss_matches.specs.Matches.{AreFound, IsAccepted, Placed, candidates_of}
+use Rattle.cvss_matches.specs.Matches.{AreFound, Candidate, IsAccepted, candidates_of}
 use Rattle.cvss_matches.specs.Answers.{AreKept, IsAnswerTo, Kept, all_accepted, answer_with, kept_texts}
 use Rattle.cvss_matches.specs.laws.Alone.{ReportsOfAll}
 use Rattle.cvss_matches.proofs.ReportingLemmas.{answered_whole, kept_answer, located}
@@ -15,7 +15,7 @@ texts_of_either true texts = refl
 texts_of_either false texts = refl
 
 kept_alone : (prefix : List ℕ) (scoring : Scoring) (allow : Bool) (assumed : Option Version) (number : ℕ) (line : List ℕ) (kept : List Kept) (answer : Answer) → IsAccepted line
-    → AreKept (located prefix scoring allow assumed number line) (record { place = 0; text = line } ∷ []) kept → answer ≡ answer_with kept (kept_texts kept)
+    → AreKept (located prefix scoring allow assumed number line) (record { offset = 0; text = line } ∷ []) kept → answer ≡ answer_with kept (kept_texts kept)
     → ReportsOfAll scoring allow prefix number line answer
 kept_alone prefix scoring allow assumed number line [] answer accepted are is = absurd are
 kept_alone prefix scoring allow assumed number line (one ∷ []) answer accepted ((reported, is_reported, same), end) is = record {
@@ -29,13 +29,13 @@ kept_alone prefix scoring allow assumed number line (one ∷ []) answer accepted
 }
 kept_alone prefix scoring allow assumed number line (one ∷ other ∷ more) answer accepted are is = absurd are.1
 
-found_alone : (line : List ℕ) (found : List Placed) → IsAccepted line → AreFound (record { place = 0; text = line } ∷ []) found → found ≡ record { place = 0; text = line } ∷ []
+found_alone : (line : List ℕ) (found : List Candidate) → IsAccepted line → AreFound (record { offset = 0; text = line } ∷ []) found → found ≡ record { offset = 0; text = line } ∷ []
 found_alone line [] accepted are = absurd (are.0 (inl (inl accepted)))
 found_alone line (one ∷ []) accepted (inl (is, same, none)) = rw same refl
 found_alone line (one ∷ other ∷ more) accepted (inl (is, same, none)) = absurd none
 found_alone line (one ∷ more) accepted (inr (not_found, are)) = absurd (not_found (inl (inl accepted)))
 
-pub answered_alone : (prefix : List ℕ) (scoring : Scoring) (allow : Bool) (assumed : Option Version) (number : ℕ) (line : List ℕ) (answer : Answer) → (candidates_of line ≡ record { place = 0; text = line } ∷ []) → IsAccepted line
+pub answered_alone : (prefix : List ℕ) (scoring : Scoring) (allow : Bool) (assumed : Option Version) (number : ℕ) (line : List ℕ) (answer : Answer) → (candidates_of line ≡ record { offset = 0; text = line } ∷ []) → IsAccepted line
     → IsAnswerTo (located prefix scoring allow assumed number line) answer → ReportsOfAll scoring allow prefix number line answer
 answered_alone prefix scoring allow assumed number line answer one accepted answers =
     let found = found_alone line answers.shown accepted (subst (λ candidates. AreFound candidates answers.shown) one answers.are_shown) in

@@ -4,7 +4,7 @@ use Rattle.std.specs.Prelude.{unwrap_or}
 use Rattle.std.specs.List.{list_all}
 use Rattle.std.proofs.lemmas.Bool.{and_parts, cond-true, false≢true, or_cases, or_left, or_right}
 use Rattle.cvss_base.specs.Text.{has, slash}
-use Rattle.cvss_matches.specs.Matches.{IsCertain, IsFound, Placed, label_of, without_label}
+use Rattle.cvss_matches.specs.Matches.{Candidate, IsCertain, IsFound, label_of, without_label}
 use Rattle.cvss_matches.specs.Parts.{begins_exactly, begins_loosely, begins_like_any, begins_metrics, begins_with_prefix, encoded_metrics_of_v2, has_like_any, is_encoded_v2, label_length, lacks_prefix, metrics_after_v2, percent, slashes}
 use Rattle.cvss_matches.specs.private.Passing.{has_mark, is_mark}
 use Rattle.cvss_matches.proofs.AcceptedLemmas.{accepted_whole}
@@ -47,15 +47,15 @@ certain_unlabelled text (inr exactly) =
     cond-true (begins_with_prefix text) 0 (unwrap_or (label_length text) 0)
     (or_left (begins_exactly text) (begins_loosely text) (and_parts (begins_exactly text) (has_like_any slashes text) exactly).0)
 
-pub found_by : (given candidate : Placed) → given ≡ candidate → IsFound given.text → (given ≡ candidate) × IsFound candidate.text
-found_by given candidate same found = (same, subst (λ (each : Placed). IsFound each.text) same found)
+pub found_by : (given candidate : Candidate) → given ≡ candidate → IsFound given.text → (given ≡ candidate) × IsFound candidate.text
+found_by given candidate same found = (same, subst (λ (each : Candidate). IsFound each.text) same found)
 
-pub not_found_by : (given candidate : Placed) → given ≡ candidate → ¬ (IsFound given.text) → ¬ (IsFound candidate.text)
-not_found_by given candidate same not_found found = not_found (subst (λ (each : Placed). IsFound each.text) (sym same) found)
+pub not_found_by : (given candidate : Candidate) → given ≡ candidate → ¬ (IsFound given.text) → ¬ (IsFound candidate.text)
+not_found_by given candidate same not_found found = not_found (subst (λ (each : Candidate). IsFound each.text) (sym same) found)
 
-pub found_whole : (place : ℕ) (text : List ℕ) → IsCertain text → (record { place = place; text = text } ≡ without_label place text) × IsFound (without_label place text).text
-found_whole place text certain = found_by (record { place = place; text = text }) (without_label place text) (sym (without_no_label place text (certain_unlabelled text certain))) (inl certain)
+pub found_whole : (offset : ℕ) (text : List ℕ) → IsCertain text → (record { offset = offset; text = text } ≡ without_label offset text) × IsFound (without_label offset text).text
+found_whole offset text certain = found_by (record { offset = offset; text = text }) (without_label offset text) (sym (without_no_label offset text (certain_unlabelled text certain))) (inl certain)
 
-pub after_label : (place : ℕ) (text cut : List ℕ) (label : ℕ) → label ≡ label_of text → cut ≡ drop label text → record { place = place + label; text = cut } ≡ without_label place text
-after_label place text cut label label_is cut_is =
-    ap (λ bytes. record { place = place + label; text = bytes }) cut_is ∙ ap (λ count. record { place = place + count; text = drop count text }) label_is
+pub after_label : (offset : ℕ) (text cut : List ℕ) (label : ℕ) → label ≡ label_of text → cut ≡ drop label text → record { offset = offset + label; text = cut } ≡ without_label offset text
+after_label offset text cut label label_is cut_is =
+    ap (λ bytes. record { offset = offset + label; text = bytes }) cut_is ∙ ap (λ count. record { offset = offset + count; text = drop count text }) label_is

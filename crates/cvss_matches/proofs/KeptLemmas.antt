@@ -2,7 +2,7 @@
 use Rattle.std.proofs.Common.{◌≡◌, ℕ, Bool, true, false, List, [], ◌∷◌, ◌++◌, flat_map, length, Option, Some, refl, sym, ap, ◌∙◌, subst, append-nil, if◌then◌else◌, take}
 use Rattle.std.proofs.Math.Seq.{take-append_seam}
 use Rattle.cvss_matches.specs.Answers.{Asked, IsKept, IsKeptIf, IsScored, kept_of}
-use Rattle.cvss_matches.specs.Matches.{Placed}
+use Rattle.cvss_matches.specs.Matches.{Candidate}
 use Rattle.cvss_matches.specs.private.Reporting.{WritesKept, WritesReported, written_as}
 use Rattle.cvss_report.specs.Gates.{is_failing, is_passed_over}
 use Rattle.cvss_report.specs.declared.gate.Gate.{Gate}
@@ -14,7 +14,7 @@ written_if true write text old middle new written kept =
     kept ∙ ap (λ bytes. take (length old) bytes) written ∙ take-append_seam old (write text) ∙ sym (append-nil old)
 written_if false write text old middle new written kept = kept ∙ written ∙ ap (λ bytes. old ++ bytes) (sym (append-nil (write text)))
 
-pub kept_reported : (quiet failing : Bool) (asked : Asked) (candidate : Placed) (old middle new : List ℕ) (accepted : Bool) → WritesReported asked candidate old middle accepted
+pub kept_reported : (quiet failing : Bool) (asked : Asked) (candidate : Candidate) (old middle new : List ℕ) (accepted : Bool) → WritesReported asked candidate old middle accepted
     → new ≡ (if quiet then take (length old) middle else middle)
     → WritesKept (IsKeptIf false quiet failing asked candidate) asked.form old new (if failing then false else accepted)
 kept_reported quiet failing asked candidate old middle new accepted writes kept = record {
@@ -25,7 +25,7 @@ kept_reported quiet failing asked candidate old middle new accepted writes kept 
 }
 
 -- what is kept of a candidate that is not passed over is let through the gate
-pub kept_through : (gate : Gate) (asked : Asked) (candidate : Placed) (score : Option ℕ) (failing : Bool) (old new : List ℕ) (accepted : Bool) → IsScored asked candidate score
+pub kept_through : (gate : Gate) (asked : Asked) (candidate : Candidate) (score : Option ℕ) (failing : Bool) (old new : List ℕ) (accepted : Bool) → IsScored asked candidate score
     → is_passed_over gate score ≡ false → failing ≡ is_failing gate score
     → WritesKept (IsKeptIf false gate.quiet failing asked candidate) asked.form old new accepted → WritesKept (IsKept (Some gate) asked candidate) asked.form old new accepted
 kept_through gate asked candidate score failing old new accepted scored shown fails writes = record {
@@ -41,7 +41,7 @@ kept_through gate asked candidate score failing old new accepted scored shown fa
 }
 
 -- nothing is kept of one that is passed over
-pub passed_over : (gate : Gate) (asked : Asked) (candidate : Placed) (score : Option ℕ) (bytes : List ℕ) → IsScored asked candidate score → is_passed_over gate score ≡ true
+pub passed_over : (gate : Gate) (asked : Asked) (candidate : Candidate) (score : Option ℕ) (bytes : List ℕ) → IsScored asked candidate score → is_passed_over gate score ≡ true
     → WritesKept (IsKept (Some gate) asked candidate) asked.form bytes bytes true
 passed_over gate asked candidate score bytes scored over = record {
   kept = record { texts = []; accepts = true };

@@ -7,9 +7,9 @@ pub mod FoundLemmas
 mod KeptLemmas
 mod LabelLemmas
 mod NextLemmas
+mod OffsetLemmas
 mod PartLemmas
 mod PassLemmas
-mod PlaceLemmas
 mod PlainLemmas
 mod PrefixLemmas
 mod ReportingLemmas

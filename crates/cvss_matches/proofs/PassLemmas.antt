@@ -9,25 +9,25 @@ use Rattle.std.proofs.lemmas.List.Folds.{list_any-append, list_any_at, list_any_
 use Rattle.cvss_base.specs.Text.{slash}
 use Rattle.cvss_lines.specs.Search.{IsFirstOf}
 use Rattle.cvss_matches.specs.Parts.{backslash, is_escape, parts_of, percent}
-use Rattle.cvss_matches.specs.Matches.{IsFound, Placed, candidate_of, placed_from}
+use Rattle.cvss_matches.specs.Matches.{Candidate, IsFound, candidate_of, candidates_from}
 use Rattle.cvss_matches.specs.CandidatesLeft.{NoneFound}
 use Rattle.cvss_matches.specs.private.Passing.{Passes, has_mark, is_mark}
-use Rattle.cvss_matches.proofs.AfterLemmas.{placed_after}
+use Rattle.cvss_matches.proofs.AfterLemmas.{candidates_from-append}
 use Rattle.cvss_matches.proofs.FindLemmas.{found_with_mark}
 use Rattle.cvss_matches.proofs.PartLemmas.{concat-parts}
-use Rattle.cvss_matches.proofs.PlaceLemmas.{IsInside, match_inside}
+use Rattle.cvss_matches.proofs.OffsetLemmas.{IsInside, match_inside}
 
--- no byte passes a test before a place, where none does before a later one
-none_before : (test : ℕ → Bool) (text : List ℕ) (end place : ℕ) → ((k : ℕ) → k < end → test (get_or text k 0) ≡ false) → place ≤ end → end ≤ length text → list_any test (take place text) ≡ false
-none_before test text end place none before within = list_any_none test (take place text)
-    (All-from_get_or (λ byte. test byte ≡ false) (take place text) 0 (λ k below.
-    let at : k < place = omega (arith, below, length-take-le place text (omega (arith, before, within))) in
-    subst (λ byte. test byte ≡ false) (sym (get_or-take place text k 0 at)) (none k (omega (arith, at, before)))))
+-- no byte passes a test before an offset, where none does before a later one
+none_before : (test : ℕ → Bool) (text : List ℕ) (end offset : ℕ) → ((k : ℕ) → k < end → test (get_or text k 0) ≡ false) → offset ≤ end → end ≤ length text → list_any test (take offset text) ≡ false
+none_before test text end offset none before within = list_any_none test (take offset text)
+    (All-from_get_or (λ byte. test byte ≡ false) (take offset text) 0 (λ k below.
+    let at : k < offset = omega (arith, below, length-take-le offset text (omega (arith, before, within))) in
+    subst (λ byte. test byte ≡ false) (sym (get_or-take offset text k 0 at)) (none k (omega (arith, at, before)))))
 
--- no mark is before a place at or before the first
-pub unmarked_before : (text : List ℕ) (end place : ℕ) → IsFirstOf slash percent text end → place ≤ end → has_mark (take place text) ≡ false
-unmarked_before text end place first before =
-    none_before is_mark text end place
+-- no mark is before an offset at or before the first
+pub unmarked_before : (text : List ℕ) (end offset : ℕ) → IsFirstOf slash percent text end → offset ≤ end → has_mark (take offset text) ≡ false
+unmarked_before text end offset first before =
+    none_before is_mark text end offset
     (λ k below. or_from (eqb (get_or text k 0) slash) (eqb (get_or text k 0) percent) (ne_eqb _ slash (first.without_one k below)) (ne_eqb _ percent (first.without_other k below)))
     before first.within
 
@@ -40,41 +40,41 @@ pub escape_not : (byte : ℕ) → byte ≢ percent → byte ≢ backslash → is
 escape_not byte one other = or_from (eqb byte percent) (eqb byte backslash) (ne_eqb byte percent one) (ne_eqb byte backslash other)
 
 -- one is in a text exactly if the first is within the text
-pub escape_by_first : (text : List ℕ) (place : ℕ) → IsFirstOf percent backslash text place → ltb place (length text) ≡ list_any is_escape text
-escape_by_first text place first = elim (leb_tells (suc place) (length text)) [
-  | inl within ↦ within.0 ∙ sym (list_any_at is_escape text place 0 (omega (arith, within.1)) (escape_at _ (first.found (omega (arith, within.1)))))
-  | inr past ↦ past.0 ∙ sym (sym (ap (list_any is_escape) (take_all place text (omega (arith, past.1))))
-      ∙ none_before is_escape text place place (λ k below. escape_not _ (first.without_one k below) (first.without_other k below)) (omega arith) first.within)
+pub escape_by_first : (text : List ℕ) (offset : ℕ) → IsFirstOf percent backslash text offset → ltb offset (length text) ≡ list_any is_escape text
+escape_by_first text offset first = elim (leb_tells (suc offset) (length text)) [
+  | inl within ↦ within.0 ∙ sym (list_any_at is_escape text offset 0 (omega (arith, within.1)) (escape_at _ (first.found (omega (arith, within.1)))))
+  | inr past ↦ past.0 ∙ sym (sym (ap (list_any is_escape) (take_all offset text (omega (arith, past.1))))
+      ∙ none_before is_escape text offset offset (λ k below. escape_not _ (first.without_one k below) (first.without_other k below)) (omega arith) first.within)
 ]
 
 -- what is inside an unmarked part is not found
-unmarked_inside : (place : ℕ) (part : List ℕ) (candidate : Placed) → IsInside place part candidate → has_mark part ≡ false → has_mark candidate.text ≡ false
-unmarked_inside place part candidate inside none =
+unmarked_inside : (offset : ℕ) (part : List ℕ) (candidate : Candidate) → IsInside offset part candidate → has_mark part ≡ false → has_mark candidate.text ≡ false
+unmarked_inside offset part candidate inside none =
     let after = (or_parts (has_mark inside.front) (has_mark (candidate.text ++ inside.back))
     (sym (list_any-append is_mark inside.front (candidate.text ++ inside.back)) ∙ sym (ap has_mark inside.is) ∙ none)).1 in
     (or_parts (has_mark candidate.text) (has_mark inside.back) (sym (list_any-append is_mark candidate.text inside.back) ∙ after)).0
 
-none_found : (place : ℕ) (parts : List (List ℕ)) → has_mark (concat parts) ≡ false → NoneFound (placed_from place parts)
-none_found place [] none = All-nil (λ candidate. ¬ (IsFound candidate.text))
-none_found place (part ∷ parts) none =
+none_found : (offset : ℕ) (parts : List (List ℕ)) → has_mark (concat parts) ≡ false → NoneFound (candidates_from offset parts)
+none_found offset [] none = All-nil (λ candidate. ¬ (IsFound candidate.text))
+none_found offset (part ∷ parts) none =
     let both = or_parts (has_mark part) (has_mark (concat parts)) (sym (list_any-append is_mark part (concat parts)) ∙ none) in
-    All-cons (λ candidate. ¬ (IsFound candidate.text)) (candidate_of place part) _
-    (λ found. both_ways _ (unmarked_inside place part (candidate_of place part) (match_inside place part) both.0) (found_with_mark _ found))
-    (none_found (place + length part) parts both.1)
+    All-cons (λ candidate. ¬ (IsFound candidate.text)) (candidate_of offset part) _
+    (λ found. both_ways _ (unmarked_inside offset part (candidate_of offset part) (match_inside offset part) both.0) (found_with_mark _ found))
+    (none_found (offset + length part) parts both.1)
 
 -- the first bytes of what is left of a text, which have no mark and after which it is cut
-pub passes_no_slash : (text rest : List ℕ) (place count : ℕ) → rest ≡ drop place text → count ≤ length rest → has_mark (take count rest) ≡ false
+pub passes_no_slash : (text rest : List ℕ) (offset count : ℕ) → rest ≡ drop offset text → count ≤ length rest → has_mark (take count rest) ≡ false
     → parts_of rest ≡ parts_of (take count rest) ++ parts_of (drop count rest)
-    → Passes (placed_from place (parts_of (drop place text))) (placed_from (place + count) (parts_of (drop (place + count) text)))
-passes_no_slash text rest place count rest_is within unmarked cut =
+    → Passes (candidates_from offset (parts_of (drop offset text))) (candidates_from (offset + count) (parts_of (drop (offset + count) text)))
+passes_no_slash text rest offset count rest_is within unmarked cut =
     let front = take count rest in
-    let passed = placed_from place (parts_of front) in
+    let passed = candidates_from offset (parts_of front) in
     let length_is : length (concat (parts_of front)) ≡ count = ap length (concat-parts front) ∙ length-take-le count rest within in
     record {
       passed = passed;
-      is = ap (λ left. placed_from place (parts_of left)) (sym rest_is) ∙ ap (placed_from place) cut
-          ∙ placed_after place (parts_of front) (parts_of (drop count rest))
-          ∙ ap (λ at. passed ++ placed_from (place + at) (parts_of (drop count rest))) length_is
-          ∙ ap (λ left. passed ++ placed_from (place + count) (parts_of left)) (ap (drop count) rest_is ∙ drop-drop count place text);
-      none = none_found place (parts_of front) (ap has_mark (concat-parts front) ∙ unmarked);
+      is = ap (λ left. candidates_from offset (parts_of left)) (sym rest_is) ∙ ap (candidates_from offset) cut
+          ∙ candidates_from-append offset (parts_of front) (parts_of (drop count rest))
+          ∙ ap (λ at. passed ++ candidates_from (offset + at) (parts_of (drop count rest))) length_is
+          ∙ ap (λ left. passed ++ candidates_from (offset + count) (parts_of left)) (ap (drop count) rest_is ∙ drop-drop count offset text);
+      none = none_found offset (parts_of front) (ap has_mark (concat-parts front) ∙ unmarked);
     }

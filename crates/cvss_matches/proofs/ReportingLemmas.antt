@@ -16,13 +16,13 @@ use Rattle.cvss_vector.specs.declared.scoring.Scoring.{Scoring}
 use Rattle.cvss_vector.specs.declared.setting.Version.{Version}
 use Rattle.cvss_lines.specs.Answers.{Accepted, Rejected, WritesAnswer, is_accepted, written_answer, written_text}
 use Rattle.cvss_lines.specs.Prefixed.{AnswersByOneText, is_one_text}
-use Rattle.cvss_matches.specs.Answers.{AreKept, Asked, IsKept, Kept, after_candidate, all_accepted, answer_with, answered_bytes, answered_text, answers_as, before_answer, kept_texts, linked_version, place_text, shows_all, texts_for, with_version}
+use Rattle.cvss_matches.specs.Answers.{AreKept, Asked, IsKept, Kept, after_candidate, all_accepted, answer_with, answered_bytes, answered_text, answers_as, before_answer, kept_texts, linked_version, location_text, shows_all, texts_for, with_version}
 use Rattle.cvss_matches.specs.Decoding.{decoded}
 use Rattle.cvss_matches.specs.declared.form.Form.{Form}
 use Rattle.cvss_matches.specs.declared.form.Form.TheVariants.{Annotated, Located, Object}
 use Rattle.cvss_matches.specs.private.Reporting.{AnswersLine, Reports, WritesKept, WritesReported, WritesShown, closing, opening, written_as}
 use Rattle.cvss_matches.proofs.AcceptedLemmas.{accepted_alone, accepted_whole}
-use Rattle.cvss_matches.specs.Matches.{AreFound, IsAccepted, IsFound, Placed, candidates_of}
+use Rattle.cvss_matches.specs.Matches.{AreFound, Candidate, IsAccepted, IsFound, candidates_of}
 use Rattle.cvss_matches.specs.Parts.{lacks_prefix}
 use Rattle.cvss_matches.specs.CandidatesLeft.{IsFirstFound, NoneFound}
 use Rattle.cvss_matches.proofs.DecodingLemmas.{written_decoded}
@@ -36,7 +36,7 @@ one_text Object scoring allow = is_one_text _ _
 one_text (Annotated all) scoring allow = is_one_text _ _
 
 -- a candidate is reported of, once its answer is written after what is before it, and the byte 10 stays or is taken off
-pub WritesReported-answer : (asked : Asked) (candidate : Placed) (old middle full new : List ℕ) (accepted : Bool) → middle ≡ old ++ before_answer asked.form asked candidate
+pub WritesReported-answer : (asked : Asked) (candidate : Candidate) (old middle full new : List ℕ) (accepted : Bool) → middle ≡ old ++ before_answer asked.form asked candidate
     → WritesAnswer (answers_as asked.form asked.scoring asked.allow_incomplete) asked.number (answered_text asked candidate) middle full accepted
     → ((before text : List ℕ) → full ≡ before ++ written_text text → new ≡ before ++ written_as asked.form text)
     → WritesReported asked candidate old new accepted
@@ -63,7 +63,7 @@ WritesReported-answer asked candidate old middle full new accepted placed writte
           ∙ ap (λ bytes. old ++ bytes) (sym (append_assoc before one.0 (10 ∷ []))));
     }
 
-AreKept-push : (asked : Asked) (candidates : List Placed) (kept : List Kept) (candidate : Placed) (last : Kept)
+AreKept-push : (asked : Asked) (candidates : List Candidate) (kept : List Kept) (candidate : Candidate) (last : Kept)
     → AreKept asked candidates kept → IsKept asked.gate asked candidate last → AreKept asked (candidates ++ candidate ∷ []) (kept ++ last ∷ [])
 AreKept-push asked [] [] candidate last are is = (is, tt)
 AreKept-push asked [] (each ∷ more) candidate last are is = absurd are
@@ -87,7 +87,7 @@ written-push write kept last old middle new before next =
     ∙ ap (λ texts. old ++ flat_map write texts) (sym (kept_texts-push kept last))
 
 -- before the first candidate
-pub Reports-start : (asked : Asked) (bytes : List ℕ) (left : List Placed) → left ≡ candidates_of asked.line → Reports asked left bytes bytes true
+pub Reports-start : (asked : Asked) (bytes : List ℕ) (left : List Candidate) → left ≡ candidates_of asked.line → Reports asked left bytes bytes true
 Reports-start asked bytes left is = record {
   found = [];
   are_found = λ more are. subst (λ candidates. AreFound candidates more) is are;
@@ -98,7 +98,7 @@ Reports-start asked bytes left is = record {
 }
 
 -- after one more that is found
-pub Reports-next : (asked : Asked) (left after : List Placed) (candidate : Placed) (old middle new : List ℕ) (all accepted : Bool)
+pub Reports-next : (asked : Asked) (left after : List Candidate) (candidate : Candidate) (old middle new : List ℕ) (all accepted : Bool)
     → Reports asked left old middle all → IsFirstFound left candidate after → WritesKept (IsKept asked.gate asked candidate) asked.form middle new accepted → Reports asked after old new (all && accepted)
 Reports-next asked left after candidate old middle new all accepted before first next = record {
   found = before.found ++ candidate ∷ [];
@@ -111,7 +111,7 @@ Reports-next asked left after candidate old middle new all accepted before first
 }
 
 -- all that are found are shown, once no more is found
-pub shown_all : (asked : Asked) (left : List Placed) (old new : List ℕ) (all : Bool) → Reports asked left old new all → NoneFound left → WritesShown true asked old new all
+pub shown_all : (asked : Asked) (left : List Candidate) (old new : List ℕ) (all : Bool) → Reports asked left old new all → NoneFound left → WritesShown true asked old new all
 shown_all asked left old new all reports none = record {
   shown = reports.found;
   are_shown = subst (AreFound (candidates_of asked.line)) (append-nil reports.found) (reports.are_found [] (AreFound-none left none));
@@ -122,7 +122,7 @@ shown_all asked left old new all reports none = record {
 }
 
 -- the first is shown
-pub shown_first : (asked : Asked) (candidate : Placed) (left : List Placed) (old new : List ℕ) (accepted : Bool) → IsFirstFound (candidates_of asked.line) candidate left
+pub shown_first : (asked : Asked) (candidate : Candidate) (left : List Candidate) (old new : List ℕ) (accepted : Bool) → IsFirstFound (candidates_of asked.line) candidate left
     → WritesKept (IsKept asked.gate asked candidate) asked.form old new accepted → WritesShown false asked old new accepted
 shown_first asked candidate left old new accepted first written = record {
   shown = candidate ∷ [];
@@ -175,9 +175,9 @@ answer_written asked old first second new accepted opened shown closed =
           ∙ written_around asked.form asked old texts ∙ ap (λ bytes. old ++ bytes) (written_answer_with shown.kept all);
     }
 
--- the place of a line's first byte
-pub first_place : (number : ℕ) → decimal number ++ codes ":1 " ≡ place_text number 0
-first_place number = ap (λ one. decimal number ++ (codes ":" ++ (one ++ codes " "))) (sym (decimal_digit 1 (omega arith)))
+-- the location of a line's first byte
+pub first_location : (number : ℕ) → decimal number ++ codes ":1 " ≡ location_text number 0
+first_location number = ap (λ one. decimal number ++ (codes ":" ++ (one ++ codes " "))) (sym (decimal_digit 1 (omega arith)))
 
 cut_nowhere : (allow : Bool) (rest line : List ℕ) → rest ≡ [] → cond (not allow && bytes_eq rest (codes "/")) line line ≡ line
 cut_nowhere true rest line none = refl
@@ -185,30 +185,30 @@ cut_nowhere false [] line none = refl
 cut_nowhere false (byte ∷ rest) line none = cc
 
 -- a line that is a vector is answered as it is
-pub answered_whole : (asked : Asked) → IsAccepted asked.line → answered_text asked (record { place = 0; text = asked.line }) ≡ asked.line
+pub answered_whole : (asked : Asked) → IsAccepted asked.line → answered_text asked (record { offset = 0; text = asked.line }) ≡ asked.line
 answered_whole asked accepted =
-    let candidate : Placed = record { place = 0; text = asked.line } in
+    let candidate : Candidate = record { offset = 0; text = asked.line } in
     ap (λ version. with_version version (decoded (answered_bytes asked candidate)))
     (cond-false (lacks_prefix asked.line) (option_or (linked_version (after_candidate asked.line candidate)) asked.assumed) None (accepted_has_prefix asked.line accepted))
     ∙ ap decoded (cut_nowhere asked.allow_incomplete (drop (length asked.line) asked.line) asked.line (drop_all (length asked.line) asked.line (omega arith)))
     ∙ written_decoded asked.line (accepted_whole asked.line accepted).written
 
--- what is asked of a line whose candidates are reported with their places, where there is no gate
+-- what is asked of a line whose candidates are reported with their locations, where there is no gate
 abbrev pub located : List ℕ → Scoring → Bool → Option Version → ℕ → List ℕ → Asked
 located prefix scoring allow assumed number line =
     record { form = Located; prefix = prefix; scoring = scoring; allow_incomplete = allow; assumed = assumed; gate = None; number = number; line = line }
 
 -- a line that is one canonical vector, once its location and its answer are written
 pub canonical_reported : (prefix : List ℕ) (scoring : Scoring) (allow : Bool) (assumed : Option Version) (number : ℕ) (line : List ℕ) (published : Published) (old between middle new : List ℕ) → IsPublishedOfComplete scoring line published
-    → between ≡ old ++ prefix → middle ≡ between ++ place_text number 0 → WritesAnswer (score_rule scoring allow) number line middle new true → AnswersLine (located prefix scoring allow assumed number line) old new true
+    → between ≡ old ++ prefix → middle ≡ between ++ location_text number 0 → WritesAnswer (score_rule scoring allow) number line middle new true → AnswersLine (located prefix scoring allow assumed number line) old new true
 canonical_reported prefix scoring allow assumed number line published old between middle new is first next written =
     let asked = located prefix scoring allow assumed number line in
-    let candidate : Placed = record { place = 0; text = line } in
+    let candidate : Candidate = record { offset = 0; text = line } in
     let accepted : IsAccepted line = record { cvss = is.of.cvss; denoted = is.of.denoted } in
     let none : NoneFound [] = All-nil (λ each. ¬ (IsFound each.text)) in
     let found : IsFirstFound (candidates_of line) candidate [] = record { passed = []; is = accepted_alone line accepted; none = none; found = inl (inl accepted) } in
     let own = subst (λ bytes. WritesAnswer (score_rule scoring allow) number bytes middle new true) (sym (answered_whole asked accepted)) written in
-    let placed = next ∙ ap (λ bytes. bytes ++ place_text number 0) first ∙ append_assoc old prefix (place_text number 0) in
+    let placed = next ∙ ap (λ bytes. bytes ++ location_text number 0) first ∙ append_assoc old prefix (location_text number 0) in
     answer_written asked old old new new true (sym (append-nil old))
     (shown_all asked [] old new true
     (Reports-next asked (candidates_of line) [] candidate old old new true true (Reports-start asked old (candidates_of line) refl) found

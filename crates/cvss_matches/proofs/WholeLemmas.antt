@@ -8,10 +8,10 @@ use Rattle.std.proofs.lemmas.List.Elements.{Contains-append_right}
 use Rattle.std.proofs.lemmas.List.Sums.{take_while-cons}
 use Rattle.cvss_base.specs.Text.{has, slash}
 use Rattle.cvss_matches.specs.Parts.{backslash, before_escape, before_other, begins_like, begins_run, begins_with_prefix, is_encoded, is_escape, is_like, is_run_byte, is_vector_byte, parts_of, percent, unencoded, without_dividers}
-use Rattle.cvss_matches.specs.Matches.{Placed, label_of, candidate_of, candidates_of, placed_from, without_label}
+use Rattle.cvss_matches.specs.Matches.{Candidate, label_of, candidate_of, candidates_of, candidates_from, without_label}
 use Rattle.cvss_matches.specs.laws.Whole.{IsMatchedBetween, IsWhole, has_second_prefix, is_other}
 use Rattle.cvss_matches.specs.private.Passing.{uncut_length}
-use Rattle.cvss_matches.proofs.AfterLemmas.{backslash_first, parts_after, placed_after}
+use Rattle.cvss_matches.proofs.AfterLemmas.{backslash_first, candidates_from-append, parts_after}
 use Rattle.cvss_matches.proofs.PartLemmas.{concat-parts, parts_run, run_of_uncut, uncut_more}
 use Rattle.cvss_matches.proofs.PrefixLemmas.{no_prefix, starts_before}
 
@@ -85,31 +85,31 @@ whole_unencoded text tail whole none =
     let other = cond (is_encoded part) (before_other part) part in
     ap (λ front. cond (has slash front) front other) (before_tail text tail whole.written none) ∙ cond-true (has slash text) text other whole.with_slash
 
-pub without_no_label : (place : ℕ) (text : List ℕ) → label_of text ≡ 0 → without_label place text ≡ record { place = place; text = text }
-without_no_label place text none =
-    ap (λ count. record { place = place + count; text = drop count text }) none ∙ ap (λ at. record { place = at; text = text }) (omega arith)
+pub without_no_label : (offset : ℕ) (text : List ℕ) → label_of text ≡ 0 → without_label offset text ≡ record { offset = offset; text = text }
+without_no_label offset text none =
+    ap (λ count. record { offset = offset + count; text = drop count text }) none ∙ ap (λ at. record { offset = at; text = text }) (omega arith)
 
-whole_match : (place : ℕ) (text tail : List ℕ) → IsWhole text → before_escape tail ≡ [] → candidate_of place (text ++ tail) ≡ record { place = place; text = text }
-whole_match place text tail whole none =
-    ap (λ part. without_label place (without_dividers part)) (whole_unencoded text tail whole none) ∙ ap (without_label place) whole.ended
-    ∙ without_no_label place text whole.unlabelled
+whole_match : (offset : ℕ) (text tail : List ℕ) → IsWhole text → before_escape tail ≡ [] → candidate_of offset (text ++ tail) ≡ record { offset = offset; text = text }
+whole_match offset text tail whole none =
+    ap (λ part. without_label offset (without_dividers part)) (whole_unencoded text tail whole none) ∙ ap (without_label offset) whole.ended
+    ∙ without_no_label offset text whole.unlabelled
 
 pub matched_between : (before text after : List ℕ) → IsWhole text → IsMatchedBetween before text after
 matched_between before text after whole is_before is_after =
     let count = uncut_length after in
     let part = text ++ take count after in
     let more = parts_of (drop count after) in
-    let candidate : Placed = record { place = length before; text = text } in
-    let rest = placed_from (length before + length part) more in
-    let first : placed_from (0 + length (concat (parts_of before))) (part ∷ more) ≡ candidate ∷ rest =
-    ap (λ place. placed_from place (part ∷ more)) (omega (arith, ap length (concat-parts before)))
+    let candidate : Candidate = record { offset = length before; text = text } in
+    let rest = candidates_from (length before + length part) more in
+    let first : candidates_from (0 + length (concat (parts_of before))) (part ∷ more) ≡ candidate ∷ rest =
+    ap (λ offset. candidates_from offset (part ∷ more)) (omega (arith, ap length (concat-parts before)))
     ∙ ap (λ each. each ∷ rest) (whole_match (length before) text (take count after) whole (tail_encoded after is_after)) in
     subst (λ candidates. Contains candidates candidate)
-    (sym (ap (placed_from 0) (parts_after before (text ++ after) is_before ∙ ap (λ parts. parts_of before ++ parts) (whole_first text after whole is_after))
-    ∙ placed_after 0 (parts_of before) (part ∷ more) ∙ ap (λ after_it. placed_from 0 (parts_of before) ++ after_it) first))
-    (Contains-append_right (placed_from 0 (parts_of before)) (candidate ∷ rest) candidate (0, omega arith, refl))
+    (sym (ap (candidates_from 0) (parts_after before (text ++ after) is_before ∙ ap (λ parts. parts_of before ++ parts) (whole_first text after whole is_after))
+    ∙ candidates_from-append 0 (parts_of before) (part ∷ more) ∙ ap (λ after_it. candidates_from 0 (parts_of before) ++ after_it) first))
+    (Contains-append_right (candidates_from 0 (parts_of before)) (candidate ∷ rest) candidate (0, omega arith, refl))
 
-pub matched_alone : (text : List ℕ) → IsWhole text → candidates_of text ≡ record { place = 0; text = text } ∷ []
+pub matched_alone : (text : List ℕ) → IsWhole text → candidates_of text ≡ record { offset = 0; text = text } ∷ []
 matched_alone text whole =
-    ap candidates_of (sym (append-nil text)) ∙ ap (placed_from 0) (whole_first text [] whole refl)
+    ap candidates_of (sym (append-nil text)) ∙ ap (candidates_from 0) (whole_first text [] whole refl)
     ∙ ap (λ candidate. candidate ∷ []) (whole_match 0 text [] whole refl)

@@ -19,7 +19,7 @@ use Rattle.cvss_report.specs.LineScores.{IsScoreOfLine}
 use Rattle.cvss_report.specs.Rows.{cells_rule}
 use Rattle.cvss_report.specs.declared.format.Format.TheVariants.{Json}
 use Rattle.cvss_report.specs.declared.gate.Gate.{Gate}
-use Rattle.cvss_matches.specs.Matches.{AreFound, Placed, candidates_of}
+use Rattle.cvss_matches.specs.Matches.{AreFound, Candidate, candidates_of}
 use Rattle.cvss_matches.specs.Parts.{lacks_prefix}
 use Rattle.cvss_matches.specs.CandidatesLeft.{IsFirstFound, NoneFound}
 
@@ -36,22 +36,22 @@ pub record Asked : Type 0 where
   pub number : ℕ
   pub line : List ℕ
 
--- the line's number, and the place of a candidate's first byte in it, which counts from 0 and is reported from 1
-abbrev pub place_text : ℕ → ℕ → List ℕ
-place_text number place = decimal number ++ (codes ":" ++ (decimal (place + 1) ++ codes " "))
+-- the line's number, and the offset of a candidate's first byte in it, which counts from 0 and is reported from 1
+abbrev pub location_text : ℕ → ℕ → List ℕ
+location_text number offset = decimal number ++ (codes ":" ++ (decimal (offset + 1) ++ codes " "))
 
 -- what follows the candidate in the line
-abbrev pub after_candidate : List ℕ → Placed → List ℕ
-after_candidate line candidate = drop (length candidate.text) (drop candidate.place line)
+abbrev pub after_candidate : List ℕ → Candidate → List ℕ
+after_candidate line candidate = drop (length candidate.text) (drop candidate.offset line)
 
 -- after the candidate the line has a slash and ends: the vector may go on in the next line
-abbrev pub is_cut : List ℕ → Placed → Bool
+abbrev pub is_cut : List ℕ → Candidate → Bool
 is_cut line candidate = bytes_eq (after_candidate line candidate) (codes "/")
 
 -- the bytes that are answered: the candidate, with the slash that ends the line unless a vector may be incomplete
-abbrev pub answered_bytes : Asked → Placed → List ℕ
+abbrev pub answered_bytes : Asked → Candidate → List ℕ
 answered_bytes asked candidate =
-    if not asked.allow_incomplete && is_cut asked.line candidate then drop candidate.place asked.line else candidate.text
+    if not asked.allow_incomplete && is_cut asked.line candidate then drop candidate.offset asked.line else candidate.text
 
 -- the version that a link says after a vector, as those to NVD's calculator do
 abbrev pub linked_version : List ℕ → Option Version
@@ -60,7 +60,7 @@ linked_version after =
     else if starts_with nat_eq after (codes "&version=3.1") then Some V31 else None
 
 -- the version of a vector without its prefix: that which its link says, or else the assumed one
-abbrev pub version_for : Asked → Placed → Option Version
+abbrev pub version_for : Asked → Candidate → Option Version
 version_for asked candidate =
     if lacks_prefix candidate.text then option_or (linked_version (after_candidate asked.line candidate)) asked.assumed else None
 
@@ -70,7 +70,7 @@ with_version None text = text
 with_version (Some version) text = text_with version text
 
 -- the text that is answered: the bytes, decoded, after the prefix that they lack, if its version is known
-abbrev pub answered_text : Asked → Placed → List ℕ
+abbrev pub answered_text : Asked → Candidate → List ℕ
 answered_text asked candidate = with_version (version_for asked candidate) (decoded (answered_bytes asked candidate))
 
 -- what is reported of a candidate, and whether it is accepted
@@ -80,15 +80,15 @@ pub record Reported : Type 0 where
 
 -- the members of an object before those of the answer: the file, where answers have a prefix, the line, the column, which
 -- counts from 1, and the bytes that are answered
-abbrev pub first_members : Asked → Placed → List ℕ
+abbrev pub first_members : Asked → Candidate → List ℕ
 first_members asked candidate =
     object_start asked.prefix
-    ++ (codes "\"line\":" ++ (decimal asked.number ++ (codes ",\"column\":" ++ (decimal (candidate.place + 1)
+    ++ (codes "\"line\":" ++ (decimal asked.number ++ (codes ",\"column\":" ++ (decimal (candidate.offset + 1)
     ++ (codes ",\"text\":" ++ given_text Json (answered_bytes asked candidate))))))
 
 -- what is before the answer to a candidate, by the form in which it is reported
-abbrev pub before_answer : Form → Asked → Placed → List ℕ
-before_answer Located asked candidate = asked.prefix ++ place_text asked.number candidate.place
+abbrev pub before_answer : Form → Asked → Candidate → List ℕ
+before_answer Located asked candidate = asked.prefix ++ location_text asked.number candidate.offset
 before_answer Object asked candidate = first_members asked candidate
 before_answer (Annotated all) asked candidate = codes "\t"
 
@@ -100,7 +100,7 @@ answers_as Object = λ _. cells_rule Json
 answers_as (Annotated all) = score_rule
 
 -- reported is an answer to the candidate's text as a line by itself
-pub record IsReported (asked : Asked) (candidate : Placed) (reported : Reported) : Type 0 where
+pub record IsReported (asked : Asked) (candidate : Candidate) (reported : Reported) : Type 0 where
   pub answer : Answer
   pub text : List ℕ
   pub answers : answers_as asked.form asked.scoring asked.allow_incomplete asked.number (answered_text asked candidate) answer
@@ -121,7 +121,7 @@ kept_of quiet failing reported = record {
 }
 
 -- nothing is kept of a candidate that is passed over, and it counts as accepted; what is reported of any other is kept so
-abbrev pub IsKeptIf : (is_passed_over quiet failing : Bool) → Asked → Placed → Kept → Type 0
+abbrev pub IsKeptIf : (is_passed_over quiet failing : Bool) → Asked → Candidate → Kept → Type 0
 IsKeptIf true quiet failing asked candidate kept = kept ≡ record { texts = []; accepts = true }
 IsKeptIf false quiet failing asked candidate kept =
     (reported : Reported) × IsReported asked candidate reported × (kept ≡ kept_of quiet failing reported)
@@ -139,32 +139,32 @@ IsTextScored asked text score =
     (IsScoreOfLine (deciding asked.form asked.scoring) asked.allow_incomplete text)
 
 -- the candidate's text has this score
-abbrev pub IsScored : Asked → Placed → Option ℕ → Type 0
+abbrev pub IsScored : Asked → Candidate → Option ℕ → Type 0
 IsScored asked candidate = IsTextScored asked (answered_text asked candidate)
 
 -- this is kept of a candidate by its score
-pub record IsLetThrough (gate : Gate) (asked : Asked) (candidate : Placed) (kept : Kept) : Type 0 where
+pub record IsLetThrough (gate : Gate) (asked : Asked) (candidate : Candidate) (kept : Kept) : Type 0 where
   pub score : Option ℕ
   pub scored : IsScored asked candidate score
   pub is : IsKeptIf (is_passed_over gate score) gate.quiet (is_failing gate score) asked candidate kept
 
 -- this is kept of a candidate, through the gate if there is one
-abbrev pub IsKept : Option Gate → Asked → Placed → Kept → Type 0
+abbrev pub IsKept : Option Gate → Asked → Candidate → Kept → Type 0
 IsKept None = IsKeptIf false false false
 IsKept (Some gate) = IsLetThrough gate
 
 -- these are kept of the candidates, in their order
-abbrev pub AreKept : Asked → List Placed → List Kept → Type 0
+abbrev pub AreKept : Asked → List Candidate → List Kept → Type 0
 AreKept asked [] [] = ⊤
 AreKept asked [] (kept ∷ more) = ⊥
 AreKept asked (candidate ∷ candidates) [] = ⊥
 AreKept asked (candidate ∷ candidates) (kept ∷ more) = IsKept asked.gate asked candidate kept × AreKept asked candidates more
 
 -- these are the candidates whose answers are shown: all that are found, or the first of them
-abbrev pub AreShown : Bool → List Placed → List Placed → Type 0
+abbrev pub AreShown : Bool → List Candidate → List Candidate → Type 0
 AreShown true candidates shown = AreFound candidates shown
 AreShown false candidates [] = NoneFound candidates
-AreShown false candidates (candidate ∷ []) = (left : List Placed) × IsFirstFound candidates candidate left
+AreShown false candidates (candidate ∷ []) = (left : List Candidate) × IsFirstFound candidates candidate left
 AreShown false candidates (candidate ∷ next ∷ more) = ⊥
 
 -- the form shows the answers to all candidates
@@ -193,7 +193,7 @@ answer_with kept texts = if all_accepted kept then Accepted texts else Rejected 
 
 -- this is an answer to what is asked: what is kept of the candidates in the line that are shown
 pub record IsAnswerTo (asked : Asked) (answer : Answer) : Type 0 where
-  pub shown : List Placed
+  pub shown : List Candidate
   pub are_shown : AreShown (shows_all asked.form) (candidates_of asked.line) shown
   pub kept : List Kept
   pub are_kept : AreKept asked shown kept

@@ -1,12 +1,12 @@
--- The candidates of vectors in a text of any bytes, each with its place, and which of them are found.
+-- The candidates of vectors in a text of any bytes, each with its offset, and which of them are found.
 use Rattle.std.specs.Prelude.{◌≡◌, ℕ, ◌+◌, ◌⊎◌, ◌&&◌, ◌||◌, Bool, true, List, [], ◌∷◌, drop, if◌then◌else◌, length, ⊤, unwrap_or}
 use Rattle.cvss_vector.specs.Dispatch.{DenotesCvss}
 use Rattle.cvss_vector.specs.declared.vector.Cvss.{Cvss}
 use Rattle.cvss_matches.specs.Parts.{begins_exactly, begins_loosely, begins_with_prefix, has_like_any, is_encoded_v2, label_length, lacks_prefix, slashes, without_dividers, parts_of, unencoded}
 
--- a candidate, and the place of its first byte, counted from 0
-pub record Placed : Type 0 where
-  pub place : ℕ
+-- a candidate: the offset of its first byte, counted from 0, and its bytes
+pub record Candidate : Type 0 where
+  pub offset : ℕ
   pub text : List ℕ
 
 -- how many bytes are before a candidate in these: a label, where they do not begin with a prefix
@@ -14,21 +14,21 @@ abbrev pub label_of : List ℕ → ℕ
 label_of text = if begins_with_prefix text then 0 else unwrap_or (label_length text) 0
 
 -- the candidate without its label
-abbrev pub without_label : ℕ → List ℕ → Placed
-without_label place text = record { place = place + label_of text; text = drop (label_of text) text }
+abbrev pub without_label : ℕ → List ℕ → Candidate
+without_label offset text = record { offset = offset + label_of text; text = drop (label_of text) text }
 
--- the candidate of a part that begins at this place
-abbrev pub candidate_of : ℕ → List ℕ → Placed
-candidate_of place part = without_label place (without_dividers (unencoded part))
+-- the candidate of a part that begins at this offset
+abbrev pub candidate_of : ℕ → List ℕ → Candidate
+candidate_of offset part = without_label offset (without_dividers (unencoded part))
 
--- the candidates of the parts of a text, of which the first part begins at this place
-abbrev pub placed_from : ℕ → List (List ℕ) → List Placed
-placed_from place [] = []
-placed_from place (part ∷ parts) = candidate_of place part ∷ placed_from (place + length part) parts
+-- the candidates of the parts of a text, of which the first part begins at this offset
+abbrev pub candidates_from : ℕ → List (List ℕ) → List Candidate
+candidates_from offset [] = []
+candidates_from offset (part ∷ parts) = candidate_of offset part ∷ candidates_from (offset + length part) parts
 
 -- the candidates of a text
-abbrev pub candidates_of : List ℕ → List Placed
-candidates_of text = placed_from 0 (parts_of text)
+abbrev pub candidates_of : List ℕ → List Candidate
+candidates_of text = candidates_from 0 (parts_of text)
 
 -- the text is accepted as a vector
 pub record IsAccepted (text : List ℕ) : Type 0 where
@@ -52,7 +52,7 @@ abbrev pub IsFound : List ℕ → Type 0
 IsFound text = IsCertain text ⊎ (is_meant_loosely text ≡ true)
 
 -- these are exactly the candidates of a list that are found, in their order
-abbrev pub AreFound : List Placed → List Placed → Type 0
+abbrev pub AreFound : List Candidate → List Candidate → Type 0
 AreFound [] [] = ⊤
 AreFound [] (found ∷ more) = ⊥
 AreFound (candidate ∷ candidates) [] = ¬ (IsFound candidate.text) × AreFound candidates []

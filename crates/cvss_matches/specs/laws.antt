@@ -1,3 +1,3 @@
 pub mod Alone
-pub mod Places
+pub mod Offsets
 pub mod Whole

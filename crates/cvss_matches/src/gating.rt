@@ -2,7 +2,7 @@
 
 ghost use Rattle.std.specs.Prelude.{◌≡◌, IfOk, Some, false, if◌then◌else◌, length, take};
 ghost use Rattle.cvss_matches.specs.Answers.{IsKept, IsKeptIf, IsScored, IsTextScored, with_version};
-ghost use Rattle.cvss_matches.specs.CandidatesLeft.{as_placed};
+ghost use Rattle.cvss_matches.specs.CandidatesLeft.{as_candidate};
 ghost use Rattle.cvss_matches.specs.Decoding.{decoded};
 ghost use Rattle.cvss_matches.specs.private.Reporting.{WritesKept, asked_of};
 
@@ -24,7 +24,7 @@ impl Line<'_> {
         found: Match<'_>,
         answers: &mut OutputBuffer,
     ) -> Result<bool, AllocError>
-        ensures { IfOk result (WritesKept (IsKept self.entry.gate (asked_of self.entry) (as_placed found.entry))
+        ensures { IfOk result (WritesKept (IsKept self.entry.gate (asked_of self.entry) (as_candidate found.entry))
             self.entry.form answers.old.bytes.items answers.new.bytes.items) }
     {
         match self.gate {
@@ -41,7 +41,7 @@ impl Line<'_> {
         found: Match<'_>,
         answers: &mut OutputBuffer,
     ) -> Result<bool, AllocError>
-        ensures { IfOk result (WritesKept (IsKept (Some gate) (asked_of self.entry) (as_placed found.entry))
+        ensures { IfOk result (WritesKept (IsKept (Some gate) (asked_of self.entry) (as_candidate found.entry))
             self.entry.form answers.old.bytes.items answers.new.bytes.items) }
     {
         let score = self.score_of(alloc, gate, found)?;
@@ -61,7 +61,7 @@ impl Line<'_> {
         answers: &mut OutputBuffer,
     ) -> Result<bool, AllocError>
         ensures { IfOk result (WritesKept
-            (IsKeptIf false quiet failing (asked_of self.entry) (as_placed found.entry))
+            (IsKeptIf false quiet failing (asked_of self.entry) (as_candidate found.entry))
             self.entry.form answers.old.bytes.items answers.new.bytes.items) }
     {
         let waiting = waiting_bytes(answers);
@@ -72,7 +72,7 @@ impl Line<'_> {
 
     /// The score of a match in tenths, if it has one. The match is counted, unless the gate passes over it.
     fn score_of(self, alloc: Global, gate: Gate, found: Match<'_>) -> Result<Option<u8>, AllocError>
-        ensures { IfOk result (IsScored (asked_of self.entry) (as_placed found.entry)) }
+        ensures { IfOk result (IsScored (asked_of self.entry) (as_candidate found.entry)) }
     {
         let version = self.version_for(found);
         self.score_of_bytes(alloc, gate, version, self.answered_bytes(found))

@@ -12,7 +12,7 @@ ghost use Rattle.cvss_matches.specs.declared.hint.PrefixHint.{PrefixHint};
 ghost use Rattle.cvss_matches.specs.declared.matching.Match.{Match};
 ghost use Rattle.cvss_matches.specs.declared.matches.Matches.{Matches};
 ghost use Rattle.cvss_matches.specs.laws.Alone.{ReportsOfAll};
-ghost use Rattle.cvss_matches.specs.laws.Places.{AreInOrder, StandsIn};
+ghost use Rattle.cvss_matches.specs.laws.Offsets.{AreInOrder, StandsIn};
 ghost use Rattle.cvss_matches.specs.laws.Whole.{IsMatchedBetween, IsWhole};
 
 use crate::form::Form;
@@ -21,7 +21,7 @@ use crate::matches::Matches;
 use crate::matching::Match;
 
 /// Each candidate is at its offset in the text. Candidates come in order, and do not overlap.
-#[tactic(auto, using(crate::proofs::PlaceLemmas::matches_are_at, crate::proofs::PlaceLemmas::matches_ordered))]
+#[tactic(auto, using(crate::proofs::OffsetLemmas::matches_are_at, crate::proofs::OffsetLemmas::matches_ordered))]
 pub fn matches_are_at_their_offsets()
     ensures stand { (text : List ℕ) → All (StandsIn text) (candidates_of text) }
     ensures ordered { (text : List ℕ) → AreInOrder (candidates_of text) }
@@ -34,7 +34,7 @@ pub fn whole_texts_are_matches()
     ensures between { (before text after : List ℕ) → IsWhole text
         → IsMatchedBetween before text after }
     ensures alone { (text : List ℕ) → IsWhole text
-        → candidates_of text ≡ record { place = 0; text = text } ∷ [] }
+        → candidates_of text ≡ record { offset = 0; text = text } ∷ [] }
 {}
 
 /// A text that is accepted as a vector is one candidate as a whole.
@@ -44,11 +44,11 @@ pub fn accepted_texts_are_matches()
     ensures between { (before text after : List ℕ) → IsAccepted text
         → IsMatchedBetween before text after }
     ensures alone { (text : List ℕ) → IsAccepted text
-        → candidates_of text ≡ record { place = 0; text = text } ∷ [] }
+        → candidates_of text ≡ record { offset = 0; text = text } ∷ [] }
 {}
 
 /// A line that is one vector and nothing else is answered by what `cvss score` answers to it, after
-/// its number and its place, where there is no gate.
+/// its number and its column, where there is no gate.
 pub fn only_vectors_are_reported_as_they_are()
     ensures { (scoring : Scoring) → (allow_incomplete : Bool) → (assumed : Option Version)
         → (prefix : List ℕ) → (number : ℕ) → (line : List ℕ) → (answer : Answer) → IsAccepted line

@@ -10,12 +10,12 @@ mod gating;
 mod hint;
 pub mod laws;
 mod line;
+mod location;
 mod matches;
 mod matching;
 mod objects;
 mod part;
 mod passing;
-mod place;
 mod prefix;
 mod unprefixed;
 

@@ -8,15 +8,15 @@ ghost use Rattle.cvss_matches.specs.Decoding.{decoded};
 ghost use Rattle.cvss_matches.specs.declared.form.Form.TheVariants.{Located};
 ghost use Rattle.cvss_matches.specs.private.Reporting.{AnswersLine, WritesReported, WritesShown, asked_of};
 ghost use Rattle.cvss_lines.specs.Answers.{WritesAnswer};
-ghost use Rattle.cvss_matches.specs.CandidatesLeft.{as_placed};
+ghost use Rattle.cvss_matches.specs.CandidatesLeft.{as_candidate};
 
 use crate::decoding::decoded_with;
 use crate::form::Form;
 use crate::hint::PrefixHint;
+use crate::location::{write_first_location, write_location};
 use crate::matches::Matches;
 use crate::matching::Match;
 use crate::part::has_escape;
-use crate::place::{write_first_place, write_place};
 use crate::prefix::begins_with_prefix;
 use crate::unprefixed::lacks_prefix;
 use cvss_lines::OutputBuffer;
@@ -75,7 +75,7 @@ impl Line<'_> {
             answers.old.bytes.items answers.new.bytes.items) }
     {
         self.write_prefix(answers)?;
-        write_first_place(self.number, answers)?;
+        write_first_location(self.number, answers)?;
         write_canonical(self.bytes, published, answers)?;
         Ok(true)
     }
@@ -140,7 +140,7 @@ impl Line<'_> {
         answers: &mut OutputBuffer,
     ) -> Result<bool, AllocError>
         ensures { IfOk result (WritesReported (asked_of self.entry)
-            (as_placed found.entry) answers.old.bytes.items answers.new.bytes.items) }
+            (as_candidate found.entry) answers.old.bytes.items answers.new.bytes.items) }
     {
         self.write_before(found, answers)?;
         let version = self.version_for(found);
@@ -153,12 +153,12 @@ impl Line<'_> {
     /// Writes what is before the answer to a match.
     fn write_before(self, found: Match<'_>, answers: &mut OutputBuffer) -> Result<(), AllocError>
         ensures { OnOk result (answers.new.bytes.items ≡ answers.old.bytes.items
-            ++ before_answer self.entry.form (asked_of self.entry) (as_placed found.entry)) }
+            ++ before_answer self.entry.form (asked_of self.entry) (as_candidate found.entry)) }
     {
         match self.form {
             Form::Located => {
                 self.write_prefix(answers)?;
-                write_place(self.number, found.place, answers)
+                write_location(self.number, found.offset, answers)
             }
             Form::Object => self.write_first_members(found, answers),
             Form::Annotated { .. } => answers.push(b"\t"),
@@ -212,9 +212,9 @@ impl Line<'_> {
 
     /// The bytes of a match that are answered.
     pub(crate) fn answered_bytes<'b>(&'b self, found: Match<'b>) -> &'b [u8]
-        ensures { result.now ≡ answered_bytes (asked_of self.now) (as_placed found.entry) }
+        ensures { result.now ≡ answered_bytes (asked_of self.now) (as_candidate found.entry) }
     {
-        match self.bytes.get(found.place..) {
+        match self.bytes.get(found.offset..) {
             Some(rest) if !self.allow_incomplete && is_cut(rest, found.text.len()) => rest,
             _ => found.text,
         }
@@ -222,7 +222,7 @@ impl Line<'_> {
 
     /// The version of a vector without its prefix, if that is known.
     pub(crate) fn version_for(&self, found: Match<'_>) -> Option<Version>
-        ensures { result ≡ version_for (asked_of self.now) (as_placed found.entry) }
+        ensures { result ≡ version_for (asked_of self.now) (as_candidate found.entry) }
     {
         if !lacks_prefix(found.text) {
             return None;
@@ -235,9 +235,9 @@ impl Line<'_> {
 
     /// The version that a link says after a match.
     fn linked_version(&self, found: Match<'_>) -> Option<Version>
-        ensures { result ≡ linked_version (after_candidate self.now.bytes.now (as_placed found.entry)) }
+        ensures { result ≡ linked_version (after_candidate self.now.bytes.now (as_candidate found.entry)) }
     {
-        let after = self.bytes.get(found.place..)?.get(found.text.len()..)?;
+        let after = self.bytes.get(found.offset..)?.get(found.text.len()..)?;
         if after.starts_with(b"&version=3.0") {
             Some(Version::V30)
         } else if after.starts_with(b"&version=3.1") {

@@ -3,7 +3,7 @@
 ghost use Rattle.std.specs.Iterator.{item_count};
 ghost use Rattle.std.specs.Prelude.{◌≡◌, ◌+◌, ◌<◌, ◌^◌, [], ◌∷◌, IfSome, MatchOption, length};
 ghost use Rattle.cvss_matches.specs.Matches.{candidate_of, candidates_of};
-ghost use Rattle.cvss_matches.specs.CandidatesLeft.{IsFirstFound, IsNext, NoneFound, as_placed, candidates_after, candidates_left};
+ghost use Rattle.cvss_matches.specs.CandidatesLeft.{IsFirstFound, IsNext, NoneFound, as_candidate, candidates_after, candidates_left};
 ghost use Rattle.cvss_matches.specs.private.Passing.{Passes};
 
 use crate::matching::{Match, find_in};
@@ -16,7 +16,7 @@ use crate::passing::no_slash;
 pub struct Matches<'a> {
     text: &'a [u8],
     /// The offset of the part that is looked at next.
-    place: usize,
+    offset: usize,
 }
 
 impl<'a> Matches<'a> {
@@ -24,25 +24,25 @@ impl<'a> Matches<'a> {
     pub fn of(text: &'a [u8]) -> Matches<'a>
         ensures { candidates_left result ≡ candidates_of text.now }
     {
-        Matches { text, place: 0 }
+        Matches { text, offset: 0 }
     }
 
     /// Those from an offset of the text on, with their offsets in the whole text.
-    pub fn after(text: &'a [u8], place: usize) -> Matches<'a>
-        ensures { candidates_left result ≡ candidates_after text.now place }
+    pub fn after(text: &'a [u8], offset: usize) -> Matches<'a>
+        ensures { candidates_left result ≡ candidates_after text.now offset }
     {
-        Matches { text, place }
+        Matches { text, offset }
     }
 
     /// The first match from an offset of the text on, and the offset from which on the others are left.
-    pub fn first_after(text: &'a [u8], place: usize) -> Option<(Match<'a>, usize)>
-        ensures { MatchOption result (NoneFound (candidates_after text.now place))
-            (λ first. IsFirstFound (candidates_after text.now place) (as_placed first.0)
+    pub fn first_after(text: &'a [u8], offset: usize) -> Option<(Match<'a>, usize)>
+        ensures { MatchOption result (NoneFound (candidates_after text.now offset))
+            (λ first. IsFirstFound (candidates_after text.now offset) (as_candidate first.0)
             (candidates_after text.now first.1)) }
     {
-        let mut left = Matches { text, place };
+        let mut left = Matches { text, offset };
         let found = left.find_next()?;
-        Some((found, left.place))
+        Some((found, left.offset))
     }
 
     /// The next match.
@@ -51,8 +51,8 @@ impl<'a> Matches<'a> {
         ensures text { self.new.text.now ≡ self.old.text.now }
     {
         self.pass_no_slash();
-        while let Some((place, part)) = self.cut_next() {
-            if let Some(found) = find_in(place, part) {
+        while let Some((offset, part)) = self.cut_next() {
+            if let Some(found) = find_in(offset, part) {
                 return Some(found);
             }
             self.pass_after_run();
@@ -68,14 +68,14 @@ impl<'a> Matches<'a> {
         ensures within { IfSome result (λ part. part.0 + length part.1.now < 2 ^ 64) }
         ensures text { self.new.text.now ≡ self.old.text.now }
     {
-        let rest = self.text.get(self.place..)?;
+        let rest = self.text.get(self.offset..)?;
         if rest.is_empty() {
             return None;
         }
-        let place = self.place;
+        let offset = self.offset;
         let length = first_part(rest);
-        self.place += length;
-        Some((place, &rest[..length]))
+        self.offset += length;
+        Some((offset, &rest[..length]))
     }
 
     /// Passes over what is before the next run with a slash or a `%`.
@@ -83,8 +83,8 @@ impl<'a> Matches<'a> {
         ensures passes { Passes (candidates_left self.old) (candidates_left self.new) }
         ensures text { self.new.text.now ≡ self.old.text.now }
     {
-        if let Some(rest) = self.text.get(self.place..) {
-            self.place += no_slash(rest);
+        if let Some(rest) = self.text.get(self.offset..) {
+            self.offset += no_slash(rest);
         }
     }
 
@@ -93,7 +93,7 @@ impl<'a> Matches<'a> {
         ensures passes { Passes (candidates_left self.old) (candidates_left self.new) }
         ensures text { self.new.text.now ≡ self.old.text.now }
     {
-        if let Some(byte) = self.text.get(self.place)
+        if let Some(byte) = self.text.get(self.offset)
             && !is_edge(*byte)
         {
             self.pass_no_slash();

@@ -5,7 +5,7 @@ ghost use Rattle.cvss_vector.specs.Answers.{HasScore};
 ghost use Rattle.cvss_vector.specs.Dispatch.{DenotesCvss};
 ghost use Rattle.cvss_vector.specs.declared.vector.Cvss.{Cvss};
 ghost use Rattle.cvss_matches.specs.Matches.{IsCertain, IsFound, is_meant_exactly, is_meant_loosely, label_of, candidate_of, without_label};
-ghost use Rattle.cvss_matches.specs.CandidatesLeft.{as_placed};
+ghost use Rattle.cvss_matches.specs.CandidatesLeft.{as_candidate};
 
 use crate::part::{unencoded, without_dividers};
 use crate::prefix::{begins_exactly, begins_loosely, begins_with_prefix, label_length};
@@ -16,7 +16,7 @@ use cvss_vector::Cvss;
 #[derive(Clone, Copy, Debug)]
 pub struct Match<'a> {
     /// The offset of the first byte in the text, from 0.
-    pub place: usize,
+    pub offset: usize,
     /// The bytes of the match.
     pub text: &'a [u8],
 }
@@ -33,32 +33,32 @@ impl Match<'_> {
     }
 }
 
-/// The match of a part that begins at a place of a text, if it is found.
-pub(crate) fn find_in(place: usize, part: &[u8]) -> Option<Match<'_>>
-    requires { place + length part.now < 2 ^ 64 }
-    ensures { MatchOption result (¬ (IsFound (candidate_of place part.now).text))
-        (λ found. (as_placed found ≡ candidate_of place part.now)
-        × IsFound (candidate_of place part.now).text) }
+/// The match of a part that begins at an offset of a text, if it is found.
+pub(crate) fn find_in(offset: usize, part: &[u8]) -> Option<Match<'_>>
+    requires { offset + length part.now < 2 ^ 64 }
+    ensures { MatchOption result (¬ (IsFound (candidate_of offset part.now).text))
+        (λ found. (as_candidate found ≡ candidate_of offset part.now)
+        × IsFound (candidate_of offset part.now).text) }
 {
-    find_after_label(place, without_dividers(unencoded(part)))
+    find_after_label(offset, without_dividers(unencoded(part)))
 }
 
-/// The bytes that begin at a place, if they are found without their label.
+/// The bytes that begin at an offset, if they are found without their label.
 #[inline(always)]
-fn find_after_label(place: usize, text: &[u8]) -> Option<Match<'_>>
-    requires { place + length text.now < 2 ^ 64 }
-    ensures { MatchOption result (¬ (IsFound (without_label place text.now).text))
-        (λ found. (as_placed found ≡ without_label place text.now)
-        × IsFound (without_label place text.now).text) }
+fn find_after_label(offset: usize, text: &[u8]) -> Option<Match<'_>>
+    requires { offset + length text.now < 2 ^ 64 }
+    ensures { MatchOption result (¬ (IsFound (without_label offset text.now).text))
+        (λ found. (as_candidate found ≡ without_label offset text.now)
+        × IsFound (without_label offset text.now).text) }
 {
     if is_certain(text) {
-        return Some(Match { place, text });
+        return Some(Match { offset, text });
     }
     let label = label_of(text);
     let text = &text[label..];
     if is_found(text) {
         return Some(Match {
-            place: place + label,
+            offset: offset + label,
             text,
         });
     }

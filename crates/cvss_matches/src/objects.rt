@@ -5,7 +5,7 @@ ghost use Rattle.std.specs.Fmt.{decimal};
 ghost use Rattle.cvss_json.specs.Sinks.{Adds};
 ghost use Rattle.cvss_matches.specs.Answers.{first_members};
 ghost use Rattle.cvss_matches.specs.private.Reporting.{asked_of};
-ghost use Rattle.cvss_matches.specs.CandidatesLeft.{as_placed};
+ghost use Rattle.cvss_matches.specs.CandidatesLeft.{as_candidate};
 ghost use Rattle.cvss_report.specs.Cells.{given_text};
 ghost use Rattle.cvss_report.specs.declared.format.Format.TheVariants.{Json};
 
@@ -24,7 +24,7 @@ impl Line<'_> {
         answers: &mut OutputBuffer,
     ) -> Result<(), AllocError>
         ensures { OnOk result (answers.new.bytes.items ≡ answers.old.bytes.items
-            ++ first_members (asked_of self.entry) (as_placed found.entry)) }
+            ++ first_members (asked_of self.entry) (as_candidate found.entry)) }
     {
         let mut sink = Growing::begin_after(answers);
         self.put_first_members(&mut sink, found);
@@ -33,24 +33,24 @@ impl Line<'_> {
 
     #[tactic(auto, using(cvss_json::proofs::AddsLemmas::join2))]
     fn put_first_members<S: Sink>(self, sink: &mut S, found: Match<'_>)
-        ensures { Adds S.Holds (first_members (asked_of self.entry) (as_placed found.entry))
+        ensures { Adds S.Holds (first_members (asked_of self.entry) (as_candidate found.entry))
             sink.old sink.new }
     {
         put_object_start(sink, self.prefix);
         sink.push(b"\"line\":");
         put_whole(sink, self.number);
-        put_column_and_text(sink, found.place, self.answered_bytes(found));
+        put_column_and_text(sink, found.offset, self.answered_bytes(found));
     }
 }
 
-/// Writes the members for the column of a place in a line and for the text that is there.
+/// Writes the members for the column of an offset in a line and for the text that is there.
 #[tactic(auto, using(cvss_json::proofs::AddsLemmas::join2))]
-fn put_column_and_text<S: Sink>(sink: &mut S, place: usize, text: &[u8])
-    ensures { Adds S.Holds (codes ",\"column\":" ++ (decimal (place + 1)
+fn put_column_and_text<S: Sink>(sink: &mut S, offset: usize, text: &[u8])
+    ensures { Adds S.Holds (codes ",\"column\":" ++ (decimal (offset + 1)
         ++ (codes ",\"text\":" ++ given_text Json text.now))) sink.old sink.new }
 {
     sink.push(b",\"column\":");
-    put_next(sink, place as u64);
+    put_next(sink, offset as u64);
     sink.push(b",\"text\":");
     put_given(sink, Format::Json, text);
 }

@@ -23,7 +23,7 @@ pub(crate) fn first_part(text: &[u8]) -> usize
     }
 }
 
-/// How many bytes are before the first place at which a text is cut.
+/// How many bytes of a text are before its first cut.
 #[inline(always)]
 fn uncut_length(text: &[u8]) -> usize
     ensures value { result ≡ uncut_length text.now }

@@ -14,7 +14,7 @@ use Rattle.cvss_base.specs.declared.v3.MetricType.TheVariants as kind_v3
 use Rattle.cvss_base.specs.declared.v4.MetricType as type_v4
 use Rattle.cvss_base.specs.declared.v4.MetricType.TheVariants as kind_v4
 use Rattle.cvss_vector.specs.Evaluation.{version_of, version_text}
-use Rattle.cvss_report.specs.Words.{Row, word_in}
+use Rattle.cvss_report.specs.Words.{ValueWord, word_in}
 use Rattle.cvss_report.specs.WordsV2 as words_v2
 use Rattle.cvss_report.specs.WordsV3 as words_v3
 use Rattle.cvss_report.specs.WordsV4 as words_v4
@@ -42,8 +42,8 @@ abbrev pub is_word : ℕ → List ℕ → Bool
 is_word most word = leb (length word) most && is_other word
 
 -- the name and the words of a metric's member
-abbrev are_words : List ℕ × List Row → Bool
-are_words entry = is_word 40 entry.0 && list_all (λ row. is_word 16 row.1) entry.1
+abbrev are_words : List ℕ × List ValueWord → Bool
+are_words entry = is_word 40 entry.0 && list_all (λ word. is_word 16 word.1) entry.1
 
 words_v2_fit : (kind : type_v2.MetricType) → are_words (words_v2.entry_of kind) ≡ true
 words_v2_fit kind_v2.AV = refl
@@ -63,18 +63,18 @@ either P true one other first second = first
 either P false one other first second = second
 
 -- a test that each word passes is passed by the word of a value, and by none
-within : (test : List ℕ → Bool) (rows : List Row) (spelling : List ℕ) → test [] ≡ true → list_all (λ row. test row.1) rows ≡ true → test (word_in rows spelling) ≡ true
+within : (test : List ℕ → Bool) (words : List ValueWord) (spelling : List ℕ) → test [] ≡ true → list_all (λ word. test word.1) words ≡ true → test (word_in words spelling) ≡ true
 within test [] spelling none all = none
-within test (row ∷ rows) spelling none all =
-    let both = and_parts (test row.1) (list_all (λ each. test each.1) rows) all in
-    either (λ word. test word ≡ true) (bytes_eq row.0 spelling) row.1 (word_in rows spelling) both.0 (within test rows spelling none both.1)
+within test (word ∷ words) spelling none all =
+    let both = and_parts (test word.1) (list_all (λ each. test each.1) words) all in
+    either (λ each. test each ≡ true) (bytes_eq word.0 spelling) word.1 (word_in words spelling) both.0 (within test words spelling none both.1)
 
 -- what a member may say
 abbrev pub is_expected : Option Expected → Bool
 is_expected (Some (text reported)) = is_word 16 reported
 is_expected _ = true
 
-word_fits : (entry : List ℕ × List Row) (spelling : Option (List ℕ)) → are_words entry ≡ true → is_expected (Some (word_expected entry.1 spelling)) ≡ true
+word_fits : (entry : List ℕ × List ValueWord) (spelling : Option (List ℕ)) → are_words entry ≡ true → is_expected (Some (word_expected entry.1 spelling)) ≡ true
 word_fits entry None fit = refl
 word_fits entry (Some spelling) fit = within (is_word 16) entry.1 spelling refl (and_parts _ _ fit).1
 

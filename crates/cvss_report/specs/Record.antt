@@ -12,7 +12,7 @@ use Rattle.cvss_vector.specs.v2.Vector.{v2}
 use Rattle.cvss_vector.specs.v3.Vector.{v3}
 use Rattle.cvss_vector.specs.v4.Vector.{v4}
 use Rattle.cvss_vector.specs.Evaluation.{version_of, version_text}
-use Rattle.cvss_report.specs.Words.{Row, word_in}
+use Rattle.cvss_report.specs.Words.{ValueWord, word_in}
 use Rattle.cvss_report.specs.WordsV2 as words_v2
 use Rattle.cvss_report.specs.WordsV3 as words_v3
 use Rattle.cvss_report.specs.WordsV4 as words_v4
@@ -51,7 +51,7 @@ abbrev pub severity_expected : Cvss → ℕ → Expected
 severity_expected cvss tenths = text (severity_word (severity_by cvss (score_of_tenths tenths)))
 
 -- the word for how a metric's value is spelled, if the vector has one
-abbrev pub word_expected : List Row → Option (List ℕ) → Expected
+abbrev pub word_expected : List ValueWord → Option (List ℕ) → Expected
 word_expected words spelling = unwrap_or (option_map (λ each. text (word_in words each)) spelling) nothing
 
 -- how the vector's value is spelled for a metric of its version

@@ -3,21 +3,21 @@
 use Rattle.std.specs.Prelude.{ℕ, List, [], ◌∷◌, codes}
 use Rattle.cvss_base.specs.declared.v2.MetricType.{MetricType}
 use Rattle.cvss_base.specs.declared.v2.MetricType.TheVariants.{AV, AC, Au, C, I, A, E, RL, RC, CDP, TD, CR, IR, AR}
-use Rattle.cvss_report.specs.Words.{Row, not_defined}
+use Rattle.cvss_report.specs.Words.{ValueWord, not_defined}
 use Rattle.cvss_report.specs.declared.field.Field.{Field}
 use Rattle.cvss_report.specs.declared.field.Field.TheVariants.{V2, Score, Text, Version}
 use Rattle.cvss_vector.specs.declared.group.Group.TheVariants.{Base, Temporal, Environmental}
 
 -- words that several metrics have
-abbrev impact_words : List Row
+abbrev impact_words : List ValueWord
 impact_words = (codes "N", codes "NONE") ∷ (codes "P", codes "PARTIAL") ∷ (codes "C", codes "COMPLETE") ∷ []
 
-abbrev requirement_words : List Row
+abbrev requirement_words : List ValueWord
 requirement_words = (codes "L", codes "LOW") ∷ (codes "M", codes "MEDIUM") ∷ (codes "H", codes "HIGH") ∷ not_defined (codes "ND") ∷ []
 
 -- the name of the member that holds a metric's value, and how its values are spelled, each with its word, in the order
 -- in which they are compared
-abbrev pub entry_of : MetricType → List ℕ × List Row
+abbrev pub entry_of : MetricType → List ℕ × List ValueWord
 entry_of AV = (codes "accessVector", (codes "L", codes "LOCAL") ∷ (codes "A", codes "ADJACENT_NETWORK") ∷ (codes "N", codes "NETWORK") ∷ [])
 entry_of AC = (codes "accessComplexity", (codes "H", codes "HIGH") ∷ (codes "M", codes "MEDIUM") ∷ (codes "L", codes "LOW") ∷ [])
 entry_of Au = (codes "authentication", (codes "M", codes "MULTIPLE") ∷ (codes "S", codes "SINGLE") ∷ (codes "N", codes "NONE") ∷ [])
@@ -38,7 +38,7 @@ abbrev pub member_of : MetricType → List ℕ
 member_of kind = (entry_of kind).0
 
 -- the spellings with their words
-abbrev pub words_of : MetricType → List Row
+abbrev pub words_of : MetricType → List ValueWord
 words_of kind = (entry_of kind).1
 
 -- the members that a record may have, in the order of their names

@@ -3,36 +3,36 @@
 use Rattle.std.specs.Prelude.{ℕ, List, [], ◌∷◌, codes}
 use Rattle.cvss_base.specs.declared.v3.MetricType.{MetricType}
 use Rattle.cvss_base.specs.declared.v3.MetricType.TheVariants.{AV, AC, PR, UI, S, C, I, A, E, RL, RC, CR, IR, AR, MAV, MAC, MPR, MUI, MS, MC, MI, MA}
-use Rattle.cvss_report.specs.Words.{Row, not_defined}
+use Rattle.cvss_report.specs.Words.{ValueWord, not_defined}
 use Rattle.cvss_report.specs.declared.field.Field.{Field}
 use Rattle.cvss_report.specs.declared.field.Field.TheVariants.{V3, Score, Severity, Text, Version}
 use Rattle.cvss_vector.specs.declared.group.Group.TheVariants.{Base, Temporal, Environmental}
 
 -- words that several metrics have
-abbrev attack_vector_words : List Row
+abbrev attack_vector_words : List ValueWord
 attack_vector_words = (codes "P", codes "PHYSICAL") ∷ (codes "L", codes "LOCAL") ∷ (codes "A", codes "ADJACENT_NETWORK") ∷ (codes "N", codes "NETWORK") ∷ []
 
-abbrev attack_complexity_words : List Row
+abbrev attack_complexity_words : List ValueWord
 attack_complexity_words = (codes "H", codes "HIGH") ∷ (codes "L", codes "LOW") ∷ []
 
-abbrev privileges_required_words : List Row
+abbrev privileges_required_words : List ValueWord
 privileges_required_words = (codes "H", codes "HIGH") ∷ (codes "L", codes "LOW") ∷ (codes "N", codes "NONE") ∷ []
 
-abbrev user_interaction_words : List Row
+abbrev user_interaction_words : List ValueWord
 user_interaction_words = (codes "R", codes "REQUIRED") ∷ (codes "N", codes "NONE") ∷ []
 
-abbrev scope_words : List Row
+abbrev scope_words : List ValueWord
 scope_words = (codes "U", codes "UNCHANGED") ∷ (codes "C", codes "CHANGED") ∷ []
 
-abbrev impact_words : List Row
+abbrev impact_words : List ValueWord
 impact_words = (codes "N", codes "NONE") ∷ (codes "L", codes "LOW") ∷ (codes "H", codes "HIGH") ∷ []
 
-abbrev requirement_words : List Row
+abbrev requirement_words : List ValueWord
 requirement_words = not_defined (codes "X") ∷ (codes "H", codes "HIGH") ∷ (codes "M", codes "MEDIUM") ∷ (codes "L", codes "LOW") ∷ []
 
 -- the name of the member that holds a metric's value, and how its values are spelled, each with its word, in the order
 -- in which they are compared
-abbrev pub entry_of : MetricType → List ℕ × List Row
+abbrev pub entry_of : MetricType → List ℕ × List ValueWord
 entry_of AV = (codes "attackVector", attack_vector_words)
 entry_of AC = (codes "attackComplexity", attack_complexity_words)
 entry_of PR = (codes "privilegesRequired", privileges_required_words)
@@ -61,7 +61,7 @@ abbrev pub member_of : MetricType → List ℕ
 member_of kind = (entry_of kind).0
 
 -- the spellings with their words
-abbrev pub words_of : MetricType → List Row
+abbrev pub words_of : MetricType → List ValueWord
 words_of kind = (entry_of kind).1
 
 -- the members that a record may have, in the order of their names

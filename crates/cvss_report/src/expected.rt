@@ -5,7 +5,7 @@ ghost use Rattle.std.specs.Option.{option_copied};
 ghost use Rattle.cvss_report.specs.Record.{expected_of, expected_view, spelled_at, word_expected};
 
 use crate::field::Field;
-use crate::names::{Row, v2, v3, v4, word_in};
+use crate::names::{ValueWord, v2, v3, v4, word_in};
 use crate::score::{Scores, severity_word};
 use crate::text::spelled;
 use cvss_vector::Cvss;
@@ -38,8 +38,8 @@ pub fn expected_of(cvss: &Cvss, scores: &Scores, field: Field) -> Option<Expecte
 }
 
 /// The word for how a metric's value is spelled, if there is one.
-fn word_expected(words: &[Row], spelling: Option<&[u8]>) -> Expected
-    ensures { expected_view result ≡ word_expected (map (λ row. (row.0.now, row.1.now)) words.now)
+fn word_expected(words: &[ValueWord], spelling: Option<&[u8]>) -> Expected
+    ensures { expected_view result ≡ word_expected (map (λ word. (word.0.now, word.1.now)) words.now)
         (option_copied spelling.entry) }
 {
     match spelling {

@@ -9,7 +9,7 @@ ghost use Rattle.cvss_base.specs.Equality.{ClonesAlways, ClonesByValue};
 ghost use Rattle.cvss_base.specs.V4Types.{declared};
 ghost use Rattle.cvss_report.specs.declared.field.Field.TheVariants.{V2, V3, V4};
 ghost use Rattle.cvss_report.specs.declared.format.Format.{Format};
-ghost use Rattle.cvss_report.specs.Words.{AreRowsOf, HaveOneName};
+ghost use Rattle.cvss_report.specs.Words.{AreWordsOf, HaveOneName};
 ghost use Rattle.cvss_report.specs.WordsV2 as v2;
 ghost use Rattle.cvss_report.specs.WordsV3 as v3;
 ghost use Rattle.cvss_report.specs.WordsV4 as v4;
@@ -22,11 +22,11 @@ use crate::{Expected, Field, Format, Gate, Scores, Tally};
 
 /// Each value of a metric has a word, and no other value of the metric has it.
 pub fn words_report_values()
-    ensures v2 { (kind : kind_v2.MetricType) → AreRowsOf
+    ensures v2 { (kind : kind_v2.MetricType) → AreWordsOf
         (map (λ row. row.0) (table_v2.rows_of kind)) (v2.words_of kind) }
-    ensures v3 { (kind : kind_v3.MetricType) → AreRowsOf
+    ensures v3 { (kind : kind_v3.MetricType) → AreWordsOf
         (map (λ row. row.0) (table_v3.rows_of kind)) (v3.words_of kind) }
-    ensures v4 { (kind : kind_v4.MetricType) → AreRowsOf
+    ensures v4 { (kind : kind_v4.MetricType) → AreWordsOf
         (table_v4.spellings_of kind) (v4.words_of kind) }
 {}
 

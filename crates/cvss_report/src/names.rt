@@ -1,12 +1,12 @@
 //! The members and words of FIRST's JSON schemas for the metrics of all versions: `attackVector` for
 //! `AV`, and `NETWORK` for its value `N`.
 
-mod rows;
 pub mod v2;
 pub mod v3;
 pub mod v4;
+mod words;
 
-pub use rows::{Row, word_in};
+pub use words::{ValueWord, word_in};
 
 /// The word of a value that is not defined, spelled `ND` in CVSS v2 and `X` in v3 and v4.0.
 pub const NOT_DEFINED: &str = "NOT_DEFINED";

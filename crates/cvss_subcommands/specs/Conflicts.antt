@@ -27,8 +27,8 @@ abbrev pub without_rows : Flags → Option Flag
 without_rows flags = if flags.standard then Some Standard else if flags.count then Some Count else None
 
 -- the option of `cvss score` that does not go with --csv
-abbrev pub without_csv : Flags → Option Flag
-without_csv flags = elim (rows_of flags) [
+abbrev pub score_without_csv : Flags → Option Flag
+score_without_csv flags = elim (rows_of flags) [
   | Some rows ↦ Some rows
   | None ↦ if flags.standard then Some Standard else gate_flag flags
 ]
@@ -40,32 +40,18 @@ lines_conflict flags = elim (without_rows flags) [
   | None ↦ all_scores_error Score (all_scores_of flags)
 ]
 
--- and with it, or without
-abbrev pub score_conflict : Flags → Option UsageError
-score_conflict flags =
-    if flags.csv then option_map (λ other. NotWith Score Csv other) (without_csv flags)
-    else if flags.column then Some (NeedsTable Score Column)
-    else if flags.guard && not flags.tsv then Some (NeedsTable Score Guard)
-    else lines_conflict flags
-
 -- numbers of vectors have one form
 abbrev pub count_conflict : Subcommand → Flags → Option UsageError
 count_conflict subcommand flags = if flags.count && flags.json then Some (NotWith subcommand Count Json) else None
 
--- the option that does not go with the rows of tables: these are records, which say themselves whether they are headers
-abbrev pub without_records : Flags → Option Flag
-without_records flags =
+-- the option of `cvss triage` that does not go with --csv: rows of tables are records, which say themselves whether they are
+-- headers
+abbrev pub triage_without_csv : Flags → Option Flag
+triage_without_csv flags =
     if flags.json then Some Json
     else if flags.count then Some Count
     else if flags.header then Some Header
     else None
-
--- what is wrong with the options of `cvss triage` that are given together
-abbrev pub triage_conflict : Flags → Option UsageError
-triage_conflict flags =
-    if flags.csv then option_map (λ other. NotWith Triage Csv other) (without_records flags)
-    else if flags.guard then Some (NeedsTable Triage Guard)
-    else count_conflict Triage flags
 
 -- what is wrong with the options of `cvss find` that are given together, without --csv: --annotate repeats all lines
 abbrev pub texts_conflict : Flags → Option UsageError
@@ -87,13 +73,14 @@ find_without_csv flags =
     else if flags.annotate then Some Annotate
     else option_or (gate_flag flags) (assume_flag flags)
 
--- and with it, or without
-abbrev pub find_conflict : Flags → Option UsageError
-find_conflict flags =
-    if flags.csv then option_map (λ other. NotWith Find Csv other) (find_without_csv flags)
-    else if flags.column then Some (NeedsTable Find Column)
-    else if flags.guard then Some (NeedsTable Find Guard)
-    else texts_conflict flags
+-- what is wrong with the options of a subcommand that reads tables: with --csv the option that does not go with it; without
+-- it one that needs it, or what else is wrong. Cells of columns with tabs are guarded too.
+abbrev pub table_conflict : Subcommand → Flags → Option Flag → Option UsageError → Option UsageError
+table_conflict subcommand flags excluded wrong =
+    if flags.csv then option_map (λ other. NotWith subcommand Csv other) excluded
+    else if flags.column then Some (NeedsTable subcommand Column)
+    else if flags.guard && not flags.tsv then Some (NeedsTable subcommand Guard)
+    else wrong
 
 -- one of the operands is a vector
 abbrev pub has_vector : List (Vec ℕ) → Bool
@@ -106,9 +93,10 @@ header_conflict flags operands = if flags.header && has_vector operands then Som
 -- what is wrong with what is given together: options and operands. Where `cvss triage` prints all scores, --base says by
 -- which it ranks.
 abbrev pub conflict_of : Subcommand → Flags → List (Vec ℕ) → Option UsageError
-conflict_of Triage flags operands = option_or (header_conflict flags operands) (triage_conflict flags)
-conflict_of Score flags operands = score_conflict flags
-conflict_of Find flags operands = find_conflict flags
+conflict_of Triage flags operands =
+    option_or (header_conflict flags operands) (table_conflict Triage flags (triage_without_csv flags) (count_conflict Triage flags))
+conflict_of Score flags operands = table_conflict Score flags (score_without_csv flags) (lines_conflict flags)
+conflict_of Find flags operands = table_conflict Find flags (find_without_csv flags) (texts_conflict flags)
 conflict_of Audit flags operands =
     if flags.differing && not flags.json then Some (NeedsJson Audit Differing)
     else count_conflict Audit flags

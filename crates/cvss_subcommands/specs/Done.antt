@@ -12,7 +12,7 @@ use Rattle.cvss_subcommands.specs.Explaining.{explain_rule}
 use Rattle.cvss_subcommands.specs.Hints.{prefix_hint}
 use Rattle.cvss_subcommands.specs.Scoring.{AnswersLines, ScoresHinted, WritesText}
 use Rattle.cvss_subcommands.specs.Setting.{set_rule}
-use Rattle.cvss_subcommands.specs.Triaging.{asked_by}
+use Rattle.cvss_subcommands.specs.Triaging.{TriagesBy}
 use Rattle.cvss_subcommands.specs.declared.flags.Flags.{Flags}
 use Rattle.cvss_subcommands.specs.declared.requests.Options.{Options}
 use Rattle.cvss_subcommands.specs.declared.requests.Request.{Request}
@@ -36,7 +36,6 @@ use Rattle.cvss_frame.specs.Reports.{Reported, Reports}
 use Rattle.cvss_frame.specs.State.{State}
 use Rattle.cvss_frame.specs.declared.served.Served.{Served}
 use Rattle.cvss_report.specs.declared.gate.Gate.{Gate}
-use Rattle.cvss_triage.specs.Triage.{Triages}
 use Rattle.cvss_vector.specs.declared.scoring.Scoring.{Scoring}
 use Rattle.cvss_vector.specs.declared.setting.Version as version
 
@@ -145,7 +144,7 @@ Runs Explain options arguments old new result =
 Runs Set options arguments old new result =
     SetsMetrics (metrics_in (words_of options.words arguments)) options arguments old new result
 Runs Triage options arguments old new result =
-    IsOkAnd result (Triages (asked_by (words_of options.words arguments) options.flags) (operands_of options.operands arguments) old new)
+    IsOkAnd result (TriagesBy (words_of options.words arguments) options.flags (operands_of options.operands arguments) old new)
 Runs Audit options arguments old new result =
     IsOkAnd result (Audits options.flags (operands_of options.operands arguments) old new)
 Runs Diff options arguments old new result =

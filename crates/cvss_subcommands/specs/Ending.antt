@@ -17,7 +17,7 @@ use Rattle.cvss_subcommands.specs.Done.{Does}
 use Rattle.cvss_subcommands.specs.Hints.{IsFirstHint, hint_text}
 use Rattle.cvss_subcommands.specs.Ordering.{options_first}
 use Rattle.cvss_subcommands.specs.Requests.{request_of}
-use Rattle.cvss_subcommands.specs.UsageErrors.{usage_report}
+use Rattle.cvss_subcommands.specs.UsageErrors.{ReportsUsage}
 use Rattle.cvss_subcommands.specs.declared.flags.Flags.{Flags}
 use Rattle.cvss_subcommands.specs.declared.hint.Hint.{Hint}
 use Rattle.cvss_subcommands.specs.declared.requests.Request.{Request}
@@ -92,7 +92,7 @@ pub record EndsServed (arguments : List (Vec ℕ)) (has_taken : Bool) (error : O
 
 -- how the command ends whose arguments are not understood, where the general help is this text
 abbrev pub EndsWrong : List ℕ → UsageError → List (Vec ℕ) → Reported → Reported → ℕ → Type 0
-EndsWrong usage error arguments report report' status = (status ≡ 2) × Reports report report' (usage_report usage error arguments)
+EndsWrong usage error arguments report report' status = (status ≡ 2) × ReportsUsage usage error arguments report report'
 
 -- what the command has read, written and reported when it ends, and with which status
 pub record EndsCommand (help : Option Subcommand → List ℕ) (version : List ℕ) (arguments : List (Vec ℕ)) (old new : State)

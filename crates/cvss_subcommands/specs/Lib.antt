@@ -1,5 +1,6 @@
 pub mod Arguments
 pub mod Auditing
+pub mod Columns
 pub mod Comparing
 pub mod Conflicts
 pub mod Counting
@@ -18,3 +19,4 @@ pub mod Subcommands
 pub mod Triaging
 pub mod Usage
 pub mod UsageErrors
+pub mod Values

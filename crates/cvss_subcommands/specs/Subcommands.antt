@@ -24,7 +24,7 @@ flags_of Score = Json ∷ Tsv ∷ Csv ∷ Column ∷ Guard ∷ Base ∷ Standard
 flags_of Find = Json ∷ Csv ∷ Column ∷ Guard ∷ Annotate ∷ All ∷ Base ∷ Min ∷ FailOn ∷ Count ∷ Quiet ∷ AllowIncomplete ∷ Assume ∷ []
 flags_of Explain = Json ∷ WhatIf ∷ AllowIncomplete ∷ []
 flags_of Set = Base ∷ AllowIncomplete ∷ []
-flags_of Triage = flag.Set ∷ Profile ∷ KeepGoing ∷ Header ∷ Prefer ∷ Json ∷ Csv ∷ Guard ∷ Base ∷ Min ∷ FailOn ∷ Count ∷ Quiet ∷ AllowIncomplete ∷ []
+flags_of Triage = flag.Set ∷ Profile ∷ KeepGoing ∷ Header ∷ Prefer ∷ Json ∷ Csv ∷ Column ∷ Guard ∷ Base ∷ Min ∷ FailOn ∷ Count ∷ Quiet ∷ AllowIncomplete ∷ []
 flags_of Audit = Json ∷ Differing ∷ Min ∷ FailOn ∷ Count ∷ Quiet ∷ AllowIncomplete ∷ Document ∷ []
 flags_of Diff = Base ∷ AllowIncomplete ∷ []
 

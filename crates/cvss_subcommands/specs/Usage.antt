@@ -17,7 +17,7 @@ usage_of Explain = codes "cvss explain [--json|--what-if] [--allow-incomplete] [
 usage_of Set = codes "cvss set METRIC:VALUE.. [--base] [--allow-incomplete] [VECTOR|FILE].."
 usage_of Triage =
     codes "cvss triage [--set METRIC:VALUE].. [--profile FILE].. [--keep-going]\n"
-    ++ codes "                   [--csv [--guard]|[--header] [--json|--count]]\n"
+    ++ codes "                   [--csv [--column C] [--guard]|[--header] [--json|--count]]\n"
     ++ codes "                   [--prefer VERSION|highest] [--quiet] [--base] [--min SCORE]\n"
     ++ codes "                   [--fail-on SCORE] [--allow-incomplete] [VECTOR|FILE].."
 usage_of Audit =

@@ -1,7 +1,7 @@
 //! Options and operands that do not go together.
 
 ghost use Rattle.std.specs.Prelude.{◌≡◌};
-ghost use Rattle.cvss_subcommands.specs.Conflicts.{all_scores_error, assume_flag, conflict_of, count_conflict, find_conflict, find_without_csv, has_vector, header_conflict, lines_conflict, rows_of, score_conflict, texts_conflict, triage_conflict, without_csv, without_records, without_rows};
+ghost use Rattle.cvss_subcommands.specs.Conflicts.{all_scores_error, assume_flag, conflict_of, count_conflict, find_without_csv, has_vector, header_conflict, lines_conflict, rows_of, score_without_csv, table_conflict, texts_conflict, triage_without_csv, without_rows};
 ghost use Rattle.cvss_subcommands.specs.Flags.{all_scores_of};
 
 use crate::flags::{Flag, Flags};
@@ -21,10 +21,22 @@ pub(crate) fn conflict_of(
     match subcommand {
         Subcommand::Triage => match header_conflict(flags, operands) {
             Some(error) => Some(error),
-            None => triage_conflict(flags),
+            None => {
+                let (excluded, wrong) = (
+                    triage_without_csv(flags),
+                    count_conflict(subcommand, flags),
+                );
+                table_conflict(subcommand, flags, excluded, wrong)
+            }
         },
-        Subcommand::Score => score_conflict(flags),
-        Subcommand::Find => find_conflict(flags),
+        Subcommand::Score => {
+            let (excluded, wrong) = (score_without_csv(flags), lines_conflict(flags));
+            table_conflict(subcommand, flags, excluded, wrong)
+        }
+        Subcommand::Find => {
+            let (excluded, wrong) = (find_without_csv(flags), texts_conflict(flags));
+            table_conflict(subcommand, flags, excluded, wrong)
+        }
         Subcommand::Audit if flags.differing && !flags.json => {
             Some(UsageError::NeedsJson(subcommand, Flag::Differing))
         }
@@ -53,27 +65,33 @@ fn has_vector(operands: &[Vec<u8>]) -> bool
     operands.iter().any(|operand| !has_name(source_of(operand)))
 }
 
-/// What is wrong with the options of `cvss score` that are given together.
-fn score_conflict(flags: Flags) -> Option<UsageError>
-    ensures { result ≡ score_conflict flags }
+/// What is wrong with the options of a subcommand that reads tables: the option that does not go with `--csv`,
+/// or without `--csv` one that needs it, or what else is wrong.
+fn table_conflict(
+    subcommand: Subcommand,
+    flags: Flags,
+    excluded: Option<Flag>,
+    wrong: Option<UsageError>,
+) -> Option<UsageError>
+    ensures { result ≡ table_conflict subcommand flags excluded wrong }
 {
     if flags.csv {
-        match without_csv(flags) {
-            Some(other) => Some(UsageError::NotWith(Subcommand::Score, Flag::Csv, other)),
+        match excluded {
+            Some(other) => Some(UsageError::NotWith(subcommand, Flag::Csv, other)),
             None => None,
         }
     } else if flags.column {
-        Some(UsageError::NeedsTable(Subcommand::Score, Flag::Column))
+        Some(UsageError::NeedsTable(subcommand, Flag::Column))
     } else if flags.guard && !flags.tsv {
-        Some(UsageError::NeedsTable(Subcommand::Score, Flag::Guard))
+        Some(UsageError::NeedsTable(subcommand, Flag::Guard))
     } else {
-        lines_conflict(flags)
+        wrong
     }
 }
 
 /// The option of `cvss score` that does not go with `--csv`.
-fn without_csv(flags: Flags) -> Option<Flag>
-    ensures { result ≡ without_csv flags }
+fn score_without_csv(flags: Flags) -> Option<Flag>
+    ensures { result ≡ score_without_csv flags }
 {
     match rows_of(flags) {
         Some(rows) => Some(rows),
@@ -92,24 +110,6 @@ fn lines_conflict(flags: Flags) -> Option<UsageError>
             None => None,
         },
         None => all_scores_error(Subcommand::Score, flags),
-    }
-}
-
-/// What is wrong with the options of `cvss find` that are given together.
-fn find_conflict(flags: Flags) -> Option<UsageError>
-    ensures { result ≡ find_conflict flags }
-{
-    if flags.csv {
-        match find_without_csv(flags) {
-            Some(other) => Some(UsageError::NotWith(Subcommand::Find, Flag::Csv, other)),
-            None => None,
-        }
-    } else if flags.column {
-        Some(UsageError::NeedsTable(Subcommand::Find, Flag::Column))
-    } else if flags.guard {
-        Some(UsageError::NeedsTable(Subcommand::Find, Flag::Guard))
-    } else {
-        texts_conflict(flags)
     }
 }
 
@@ -155,26 +155,10 @@ fn texts_conflict(flags: Flags) -> Option<UsageError>
     }
 }
 
-/// What is wrong with the options of `cvss triage` that are given together: rows of tables are records, which
-/// say themselves whether they are headers.
-fn triage_conflict(flags: Flags) -> Option<UsageError>
-    ensures { result ≡ triage_conflict flags }
-{
-    if flags.csv {
-        match without_records(flags) {
-            Some(other) => Some(UsageError::NotWith(Subcommand::Triage, Flag::Csv, other)),
-            None => None,
-        }
-    } else if flags.guard {
-        Some(UsageError::NeedsTable(Subcommand::Triage, Flag::Guard))
-    } else {
-        count_conflict(Subcommand::Triage, flags)
-    }
-}
-
-/// The option that does not go with the rows of tables.
-fn without_records(flags: Flags) -> Option<Flag>
-    ensures { result ≡ without_records flags }
+/// The option of `cvss triage` that does not go with `--csv`: rows of tables are records, which say themselves
+/// whether they are headers.
+fn triage_without_csv(flags: Flags) -> Option<Flag>
+    ensures { result ≡ triage_without_csv flags }
 {
     if flags.json {
         Some(Flag::Json)

@@ -133,7 +133,7 @@ Exit status: 0 on success; 1 if a line is rejected; 2 on usage or I/O errors.
 /// What `help triage` prints.
 pub(crate) const TRIAGE_USAGE: &str = "\
 usage: cvss triage [--set METRIC:VALUE].. [--profile FILE].. [--keep-going]
-                   [--csv [--guard]|[--header] [--json|--count]]
+                   [--csv [--column C] [--guard]|[--header] [--json|--count]]
                    [--prefer VERSION|highest] [--quiet] [--base] [--min SCORE]
                    [--fail-on SCORE] [--allow-incomplete] [VECTOR|FILE]..
 
@@ -146,7 +146,8 @@ Ranks lines by the scores of the vectors in them, highest first, after --set and
   --keep-going         skip lines without one vector; otherwise print nothing
   --header             keep the first line on top, and skip those of other files
   --prefer VERSION     of several rank that of 4.0, 3.1, 3.0, 2.0, or highest
-  --csv, --guard       rank records of CSV, and write them as cvss score does
+  --csv                rank records of CSV, and write them as cvss score does
+  --column, --guard    as cvss score --csv
   --json               one object a line with the members of cvss score --json
   --base               rank by base scores (v4.0: of CVSS-B)
   --min, --fail-on     pass over vectors, or fail, by their scores, and

@@ -2,6 +2,7 @@
 #![tactic(auto)]
 
 mod audit;
+mod column;
 mod command;
 mod conflicts;
 mod counting;
@@ -24,6 +25,7 @@ mod subcommand;
 mod tasks;
 mod triage;
 mod usage_error;
+mod values;
 
 pub use help::USAGE;
 pub use hint::{Hint, first_hint};

@@ -92,6 +92,7 @@ impl Subcommand {
                     Flag::Prefer,
                     Flag::Json,
                     Flag::Csv,
+                    Flag::Column,
                     Flag::Guard,
                     Flag::Base,
                     Flag::Min,

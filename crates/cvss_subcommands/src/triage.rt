@@ -2,11 +2,13 @@
 
 ghost use Rattle.std.specs.Prelude.{◌≡◌, IfOk, map};
 ghost use Rattle.cvss_frame.specs.Streams.{state};
-ghost use Rattle.cvss_subcommands.specs.Triaging.{asked_by, form_of, kind_of, rows_gate, settings_of};
+ghost use Rattle.cvss_subcommands.specs.Triaging.{TriagesBy, form_of, kind_of, rows_gate, settings_of};
 ghost use Rattle.cvss_triage.specs.Settings.{as_words};
-ghost use Rattle.cvss_triage.specs.Triage.{Triages};
 
+use crate::column::{column_of, column_text};
 use crate::flags::{Flag, Flags};
+use crate::subcommand::Subcommand;
+use crate::values::Values;
 use cvss_frame::{Host, Served, Streams};
 use cvss_lines::RunFault;
 use cvss_report::Gate;
@@ -21,9 +23,10 @@ pub(crate) fn triage_lines<H: Host>(
     operands: &[Vec<u8>],
     streams: &mut Streams<H>,
 ) -> Served
-    ensures { Triages (asked_by words.now flags) operands.now
+    ensures { TriagesBy words.now flags operands.now
         (state streams.old) (state streams.new) result }
 {
+    let column = column_of(column_text(Subcommand::Triage, words));
     let Ok(settings) = settings_of(alloc, words) else {
         return Served::nothing().after(Err(RunFault::Memory));
     };
@@ -37,6 +40,7 @@ pub(crate) fn triage_lines<H: Host>(
         json: flags.json,
         header: flags.header,
         form: form_of(flags),
+        column,
         guarded: flags.guard,
         prefer: flags.prefer,
     };
@@ -70,30 +74,22 @@ fn settings_of(alloc: Global, words: &[Vec<u8>]) -> Result<Vec<Setting<'_>>, All
     ensures { IfOk result (λ settings. map as_words settings.items ≡ settings_of words.now) }
 {
     let mut settings = Vec::new(alloc);
-    let mut kind = None;
-    let mut left = words;
-    while let Some((word, rest)) = left.split_first() {
-        match kind {
-            Some(given) => {
-                settings.push(Setting { kind: given, word })?;
-                kind = None;
-            }
-            None => kind = kind_of(word),
+    let mut values = Values::of(Subcommand::Triage, words);
+    while let Some((flag, word)) = values.take_next() {
+        if let Some(kind) = kind_of(flag) {
+            settings.push(Setting { kind, word })?;
         }
-        left = rest;
     }
     Ok(settings)
 }
 
-/// What the word after an option says, if the option sets metrics.
-fn kind_of(word: &[u8]) -> Option<SettingKind>
-    ensures { result ≡ kind_of word.now }
+/// How an option sets metrics, if it does.
+fn kind_of(flag: Flag) -> Option<SettingKind>
+    ensures { result ≡ kind_of flag }
 {
-    if word == Flag::Set.name().as_bytes() {
-        Some(SettingKind::Metrics)
-    } else if word == Flag::Profile.name().as_bytes() {
-        Some(SettingKind::Profile)
-    } else {
-        None
+    match flag {
+        Flag::Set => Some(SettingKind::Metrics),
+        Flag::Profile => Some(SettingKind::Profile),
+        _ => None,
     }
 }

@@ -1,14 +1,14 @@
 //! What is wrong with the arguments of the command, and the line that is reported of it.
 
 ghost use Rattle.std.specs.Prelude.{◌≡◌};
-ghost use Rattle.cvss_frame.specs.Reports.{Reports, reported};
-ghost use Rattle.cvss_subcommands.specs.UsageErrors.{help_command, line_about, needs_text, not_with_text, usage_report, word_at};
+ghost use Rattle.cvss_frame.specs.Reports.{reported};
+ghost use Rattle.cvss_subcommands.specs.UsageErrors.{ReportsLine, ReportsUsage, after_word, before_word, help_command, needs_text, not_with_text, topic_of, word_at, word_of};
 
 use crate::command::last;
 use crate::flags::Flag;
 use crate::help::USAGE;
 use crate::subcommand::Subcommand;
-use cvss_frame::Report;
+use cvss_frame::{Report, report_about};
 use std::io::Write;
 
 /// What is wrong with the arguments. A word of them is given by how many are left from it on.
@@ -50,98 +50,116 @@ pub(crate) enum UsageError {
     NeedsJson(Subcommand, Flag),
 }
 
-/// Reports what is wrong with the arguments.
+/// Reports what is wrong with the arguments: one line, or the general help where there is none.
 pub(crate) fn report_usage<E: Write>(
     error: UsageError,
     arguments: &[Vec<u8>],
     report: &mut Report<E>,
 )
-    ensures { Reports (reported E.contents report.old) (reported E.contents report.new)
-        (usage_report USAGE.now error arguments.now) }
+    ensures { ReportsUsage USAGE.now error arguments.now (reported E.contents report.old)
+        (reported E.contents report.new) }
+{
+    if let UsageError::NoCommand = error {
+        report.write(USAGE.as_bytes());
+    } else {
+        report_line(error, arguments, report);
+    }
+}
+
+/// Reports the line about an error.
+fn report_line<E: Write>(error: UsageError, arguments: &[Vec<u8>], report: &mut Report<E>)
+    ensures { ReportsLine error arguments.now (reported E.contents report.old)
+        (reported E.contents report.new) }
+{
+    let before = before_word(error).as_bytes();
+    let word = word_of(error, arguments);
+    let after = after_word(error).as_bytes();
+    let help = help_command(topic_of(error)).as_bytes();
+    report_about(before, word, &[after, help, b"'\n"], report);
+}
+
+/// What is said before the word that a line is about.
+fn before_word(error: UsageError) -> &'static str
+    ensures { result.now ≡ before_word error }
 {
     match error {
-        UsageError::NoCommand => report.write(USAGE.as_bytes()),
-        UsageError::UnknownCommand(left) => {
-            let word = word_at(arguments, left);
-            report_about("cvss: unknown command '", word, "'; see '", None, report);
+        UsageError::UnknownCommand(_) => "cvss: unknown command '",
+        UsageError::UnknownOption(_, _) => "cvss: unknown option '",
+        UsageError::Unexpected(_) => "cvss: unexpected argument '",
+        UsageError::UnknownVersion(_, _) => "cvss: unknown version '",
+        UsageError::NotScore(_, _) | UsageError::NotPreference(_) | UsageError::NotMetric(_) => {
+            "cvss: '"
         }
-        UsageError::UnknownOption(topic, left) => {
-            let word = word_at(arguments, left);
-            report_about("cvss: unknown option '", word, "'; see '", topic, report);
+        UsageError::NoMetric => "cvss: no metric to set",
+        UsageError::NotUtf8 => "cvss: a metric is not UTF-8",
+        UsageError::NotTwo => "cvss: two vectors are compared",
+        UsageError::AllScores(_, _) => "cvss: --base does not go with '",
+        _ => "cvss: option '",
+    }
+}
+
+/// What is said after it, before the command that prints the help.
+fn after_word(error: UsageError) -> &'static str
+    ensures { result.now ≡ after_word error }
+{
+    match error {
+        UsageError::NoValue(_) => "' needs a value; see '",
+        UsageError::NotScore(_, _) => "' is not a score or a severity; see '",
+        UsageError::NotPreference(_) => "' is not 4.0, 3.1, 3.0, 2.0 or highest; see '",
+        UsageError::NotMetric(_) => "' is not METRIC:VALUE; see '",
+        UsageError::NoMetric | UsageError::NotUtf8 | UsageError::NotTwo => "; see '",
+        UsageError::AllScores(_, _) => "', which prints all scores; see '",
+        UsageError::NeedsTable(subcommand, flag) => needs_text(subcommand, flag),
+        UsageError::NotWith(_, _, other) => not_with_text(other),
+        UsageError::NotForVectors(_, _) => "' is for files and standard input; see '",
+        UsageError::NeedsJson(_, _) => "' needs --json; see '",
+        _ => "'; see '",
+    }
+}
+
+/// The subcommand whose help is named, or none where it is the help on all.
+fn topic_of(error: UsageError) -> Option<Subcommand>
+    ensures { result ≡ topic_of error }
+{
+    match error {
+        UsageError::NoCommand | UsageError::UnknownCommand(_) | UsageError::Unexpected(_) => None,
+        UsageError::UnknownOption(topic, _) => topic,
+        UsageError::NotPreference(_) => Some(Subcommand::Triage),
+        UsageError::NotMetric(_) | UsageError::NoMetric | UsageError::NotUtf8 => {
+            Some(Subcommand::Set)
         }
-        UsageError::Unexpected(left) => {
-            let word = word_at(arguments, left);
-            report_about(
-                "cvss: unexpected argument '",
-                word,
-                "'; see '",
-                None,
-                report,
-            );
-        }
-        UsageError::NoValue(subcommand) => {
-            let (word, after) = (word_at(arguments, 1), "' needs a value; see '");
-            report_about("cvss: option '", word, after, Some(subcommand), report);
-        }
-        UsageError::UnknownVersion(subcommand, left) => {
-            let (word, after) = (word_at(arguments, left), "'; see '");
-            report_about(
-                "cvss: unknown version '",
-                word,
-                after,
-                Some(subcommand),
-                report,
-            );
-        }
-        UsageError::NotScore(subcommand, left) => {
-            let (word, after) = (
-                word_at(arguments, left),
-                "' is not a score or a severity; see '",
-            );
-            report_about("cvss: '", word, after, Some(subcommand), report);
-        }
-        UsageError::NotPreference(left) => {
-            let (word, after) = (
-                word_at(arguments, left),
-                "' is not 4.0, 3.1, 3.0, 2.0 or highest; see '",
-            );
-            report_about("cvss: '", word, after, Some(Subcommand::Triage), report);
-        }
-        UsageError::NotMetric(left) => {
-            let (word, after) = (word_at(arguments, left), "' is not METRIC:VALUE; see '");
-            report_about("cvss: '", word, after, Some(Subcommand::Set), report);
-        }
-        UsageError::NoMetric => report.write(b"cvss: no metric to set; see 'cvss help set'\n"),
-        UsageError::NotUtf8 => {
-            report.write(b"cvss: a metric is not UTF-8; see 'cvss help set'\n");
-        }
-        UsageError::AllScores(subcommand, flag) => {
-            let before = "cvss: --base does not go with '";
-            let (word, after) = (flag.name().as_bytes(), "', which prints all scores; see '");
-            report_about(before, word, after, Some(subcommand), report);
-        }
-        UsageError::NeedsTable(subcommand, flag) => {
-            let (word, after) = (flag.name().as_bytes(), needs_text(subcommand, flag));
-            report_about("cvss: option '", word, after, Some(subcommand), report);
-        }
-        UsageError::NotTwo => {
-            report.write(b"cvss: two vectors are compared; see 'cvss help diff'\n");
-        }
-        UsageError::NotWith(subcommand, flag, other) => {
-            let (word, after) = (flag.name().as_bytes(), not_with_text(other));
-            report_about("cvss: option '", word, after, Some(subcommand), report);
-        }
-        UsageError::NotForVectors(subcommand, flag) => {
-            let (word, after) = (
-                flag.name().as_bytes(),
-                "' is for files and standard input; see '",
-            );
-            report_about("cvss: option '", word, after, Some(subcommand), report);
-        }
-        UsageError::NeedsJson(subcommand, flag) => {
-            let (word, after) = (flag.name().as_bytes(), "' needs --json; see '");
-            report_about("cvss: option '", word, after, Some(subcommand), report);
-        }
+        UsageError::NotTwo => Some(Subcommand::Diff),
+        UsageError::NoValue(subcommand)
+        | UsageError::UnknownVersion(subcommand, _)
+        | UsageError::NotScore(subcommand, _)
+        | UsageError::AllScores(subcommand, _)
+        | UsageError::NeedsTable(subcommand, _)
+        | UsageError::NotWith(subcommand, _, _)
+        | UsageError::NotForVectors(subcommand, _)
+        | UsageError::NeedsJson(subcommand, _) => Some(subcommand),
+    }
+}
+
+/// The word that the line about an error is about: an argument, or an option.
+fn word_of(error: UsageError, arguments: &[Vec<u8>]) -> &[u8]
+    ensures { result.now ≡ word_of error arguments.now }
+{
+    match error {
+        UsageError::UnknownCommand(left)
+        | UsageError::UnknownOption(_, left)
+        | UsageError::Unexpected(left)
+        | UsageError::UnknownVersion(_, left)
+        | UsageError::NotScore(_, left)
+        | UsageError::NotPreference(left)
+        | UsageError::NotMetric(left) => word_at(arguments, left),
+        UsageError::NoValue(_) => word_at(arguments, 1),
+        UsageError::AllScores(_, flag)
+        | UsageError::NeedsTable(_, flag)
+        | UsageError::NotWith(_, flag, _)
+        | UsageError::NotForVectors(_, flag)
+        | UsageError::NeedsJson(_, flag) => flag.name().as_bytes(),
+        UsageError::NoCommand | UsageError::NoMetric | UsageError::NotUtf8 | UsageError::NotTwo =>
+            b"",
     }
 }
 
@@ -171,24 +189,6 @@ fn needs_text(subcommand: Subcommand, flag: Flag) -> &'static str
         (Subcommand::Score, Flag::Guard) => "' needs --csv or --tsv; see '",
         _ => "' needs --csv; see '",
     }
-}
-
-/// Reports a line about a word, and which help to see.
-fn report_about<'x, E: Write>(
-    before: &'x str,
-    word: &'x [u8],
-    after: &'x str,
-    topic: Option<Subcommand>,
-    report: &mut Report<E>,
-)
-    ensures { Reports (reported E.contents report.old) (reported E.contents report.new)
-        (line_about before.now word.now after.now topic) }
-{
-    let help: &'x str = help_command(topic);
-    let end: &'x [u8] = b"'\n";
-    let (before, after, help) = (before.as_bytes(), after.as_bytes(), help.as_bytes());
-    let parts: [&'x [u8]; 5] = [before, word, after, help, end];
-    report.write_parts(&parts);
 }
 
 /// The first of the last so many arguments.

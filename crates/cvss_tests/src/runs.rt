@@ -15,9 +15,9 @@ use streams::{Narrow, Steps};
 
 /// The input of some lines, what is written for them, how many are accepted and rejected, and the
 /// status.
-type Row<'a> = (&'a [u8], &'a [u8], u64, u64, u8);
+type ExpectedRun<'a> = (&'a [u8], &'a [u8], u64, u64, u8);
 
-const ROWS: [Row<'_>; 9] = [
+const RUNS: [ExpectedRun<'_>; 9] = [
     (b"", b"", 0, 0, 0),
     (
         b"AV:N/AC:L/Au:N/C:N/I:N/A:N\r\n\nCVSS:3.1/AV:N",
@@ -68,16 +68,16 @@ const FIRST_ANSWER: &[u8] = b"AV:N/AC:L/Au:N/C:N/I:N/A:C 7.8 high\n";
 
 #[test]
 fn answers_lines_that_reads_cut(rt: HostRuntime) {
-    for row in &ROWS {
+    for expected in &RUNS {
         for step in [1, 2, 3, 100_000] {
-            is_answered(&rt, rt.alloc(), row, step);
+            is_answered(&rt, rt.alloc(), expected, step);
         }
     }
 }
 
 /// Answers lines, and compares what a writer has taken.
-fn is_answered(rt: &impl Abort, alloc: Global, row: &Row<'_>, step: usize) {
-    let (bytes, written, accepted, rejected, status) = *row;
+fn is_answered(rt: &impl Abort, alloc: Global, expected: &ExpectedRun<'_>, step: usize) {
+    let (bytes, written, accepted, rejected, status) = *expected;
     let ended = Ended {
         outcome: Ok(Summary { accepted, rejected }),
         status,
@@ -195,8 +195,8 @@ fn answers_a_line_longer_than_a_chunk(rt: HostRuntime) -> Result<(), Fail> {
     let line = long_line(rt.alloc())?;
     let answer = format!(in rt.alloc(); "error: invalid CVSS metric group component: `{line}`\n")?;
     for step in [1, 999, 1_000_000] {
-        let row = (line.as_bytes(), answer.as_bytes(), 0, 1, 1);
-        is_answered(&rt, rt.alloc(), &row, step);
+        let expected = (line.as_bytes(), answer.as_bytes(), 0, 1, 1);
+        is_answered(&rt, rt.alloc(), &expected, step);
     }
     Ok(())
 }

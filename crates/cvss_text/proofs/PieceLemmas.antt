@@ -19,7 +19,7 @@ use Rattle.cvss_text.specs.Route.{Route, ToV20, route_of, route_of_pieces, route
 use Rattle.cvss_text.specs.private.Pieces.{AreParts, IsAfterComponent, IsAfterComponents, IsWithoutColon}
 use Rattle.cvss_text.proofs.TextLemmas.{is_slash, is_colon}
 
--- the place of the first byte that passes a test
+-- the index of the first byte that passes a test
 module _ (p : ℕ → Bool) (text : List ℕ) where
   first_at : (at : ℕ) → position p text ≡ Some at → (position_or_len p text < length text) × (position_or_len p text ≡ at)
   first_at at found = (grind (arith, common_steps), grind (arith, common_steps))

@@ -1,4 +1,4 @@
--- Filling the place of one metric puts its value into the vector.
+-- Filling the field of one metric puts its value into the vector.
 use Rattle.std.proofs.Common.{◌≡◌, ◌⊎◌, inl, inr, ℕ, Bool, true, false, if◌then◌else◌, List, Option, Some, None, option_map, Result, refl, ap, bytes_eq}
 use Rattle.std.proofs.lemmas.Option.{same_Some}
 use Rattle.std.proofs.lemmas.Result.{on_ok_weaker}
@@ -19,7 +19,7 @@ module _ {V K : Type 0} (version : Version V K) (version_laws : VersionLaws vers
   other_or_here old new here other true named _ = inl (names_differ version version_laws other here ((bytes_eq-Decides _ _).0 named))
   other_or_here old new here other false _ kept = inr (one_held other _ _ kept)
 
-  -- the place of this metric is filled, and all else is kept
+  -- the field of this metric is filled, and all else is kept
   pub put_at : {kind here : K} → kind ≡ here → {old new : V} {text : List ℕ} {answer : Result (Unit {0}) ComponentError} → IsFilled (reading version here) (version.value_of old here) text answer (version.value_of new here) → elsewhere version here new ≡ elsewhere version here old → IsPut version old kind text answer new
   put_at {here = here} is {old} {new} {text} {answer} filled kept =
       let others : (other : K) → (other ≡ here) ⊎ (version.value_of new other ≡ version.value_of old other) = λ other. other_or_here old new here other (bytes_eq (version.name other) (version.name here)) refl (at_each version version_laws _ _ (ap (λ both. both.1) kept) other) in

@@ -76,18 +76,18 @@ delimiter_sorts (byte ∷ text) =
 
 -- a component whose name has no delimiter byte is cut at its colon
 module _ (name value : List ℕ) (name_plain : delimiter_bytes name ≡ 0) where
-  colon_place : position_or_len is_colon (component name value) ≡ length name
-  colon_place =
+  colon_index : position_or_len is_colon (component name value) ≡ length name
+  colon_index =
       let no_colon = All-from_count is_colon name (omega (arith, delimiter_sorts name)) in
       position_or_len_is is_colon (component name value) (length name) colon (omega (arith, length-append name (colon ∷ value)))
       (λ k below. rw (get_or_append_left name (colon ∷ value) colon k below) (no_colon k colon below))
       (λ _. rw (get_or_at name colon value colon (length name) refl) refl)
 
   pub name_part-component : name_part (component name value) ≡ name
-  name_part-component = rw colon_place (take_at name (colon ∷ value) (length name) refl)
+  name_part-component = rw colon_index (take_at name (colon ∷ value) (length name) refl)
 
   pub value_part-component : value_part (component name value) ≡ value
-  value_part-component = rw colon_place (sym (drop-drop 1 (length name) (component name value)) ∙ ap (drop 1) (drop_at name (colon ∷ value) (length name) refl))
+  value_part-component = rw colon_index (sym (drop-drop 1 (length name) (component name value)) ∙ ap (drop 1) (drop_at name (colon ∷ value) (length name) refl))
 
   counted : (p : ℕ → Bool) → count_by p (component name value) ≡ count_by p name + (cond (p colon) 1 0 + count_by p value)
   counted p = sum_by-append (λ x. cond (p x) 1 0) name (colon ∷ value) ∙ ap (λ n. count_by p name + n) (count_by-cons p colon value)

@@ -140,11 +140,11 @@ impl TextBuffer {
 
 /// Writes bytes over as many others.
 #[inline(always)]
-fn store<const N: usize>(bytes: [u8; N], place: &mut [u8])
-    requires { length place.old ≡ N }
-    ensures { place.new ≡ bytes.entry }
+fn store<const N: usize>(bytes: [u8; N], target: &mut [u8])
+    requires { length target.old ≡ N }
+    ensures { target.new ≡ bytes.entry }
 {
-    if let Some(array) = place.as_mut_array() {
+    if let Some(array) = target.as_mut_array() {
         *array = bytes;
     }
 }

@@ -3,24 +3,24 @@
 ghost use Rattle.std.specs.Prelude.{◌≡◌, ◌∷◌, ◌++◌, IsTrue, IfSome, IfNone, Some, None};
 ghost use Rattle.cvss_base.specs.Text.{slash, colon};
 
-/// Puts the value that was read of a text into its place, and gives what follows it; if none
+/// Puts the value that was read of a text into its field, and gives what follows it; if none
 /// was read, no value, and the text.
 #[inline(always)]
 pub fn put_read<'a, M: Copy>(
-    place: &mut Option<M>,
+    field: &mut Option<M>,
     read: Option<(M, &'a [u8])>,
     text: &'a [u8],
 ) -> &'a [u8]
-    ensures some { IfSome read.entry (λ read. (place.new ≡ Some read.0) × (result.now ≡ read.1.now)) }
-    ensures none { IfNone read.entry ((place.new ≡ None) × (result.now ≡ text.now)) }
+    ensures some { IfSome read.entry (λ read. (field.new ≡ Some read.0) × (result.now ≡ read.1.now)) }
+    ensures none { IfNone read.entry ((field.new ≡ None) × (result.now ≡ text.now)) }
 {
     match read {
         Some((value, rest)) => {
-            *place = Some(value);
+            *field = Some(value);
             rest
         }
         None => {
-            *place = None;
+            *field = None;
             text
         }
     }

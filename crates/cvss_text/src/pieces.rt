@@ -46,7 +46,7 @@ pub fn front_of(text: &[u8]) -> (&[u8], Pieces<'_>)
 fn cut_at_slash(text: &[u8]) -> (&[u8], Pieces<'_>)
     ensures { pieces text.now ≡ result.0.now ∷ pieces_left result.1 }
 {
-    let end = first_place(text, b'/').unwrap_or(text.len());
+    let end = first_index(text, b'/').unwrap_or(text.len());
     let rest = text.get(end + 1..);
     (&text[..end], Pieces { rest })
 }
@@ -58,8 +58,8 @@ pub fn pieces_of(text: &[u8]) -> Pieces<'_>
     Pieces { rest: Some(text) }
 }
 
-/// The place of the first byte with this value.
-fn first_place(text: &[u8], value: u8) -> Option<usize>
+/// The index of the first byte with this value.
+fn first_index(text: &[u8], value: u8) -> Option<usize>
     ensures { result ≡ position (λ byte. byte == value) text.now }
 {
     text.iter().position(|byte| *byte == value)
@@ -158,6 +158,6 @@ pub fn parts_of(piece: &[u8]) -> Option<(&[u8], &[u8])>
     ensures { MatchOption result (IsWithoutColon piece.now)
         (λ parts. AreParts piece.now parts.0.now parts.1.now) }
 {
-    let at = first_place(piece, b':')?;
+    let at = first_index(piece, b':')?;
     Some((&piece[..at], &piece[at + 1..]))
 }

@@ -44,29 +44,29 @@ pub trait Spells<M: Copy> {
         ensures { IfSome result (λ value. spelling value ≡ letter ∷ []) };
 }
 
-/// Reads a value into its place, which has to be empty.
+/// Reads a value into its field, which has to be empty.
 #[inline(always)]
-pub fn fill<V: Spells<M>, M: Copy>(place: &mut Option<M>, text: &[u8]) -> Result<(), ComponentError>
-    ensures { IsFilled (λ x. read_as V.any_case (V.spelling x)) place.old (read_as V.any_case text.now)
-        result place.new }
+pub fn fill<V: Spells<M>, M: Copy>(field: &mut Option<M>, text: &[u8]) -> Result<(), ComponentError>
+    ensures { IsFilled (λ x. read_as V.any_case (V.spelling x)) field.old (read_as V.any_case text.now)
+        result field.new }
 {
     let Some(value) = V::spelled(text) else {
         return Err(ComponentError::Invalid);
     };
-    if place.is_some() {
+    if field.is_some() {
         return Err(ComponentError::Repeated);
     }
-    *place = Some(value);
+    *field = Some(value);
     Ok(())
 }
 
-/// Puts the value of a metric into its place, if a text begins with a slash and its component, and
+/// Puts the value of a metric into its field, if a text begins with a slash and its component, and
 /// gives what follows that; else no value, and the text.
 #[inline(always)]
-pub fn put_value<'a, V: Spells<M>, M: Copy>(place: &mut Option<M>, text: &'a [u8]) -> &'a [u8]
-    ensures { text.now ≡ shown V.metric V.spelling place.new ++ result.now }
+pub fn put_value<'a, V: Spells<M>, M: Copy>(field: &mut Option<M>, text: &'a [u8]) -> &'a [u8]
+    ensures { text.now ≡ shown V.metric V.spelling field.new ++ result.now }
 {
-    put_read(place, component_in_order::<V, M>(text), text)
+    put_read(field, component_in_order::<V, M>(text), text)
 }
 
 /// The values of two metrics, where a text begins with a slash and the component of each, and what

@@ -95,7 +95,7 @@ pub trait Components: Copy {
     fn reported_kind(kind: Self::Kind) -> Self::Kind
         ensures { result ≡ version.reported_kind kind };
 
-    /// Puts a value into its place, which has to be empty.
+    /// Puts a value into its field, which has to be empty.
     // `Caller` changes nothing here either: the walk gives `()`, and all others `u8`.
     fn put<Caller>(&mut self, kind: Self::Kind, value: &[u8]) -> Result<(), ComponentError>
         ensures { IsPut version self.old kind (read version value.now) result self.new };

@@ -3,19 +3,19 @@ use Rattle.std.proofs.Common.{◌≡◌, List, ℕ, [], ◌∷◌, ◌++◌, All
 use Rattle.std.proofs.lemmas.List.Elements.{All-cons, All-head, All-nil, All-tail}
 use Rattle.cvss_matches.proofs.FoundLemmas.{AreFound-first, AreFound-none}
 use Rattle.cvss_matches.specs.CandidatesLeft.{IsFirstFound, NoneFound}
-use Rattle.cvss_matches.specs.Matches.{AreFound, IsFound, Placed, candidates_of}
+use Rattle.cvss_matches.specs.Matches.{AreFound, Candidate, IsFound, candidates_of}
 use Rattle.cvss_vector.specs.Dispatch.{DenotesCvss}
 use Rattle.cvss_vector.specs.declared.vector.Cvss.{Cvss}
 use Rattle.cvss_triage.specs.Reading.{HasOthers, HasSeveral, IsOnlyMatch, IsVectorOf}
 use Rattle.cvss_triage.specs.private.Denoting.{AllAre, AllDenote}
 
 -- what is found begins with this candidate, and the others are found among those that are left
-pub record BeginsWith (candidate : Placed) (left found : List Placed) : Type 0 where
-  pub more : List Placed
+pub record BeginsWith (candidate : Candidate) (left found : List Candidate) : Type 0 where
+  pub more : List Candidate
   pub is : found ≡ candidate ∷ more
   pub are : AreFound left more
 
-passed_by : (passed : List Placed) (candidate : Placed) (left found : List Placed) → NoneFound passed → IsFound candidate.text
+passed_by : (passed : List Candidate) (candidate : Candidate) (left found : List Candidate) → NoneFound passed → IsFound candidate.text
     → AreFound (passed ++ candidate ∷ left) found → BeginsWith candidate left found
 passed_by [] candidate left [] none is are = absurd (are.0 is)
 passed_by [] candidate left (first ∷ found) none is (inl (own, same, are)) = record { more = found; is = ap (λ each. each ∷ found) same; are = are }
@@ -27,11 +27,11 @@ passed_by (other ∷ passed) candidate left (first ∷ found) none is (inl (own,
 passed_by (other ∷ passed) candidate left (first ∷ found) none is (inr (not, are)) =
     passed_by passed candidate left (first ∷ found) (All-tail (λ each. ¬ (IsFound each.text)) other passed none) is are
 
-pub begins_with : (candidates left found : List Placed) (candidate : Placed) → IsFirstFound candidates candidate left → AreFound candidates found → BeginsWith candidate left found
+pub begins_with : (candidates left found : List Candidate) (candidate : Candidate) → IsFirstFound candidates candidate left → AreFound candidates found → BeginsWith candidate left found
 begins_with candidates left found candidate first are =
     passed_by first.passed candidate left found first.none first.found (subst (λ all. AreFound all found) first.is are)
 
-module _ (Is : List ℕ → Type 0) (candidates left : List Placed) (candidate : Placed) (first : IsFirstFound candidates candidate left) where
+module _ (Is : List ℕ → Type 0) (candidates left : List Candidate) (candidate : Candidate) (first : IsFirstFound candidates candidate left) where
   -- all are so where the first and the others are
   pub AllAre-first : Is candidate.text → AllAre Is left → AllAre Is candidates
   AllAre-first own others = record {
@@ -55,7 +55,7 @@ module _ (Is : List ℕ → Type 0) (candidates left : List Placed) (candidate :
         each = All-tail (λ match. Is match.text) candidate begins.more (subst (All (λ match. Is match.text)) begins.is all.each);
       }
 
-pub AllAre-none : (Is : List ℕ → Type 0) (candidates : List Placed) → NoneFound candidates → AllAre Is candidates
+pub AllAre-none : (Is : List ℕ → Type 0) (candidates : List Candidate) → NoneFound candidates → AllAre Is candidates
 AllAre-none Is candidates none = record {
   found = [];
   are = AreFound-none candidates none;
@@ -63,7 +63,7 @@ AllAre-none Is candidates none = record {
 }
 
 -- the vector of a line that has a match
-pub IsVectorOf-all : (line : List ℕ) (cvss : Cvss) (candidates left : List Placed) (candidate : Placed) → candidates ≡ candidates_of line
+pub IsVectorOf-all : (line : List ℕ) (cvss : Cvss) (candidates left : List Candidate) (candidate : Candidate) → candidates ≡ candidates_of line
     → IsFirstFound candidates candidate left → DenotesCvss candidate.text cvss → AllDenote cvss left → IsVectorOf line cvss
 IsVectorOf-all line cvss candidates left candidate is first denoted others = record {
   first = candidate;
@@ -72,7 +72,7 @@ IsVectorOf-all line cvss candidates left candidate is first denoted others = rec
   denoted = All-cons (λ match. DenotesCvss match.text cvss) candidate others.found denoted others.each;
 }
 
-pub AllDenote-line : (line : List ℕ) (cvss : Cvss) (candidates : List Placed) → candidates ≡ candidates_of line → IsVectorOf line cvss → AllDenote cvss candidates
+pub AllDenote-line : (line : List ℕ) (cvss : Cvss) (candidates : List Candidate) → candidates ≡ candidates_of line → IsVectorOf line cvss → AllDenote cvss candidates
 AllDenote-line line cvss candidates is vector = record {
   found = vector.first ∷ vector.more;
   are = subst (λ all. AreFound all (vector.first ∷ vector.more)) (sym is) vector.found;
@@ -80,7 +80,7 @@ AllDenote-line line cvss candidates is vector = record {
 }
 
 -- two matches of a line, and those after them
-module _ (line : List ℕ) (candidates left rest : List Placed) (first second : Placed) (is : candidates ≡ candidates_of line)
+module _ (line : List ℕ) (candidates left rest : List Candidate) (first second : Candidate) (is : candidates ≡ candidates_of line)
     (one : IsFirstFound candidates first left) (other : IsFirstFound left second rest) where
   pub HasSeveral-two : HasSeveral line
   HasSeveral-two = record {
@@ -111,7 +111,7 @@ module _ (line : List ℕ) (candidates left rest : List Placed) (first second : 
   }
 
 -- the only match of a line
-pub IsOnlyMatch-one : (line : List ℕ) (candidates left : List Placed) (match : Placed) → candidates ≡ candidates_of line
+pub IsOnlyMatch-one : (line : List ℕ) (candidates left : List Candidate) (match : Candidate) → candidates ≡ candidates_of line
     → IsFirstFound candidates match left → NoneFound left → IsOnlyMatch line match.text
 IsOnlyMatch-one line candidates left match is first none = record {
   match = match;

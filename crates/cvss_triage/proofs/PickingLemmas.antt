@@ -4,7 +4,7 @@ use Rattle.std.proofs.lemmas.List.Elements.{All-append, All-cons, All-contains, 
 use Rattle.std.specs.List.{AllZip}
 use Rattle.cvss_matches.proofs.FoundLemmas.{AreFound-first, AreFound-none}
 use Rattle.cvss_matches.specs.CandidatesLeft.{IsFirstFound, NoneFound}
-use Rattle.cvss_matches.specs.Matches.{AreFound, IsFound, Placed, candidates_of}
+use Rattle.cvss_matches.specs.Matches.{AreFound, Candidate, IsFound, candidates_of}
 use Rattle.cvss_vector.specs.Dispatch.{DenotesCvss}
 use Rattle.cvss_vector.specs.Evaluation.{version_of}
 use Rattle.cvss_vector.specs.declared.scoring.Scoring.{Scoring}
@@ -16,24 +16,24 @@ use Rattle.cvss_triage.specs.declared.overrides.Override.{Override}
 use Rattle.cvss_triage.specs.declared.preferring.Preference.TheVariants.{Of}
 use Rattle.cvss_triage.specs.private.Picking.{Begins, IsOnly}
 
-abbrev IsDenoted : Placed → Cvss → Type 0
+abbrev IsDenoted : Candidate → Cvss → Type 0
 IsDenoted match cvss = DenotesCvss match.text cvss
 
 -- the first of these vectors is denoted by a match, and the others by what is left after it
-record BeginsWithOf (match : Placed) (left : List Placed) (all : List Cvss) : Type 0 where
+record BeginsWithOf (match : Candidate) (left : List Candidate) (all : List Cvss) : Type 0 where
   pub cvss : Cvss
   pub vectors : List Cvss
   pub is : all ≡ cvss ∷ vectors
   pub denoted : DenotesCvss match.text cvss
   pub are : AreVectorsIn left vectors
 
-denoted_by : (match : Placed) (more left : List Placed) (all : List Cvss) → AreFound left more
+denoted_by : (match : Candidate) (more left : List Candidate) (all : List Cvss) → AreFound left more
     → AllZip IsDenoted (match ∷ more) all → BeginsWithOf match left all
 denoted_by match more left [] are none = absurd none
 denoted_by match more left (cvss ∷ vectors) are each =
     record { cvss = cvss; vectors = vectors; is = refl; denoted = each.0; are = record { found = more; are = are; denoted = each.1 } }
 
-module _ (candidates left : List Placed) (match : Placed) (first : IsFirstFound candidates match left) where
+module _ (candidates left : List Candidate) (match : Candidate) (first : IsFirstFound candidates match left) where
   vectors_first : (cvss : Cvss) (vectors : List Cvss) → DenotesCvss match.text cvss → AreVectorsIn left vectors → AreVectorsIn candidates (cvss ∷ vectors)
   vectors_first cvss vectors denoted are = record {
     found = match ∷ are.found;
@@ -47,7 +47,7 @@ module _ (candidates left : List Placed) (match : Placed) (first : IsFirstFound 
       denoted_by match begins.more left all begins.are
       (subst (λ found. AllZip IsDenoted found all) begins.is are.denoted)
 
-found_none : (candidates found : List Placed) → NoneFound candidates → AreFound candidates found → found ≡ []
+found_none : (candidates found : List Candidate) → NoneFound candidates → AreFound candidates found → found ≡ []
 found_none candidates [] none are = refl
 found_none [] (match ∷ found) none are = absurd are
 found_none (candidate ∷ candidates) (match ∷ found) none (inl (own, same, are)) =
@@ -59,7 +59,7 @@ denoted_none : (all : List Cvss) → AllZip IsDenoted [] all → all ≡ []
 denoted_none [] none = refl
 denoted_none (cvss ∷ vectors) none = absurd none
 
-module _ (Is : List Cvss → Type 0) (candidates left : List Placed) (begins : Begins Is candidates left) where
+module _ (Is : List Cvss → Type 0) (candidates left : List Candidate) (begins : Begins Is candidates left) where
   -- after all matches
   pub all_none : NoneFound left → (all : List Cvss) → AreVectorsIn candidates all → all ≡ begins.vectors
   all_none none all are =
@@ -78,7 +78,7 @@ module _ (Is : List Cvss → Type 0) (candidates left : List Placed) (begins : B
       let after = begins.back all are in
       subst (λ all. Contains all cvss) (sym after.is) (Contains-append_left begins.vectors after.others cvss contained)
 
-  module _ (next : List Placed) (match : Placed) (first : IsFirstFound left match next) where
+  module _ (next : List Candidate) (match : Candidate) (first : IsFirstFound left match next) where
     -- after a match more, which denotes a vector
     pub begins_more : (After : List Cvss → Type 0) (cvss : Cvss) → DenotesCvss match.text cvss → ((other : Cvss) → DenotesCvss match.text other → other ≡ cvss)
         → ((vectors : List Cvss) → Is vectors → After (vectors ++ cvss ∷ [])) → Begins After candidates next
@@ -155,7 +155,7 @@ only_differs version vectors all (Some own) next own_is of_version differ within
     differ (All-contains Is all own is.only (within own own_is.is_one) own_is.of_version ∙ sym (All-contains Is all next is.only contained of_version))
 
 -- what is picked of a line by its version once all its matches are seen
-pub only_picked : (line : List ℕ) (left : List Placed) (version : Version) (only : Option Cvss) → Begins (λ vectors. IsOnly version vectors only) (candidates_of line) left → NoneFound left
+pub only_picked : (line : List ℕ) (left : List Candidate) (version : Version) (only : Option Cvss) → Begins (λ vectors. IsOnly version vectors only) (candidates_of line) left → NoneFound left
     → (overrides : List Override) (scoring : Scoring) (allow_incomplete : Bool) → MatchOption only (IsNonePicked (Some (Of version)) overrides allow_incomplete line) (IsPicked (Some (Of version)) overrides scoring allow_incomplete line)
 only_picked line left version None begins none overrides scoring allow_incomplete = λ first more are.
     only_not version (first ∷ more)

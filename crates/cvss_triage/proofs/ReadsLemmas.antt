@@ -6,7 +6,7 @@ use Rattle.cvss_frame.specs.Reports.{Reported, Reports}
 use Rattle.cvss_frame.specs.State.{State}
 use Rattle.cvss_triage.specs.Inputs.{Reading, ReadsEach}
 use Rattle.cvss_triage.specs.Overrides.{HoldsForSome}
-use Rattle.cvss_triage.specs.Reports.{ReportsEach, ReportsUnknown, unknown_text}
+use Rattle.cvss_triage.specs.Reports.{ReportsEach, ReportsUnknown}
 use Rattle.cvss_triage.specs.Settings.{as_metrics}
 use Rattle.cvss_triage.specs.declared.overrides.Family.{Family}
 use Rattle.cvss_triage.specs.declared.overrides.Override.{Override}
@@ -27,16 +27,16 @@ reports_all step items count report report' past so_far =
     so_far report' (subst (λ left. ReportsEach step left report' report') (sym (drop_all count items past)) refl)
 
 -- metrics that hold for some vector are not reported
-pub unknown_kept : (it : Override) (test : Bool) (metrics : Option Family × List ℕ) (place given : List ℕ) (report : Reported)
-    → (IsTrue test ↔ HoldsForSome it) → test ≡ true → as_metrics it ≡ metrics → ReportsUnknown metrics place given report report
-unknown_kept it test metrics place given report tells is same = record { it = it; is = same; reported = inl (tells.0 is, refl) }
+pub unknown_kept : (it : Override) (test : Bool) (metrics : Option Family × List ℕ) (text : List ℕ) (report : Reported)
+    → (IsTrue test ↔ HoldsForSome it) → test ≡ true → as_metrics it ≡ metrics → ReportsUnknown metrics text report report
+unknown_kept it test metrics text report tells is same = record { it = it; is = same; reported = inl (tells.0 is, refl) }
 
 -- others are
-pub unknown_told : (it : Override) (test : Bool) (metrics : Option Family × List ℕ) (place given told : List ℕ) (report report' : Reported)
-    → (IsTrue test ↔ HoldsForSome it) → test ≡ false → as_metrics it ≡ metrics → told ≡ unknown_text place given → Reports report report' told
-    → ReportsUnknown metrics place given report report'
-unknown_told it test metrics place given told report report' tells is same text reports = record {
+pub unknown_told : (it : Override) (test : Bool) (metrics : Option Family × List ℕ) (text told : List ℕ) (report report' : Reported)
+    → (IsTrue test ↔ HoldsForSome it) → test ≡ false → as_metrics it ≡ metrics → told ≡ text → Reports report report' told
+    → ReportsUnknown metrics text report report'
+unknown_told it test metrics text told report report' tells is same equal reports = record {
   it = it;
   is = same;
-  reported = inr (λ holds. false≢true (sym is ∙ tells.1 holds), subst (Reports report report') text reports);
+  reported = inr (λ holds. false≢true (sym is ∙ tells.1 holds), subst (Reports report report') equal reports);
 }

@@ -1,15 +1,21 @@
--- What is read of the inputs, each of which is read whole, and their lines or records.
-use Rattle.std.specs.Prelude.{◌≡◌, ◌⊎◌, ◌≢◌, ℕ, Bool, true, false, List, [], ◌∷◌, ◌++◌, bytes_eq, codes, if◌then◌else◌, length, map, Option, None, Some, Ok, Err}
+-- What is read of the inputs, each of which is read whole, and what the first line or record of each says of the others.
+use Rattle.std.specs.Prelude.{◌≡◌, ◌↔◌, ℕ, Bool, true, false, List, [], ◌∷◌, codes, not, Option, None, Some, Ok, Err, IsTrue, ⊤}
 use Rattle.std.specs.Global.{Vec}
+use Rattle.cvss_csv.specs.Fields.{fields}
+use Rattle.cvss_csv.specs.Layouts.{IsHeader, LacksColumn, cells_by}
 use Rattle.cvss_csv.specs.Records.{Record, is_open, records}
-use Rattle.cvss_lines.specs.Lines.{lines}
-use Rattle.cvss_lines.specs.declared.fault.RunFault.TheVariants.{Read}
+use Rattle.cvss_csv.specs.declared.asked.Column.{Column}
+use Rattle.cvss_csv.specs.declared.asked.Column.TheVariants.{AnyColumn}
+use Rattle.cvss_csv.specs.declared.layout.Layout.{Layout}
+use Rattle.cvss_lines.specs.declared.fault.RunFault.TheVariants.{Read as ReadFault}
 use Rattle.cvss_frame.specs.Arguments.{bytes_of}
 use Rattle.cvss_frame.specs.State.{State}
 use Rattle.cvss_frame.specs.Whole.{ReadsWhole}
 use Rattle.cvss_matches.specs.Matches.{AreFound, candidates_of}
 use Rattle.cvss_triage.specs.declared.form.Form.{Form}
 use Rattle.cvss_triage.specs.declared.form.Form.TheVariants.{Lines, Records}
+use Rattle.cvss_triage.specs.declared.input.Input.{Input}
+use Rattle.cvss_triage.specs.declared.input.Input.TheVariants.{Unread, WithoutColumn, Read}
 
 -- what one step reads of a word: the state before and after, and what is read
 abbrev pub Reading : Type 0 → Type 0 → Type 1
@@ -25,96 +31,68 @@ ReadsEach {X} {Y} step (word ∷ words) old new read =
 -- these are the bytes of an operand, or there are none, where it cannot be read, which is reported
 abbrev pub ReadsInput : Reading (List ℕ) (Option (Vec ℕ))
 ReadsInput operand old new (Some bytes) = ReadsWhole operand old new (Ok bytes)
-ReadsInput operand old new None = ReadsWhole operand old new (Err Read)
+ReadsInput operand old new None = ReadsWhole operand old new (Err ReadFault)
 
 -- the operands, or standard input where there is none
 abbrev pub inputs_of : List (Vec ℕ) → List (List ℕ)
 inputs_of [] = codes "-" ∷ []
 inputs_of (operand ∷ operands) = bytes_of (operand ∷ operands)
 
--- the lines of an input, if it is read
-abbrev pub lines_of_input : Option (Vec ℕ) → List (List ℕ)
-lines_of_input None = []
-lines_of_input (Some bytes) = lines bytes.items
+-- ---- what an input says of its lines or records
 
--- of the lines of an input those that are to be ranked, and `None` for the first where that is the header
-abbrev pub without_header : Bool → List (List ℕ) → List (Option (List ℕ))
-without_header true (header ∷ lines) = None ∷ map Some lines
-without_header true [] = []
-without_header false lines = map Some lines
+-- no vector is in the first record: in its bytes; or, where a column is given, as for `cvss score --csv`, to which a record is
+-- a header by the name of the column
+abbrev pub IsHeading : Column → List ℕ → Bool → Type 0
+IsHeading AnyColumn body is_header = IsTrue is_header ↔ AreFound (candidates_of body) []
+IsHeading column body is_header = IsHeader column (fields body) is_header
 
--- the first of some lines or records
-abbrev pub first_of : {X : Type 0} → List X → Option X
-first_of [] = None
-first_of (first ∷ more) = Some first
+-- a record has bytes, and its last field is not quoted and left open
+abbrev pub is_whole : List ℕ → Bool
+is_whole [] = false
+is_whole (byte ∷ bytes) = not (is_open (byte ∷ bytes))
 
--- the header of the first input, if that is read and has a line
-abbrev pub first_header : List (Option (Vec ℕ)) → Option (List ℕ)
-first_header [] = None
-first_header (input ∷ inputs) = first_of (lines_of_input input)
+-- whether a first record is a header, by whether it is whole: otherwise it is none
+abbrev pub IsHeaderIf : Bool → Column → List ℕ → Bool → Type 0
+IsHeaderIf false column body is_header = is_header ≡ false
+IsHeaderIf true column body is_header = IsHeading column body is_header
 
--- ---- tables
+-- what the first record of a table says, if it has the column: which cells have vectors, and whether it is a header
+abbrev pub Says : Column → List ℕ → Option Layout → Type 0
+Says column body None = cells_by column (fields body) ≡ None
+Says column body (Some layout) =
+    (cells_by column (fields body) ≡ Some layout.cells) × IsHeaderIf (is_whole body) column body layout.has_header
 
--- the records of an input, if it is read
-abbrev pub records_of_input : Option (Vec ℕ) → List Record
-records_of_input None = []
-records_of_input (Some bytes) = records bytes.items
+-- of a table without a record nothing has to be said
+abbrev pub SaysOf : Column → List Record → Layout → Type 0
+SaysOf column [] layout = ⊤
+SaysOf column (first ∷ more) layout = Says column first.body (Some layout)
 
--- the first record of the first input, if that is read and has one
-abbrev pub first_record : List (Option (Vec ℕ)) → Option Record
-first_record [] = None
-first_record (input ∷ inputs) = first_of (records_of_input input)
+-- a table
+abbrev pub IsTableOf : Column → List ℕ → Input → Type 0
+IsTableOf column text Unread = ⊥
+IsTableOf column text WithoutColumn = LacksColumn column (records text)
+IsTableOf column text (Read input) = (input.text.now ≡ text) × SaysOf column (records text) input.layout
 
--- a record, if there is one, ends with a carriage return and a line feed
-abbrev pub is_crlf : Option Record → Bool
-is_crlf None = false
-is_crlf (Some first) = bytes_eq first.line_end (13 ∷ 10 ∷ [])
+-- a list of lines, of which the first may be its header
+abbrev pub IsListOf : Bool → List ℕ → Input → Type 0
+IsListOf header text Unread = ⊥
+IsListOf header text WithoutColumn = ⊥
+IsListOf header text (Read input) = (input.text.now ≡ text) × (input.layout.has_header ≡ header)
 
--- the first record of an input is its header: it has bytes, its fields are closed, and no vector is found in it
-pub record IsHeader (body : List ℕ) : Type 0 where
-  pub some : body ≢ []
-  pub closed : is_open body ≡ false
-  pub none : AreFound (candidates_of body) []
+-- an input, by its text if it is read
+abbrev pub IsInputOf : Form → Bool → Column → Option (Vec ℕ) → Input → Type 0
+IsInputOf form header column None input = input ≡ Unread
+IsInputOf Lines header column (Some text) input = IsListOf header text.items input
+IsInputOf Records header column (Some text) input = IsTableOf column text.items input
 
--- the header of an input by its first record, if there is one
-abbrev pub IsHeaderOf : Option Record → Option (List ℕ) → Type 0
-IsHeaderOf None header = header ≡ None
-IsHeaderOf (Some first) header =
-    (IsHeader first.body × (header ≡ Some first.body)) ⊎ (¬ (IsHeader first.body) × (header ≡ None))
+-- its first record lacks the column
+abbrev pub lacks_column : Input → Bool
+lacks_column Unread = false
+lacks_column WithoutColumn = true
+lacks_column (Read input) = false
 
--- what is ranked of a record that is closed: its bytes, if it has some
-abbrev pub some_bytes : List ℕ → Option (List ℕ)
-some_bytes [] = None
-some_bytes (byte ∷ bytes) = Some (byte ∷ bytes)
-
--- what is ranked of a record: where it is not closed no bytes, in which no vector is found
-abbrev pub ranked_of : Record → Option (List ℕ)
-ranked_of each = if is_open each.body then Some [] else some_bytes each.body
-
--- what is ranked of the first record of an input: nothing, if that is the header
-abbrev pub IsRankedFirst : Record → Option (List ℕ) → Type 0
-IsRankedFirst first row = (IsHeader first.body × (row ≡ None)) ⊎ (¬ (IsHeader first.body) × (row ≡ ranked_of first))
-
--- what is ranked of the records of an input
-abbrev pub AreRanked : List Record → List (Option (List ℕ)) → Type 0
-AreRanked [] rows = rows ≡ []
-AreRanked (first ∷ more) rows = (row : Option (List ℕ)) × IsRankedFirst first row × (rows ≡ row ∷ map ranked_of more)
-
--- ---- lines or records
-
--- how many an input has
-abbrev pub count_in : Form → Option (Vec ℕ) → ℕ
-count_in Lines input = length (lines_of_input input)
-count_in Records input = length (records_of_input input)
-
--- of those of an input what is to be ranked, and `None` for the others
-abbrev pub AreRowsOf : Form → Bool → Option (Vec ℕ) → List (Option (List ℕ)) → Type 0
-AreRowsOf Lines header input rows = rows ≡ without_header header (lines_of_input input)
-AreRowsOf Records header input rows = AreRanked (records_of_input input) rows
-
--- the same of those of all inputs
-abbrev pub AreRowsIn : Form → Bool → List (Option (Vec ℕ)) → List (Option (List ℕ)) → Type 0
-AreRowsIn form header [] rows = rows ≡ []
-AreRowsIn form header (input ∷ inputs) rows =
-    (own : List (Option (List ℕ))) × (more : List (Option (List ℕ))) × (rows ≡ own ++ more)
-    × AreRowsOf form header input own × AreRowsIn form header inputs more
+-- it has nothing that can be ranked: it cannot be read, or it lacks the column
+abbrev pub is_unread : Input → Bool
+is_unread Unread = true
+is_unread WithoutColumn = true
+is_unread (Read input) = false

@@ -1,7 +1,8 @@
 pub mod Counts
 pub mod Inputs
+pub mod Lines
 pub mod Overrides
-pub mod Places
+pub mod Locations
 pub mod Preferences
 pub mod Ranking
 pub mod Reading

@@ -2,7 +2,7 @@
 -- score.
 use Rattle.std.specs.Prelude.{◌≡◌, ◌<◌, ◌≤◌, ℕ, Bool, List, ◌∷◌, ◌++◌, All, Contains, Option, None, Some, ⊤}
 use Rattle.std.specs.List.{AllZip}
-use Rattle.cvss_matches.specs.Matches.{AreFound, Placed, candidates_of}
+use Rattle.cvss_matches.specs.Matches.{AreFound, Candidate, candidates_of}
 use Rattle.cvss_vector.specs.Answers.{score_of_tenths}
 use Rattle.cvss_vector.specs.Complete.{missing_by}
 use Rattle.cvss_vector.specs.Dispatch.{DenotesCvss}
@@ -17,14 +17,10 @@ use Rattle.cvss_triage.specs.declared.preferring.Preference.{Preference}
 use Rattle.cvss_triage.specs.declared.preferring.Preference.TheVariants.{Of, Highest}
 
 -- each of the candidates that are found denotes its own of these vectors, in their order
-pub record AreVectorsIn (candidates : List Placed) (vectors : List Cvss) : Type 0 where
-  pub found : List Placed
+pub record AreVectorsIn (candidates : List Candidate) (vectors : List Cvss) : Type 0 where
+  pub found : List Candidate
   pub are : AreFound candidates found
   pub denoted : AllZip (λ match cvss. DenotesCvss match.text cvss) found vectors
-
--- the vectors that the matches of a line denote, if each of them denotes one
-abbrev pub AreVectorsOf : List ℕ → List Cvss → Type 0
-AreVectorsOf line vectors = AreVectorsIn (candidates_of line) vectors
 
 -- all vectors of this version are one, and this is it
 pub record IsOnlyOf (version : Version) (vectors : List Cvss) (cvss : Cvss) : Type 0 where
@@ -69,10 +65,11 @@ IsNonePreferred Highest overrides allow_incomplete vectors = (cvss : Cvss) × Co
 abbrev pub IsPicked : Option Preference → List Override → Scoring → Bool → List ℕ → Cvss → Type 0
 IsPicked None overrides scoring allow_incomplete line cvss = ⊥
 IsPicked (Some preference) overrides scoring allow_incomplete line cvss =
-    (vectors : List Cvss) × AreVectorsOf line vectors × IsPreferred preference overrides scoring allow_incomplete vectors cvss
+    (vectors : List Cvss) × AreVectorsIn (candidates_of line) vectors × IsPreferred preference overrides scoring allow_incomplete vectors cvss
 
 -- it is not said, or a match of the line denotes no vector, or none of those that they denote is preferred
 abbrev pub IsNonePicked : Option Preference → List Override → Bool → List ℕ → Type 0
 IsNonePicked None overrides allow_incomplete line = ⊤
 IsNonePicked (Some preference) overrides allow_incomplete line =
-    (first : Cvss) (more : List Cvss) → AreVectorsOf line (first ∷ more) → IsNonePreferred preference overrides allow_incomplete (first ∷ more)
+    (first : Cvss) (more : List Cvss) → AreVectorsIn (candidates_of line) (first ∷ more)
+    → IsNonePreferred preference overrides allow_incomplete (first ∷ more)

@@ -9,7 +9,7 @@ use Rattle.cvss_vector.specs.declared.rejection.ReadError.TheVariants.{Invalid}
 use Rattle.cvss_vector.specs.declared.rejection.Rejection.TheVariants.{Missing}
 use Rattle.cvss_vector.specs.declared.scoring.Scoring.{Scoring}
 use Rattle.cvss_vector.specs.declared.vector.Cvss.{Cvss}
-use Rattle.cvss_matches.specs.Matches.{AreFound, IsFound, Placed, candidates_of}
+use Rattle.cvss_matches.specs.Matches.{AreFound, Candidate, IsFound, candidates_of}
 use Rattle.cvss_triage.specs.Overrides.{IsWithOwn}
 use Rattle.cvss_triage.specs.Preferences.{IsNonePicked, IsPicked}
 use Rattle.cvss_triage.specs.declared.overrides.Override.{Override}
@@ -19,25 +19,25 @@ use Rattle.cvss_triage.specs.declared.reading.Reason.TheVariants.{NoVector, Seve
 
 -- the line has this match and no other
 pub record IsOnlyMatch (line text : List ℕ) : Type 0 where
-  pub match : Placed
+  pub match : Candidate
   pub only : AreFound (candidates_of line) (match ∷ [])
   pub is : text ≡ match.text
 
 -- two of the line's matches are found
 pub record HasSeveral (line : List ℕ) : Type 0 where
-  pub first : Placed
-  pub second : Placed
-  pub before : List Placed
-  pub between : List Placed
-  pub after : List Placed
+  pub first : Candidate
+  pub second : Candidate
+  pub before : List Candidate
+  pub between : List Candidate
+  pub after : List Candidate
   pub are : candidates_of line ≡ before ++ first ∷ (between ++ second ∷ after)
   pub first_found : IsFound first.text
   pub second_found : IsFound second.text
 
 -- the line has matches, and each denotes this vector: a vector may be next to its own link
 pub record IsVectorOf (line : List ℕ) (cvss : Cvss) : Type 0 where
-  pub first : Placed
-  pub more : List Placed
+  pub first : Candidate
+  pub more : List Candidate
   pub found : AreFound (candidates_of line) (first ∷ more)
   pub denoted : All (λ match. DenotesCvss match.text cvss) (first ∷ more)
 

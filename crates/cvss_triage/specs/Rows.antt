@@ -12,7 +12,7 @@ use Rattle.cvss_lines.specs.Answers.{WritesAnswer}
 use Rattle.cvss_report.specs.Cells.{given_text}
 use Rattle.cvss_report.specs.Rows.{cells_rule}
 use Rattle.cvss_report.specs.declared.format.Format.TheVariants.{Json}
-use Rattle.cvss_triage.specs.Places.{IsAt}
+use Rattle.cvss_triage.specs.Locations.{IsAt}
 use Rattle.cvss_triage.specs.declared.row.Row.{Row}
 use Rattle.cvss_triage.specs.declared.style.Style.{Style}
 use Rattle.cvss_triage.specs.declared.style.Style.TheVariants.{Words, Objects, Table}

@@ -1,8 +1,9 @@
 -- What triage reads and writes, and what it comes to.
-use Rattle.std.specs.Prelude.{◌≡◌, ◌⊎◌, ℕ, ◌||◌, ◌==◌, Bool, true, false, not, List, [], length, map, take, is_none, if◌then◌else◌, Option, None, Err}
+use Rattle.std.specs.Prelude.{◌≡◌, ◌⊎◌, ℕ, ◌||◌, ◌==◌, Bool, true, false, not, List, [], length, map, take, if◌then◌else◌, Option, None, Err}
 use Rattle.std.specs.Global.{Vec}
 use Rattle.std.specs.Io.KnownBytes.{Appends, Keeps}
-use Rattle.std.specs.List.{list_any}
+use Rattle.std.specs.List.{AllZip, list_any}
+use Rattle.cvss_csv.specs.declared.asked.Column.{Column}
 use Rattle.cvss_lines.specs.declared.fault.RunFault.TheVariants.{Memory, Read, Write}
 use Rattle.cvss_vector.specs.declared.scoring.Scoring.{Scoring}
 use Rattle.cvss_frame.specs.Exit.{after, nothing_served}
@@ -13,15 +14,17 @@ use Rattle.cvss_frame.specs.declared.served.Served.{Served}
 use Rattle.cvss_report.specs.Tallies.{count_text}
 use Rattle.cvss_report.specs.declared.gate.Gate.{Gate}
 use Rattle.cvss_triage.specs.Counts.{tally_of}
-use Rattle.cvss_triage.specs.Inputs.{AreRowsIn, IsHeaderOf, ReadsEach, ReadsInput, first_header, first_record, inputs_of, is_crlf}
-use Rattle.cvss_triage.specs.Places.{starts_of}
+use Rattle.cvss_triage.specs.Inputs.{IsInputOf, ReadsEach, ReadsInput, inputs_of, is_unread, lacks_column}
+use Rattle.cvss_triage.specs.Lines.{first_header, is_crlf, lines_of}
+use Rattle.cvss_triage.specs.Locations.{starts_of}
 use Rattle.cvss_triage.specs.Ranking.{IsRanking}
-use Rattle.cvss_triage.specs.Reports.{ReportsBadLine, ReportsEach, ReportsSetting}
+use Rattle.cvss_triage.specs.Reports.{ReportsBadLine, ReportsEach, ReportsLacking, ReportsSetting}
 use Rattle.cvss_triage.specs.Rows.{IsRowText, IsTable}
 use Rattle.cvss_triage.specs.Settings.{AreUnderstood, ReadsSetting, all_given, as_metrics, as_words}
 use Rattle.cvss_triage.specs.Shown.{after_gate, shown_rows}
 use Rattle.cvss_triage.specs.declared.form.Form.{Form}
 use Rattle.cvss_triage.specs.declared.form.Form.TheVariants.{Lines, Records}
+use Rattle.cvss_triage.specs.declared.input.Input.{Input}
 use Rattle.cvss_triage.specs.declared.overrides.Override.{Override}
 use Rattle.cvss_triage.specs.declared.preferring.Preference.{Preference}
 use Rattle.cvss_triage.specs.declared.ranking.BadLine.{BadLine}
@@ -35,8 +38,8 @@ use Rattle.cvss_triage.specs.declared.triage.Triage.{Triage}
 -- what triage is asked for: what is set, the later after the earlier; whether the other rows are written where a line has no
 -- row or an input cannot be read; whether vectors of CVSS v3 may lack base metrics; by which score lines are ranked; which
 -- rows are shown and fail; whether their numbers are printed in their place; whether rows of lines are objects, and the first
--- line of each input is its header; whether inputs have lines or records; whether the cells of these are guarded; and which
--- vector is ranked of a line that has several
+-- line of each input is its header; whether inputs have lines or records; which column of these has the vectors; whether
+-- their cells are guarded; and which vector is ranked of a line that has several
 pub record Asked : Type 0 where
   pub settings : List (SettingKind × List ℕ)
   pub keep_going : Bool
@@ -47,6 +50,7 @@ pub record Asked : Type 0 where
   pub json : Bool
   pub header : Bool
   pub form : Form
+  pub column : Column
   pub guarded : Bool
   pub prefer : Option Preference
 
@@ -62,6 +66,7 @@ asked_of asked = record {
   json = asked.json;
   header = asked.header;
   form = asked.form;
+  column = asked.column;
   guarded = asked.guarded;
   prefer = asked.prefer;
 }
@@ -88,9 +93,9 @@ pub record IsNotUnderstood (settings : List (SettingKind × List ℕ)) (old new 
   pub text_is : text ≡ []
   pub served_is : served ≡ after nothing_served (Err Read)
 
--- what triage comes to by which lines have no row and which inputs are read
-abbrev pub served_of : List BadLine → List (Option (Vec ℕ)) → Served
-served_of bad inputs = record { rejected = not (length bad == 0); unread = list_any is_none inputs; stopped = None }
+-- what triage comes to by which lines have no row and which inputs can be ranked
+abbrev pub served_of : List BadLine → List Input → Served
+served_of bad inputs = record { rejected = not (length bad == 0); unread = list_any is_unread inputs; stopped = None }
 
 -- rows are shown, unless a line has none or an input is unread and triage is not to go on then
 abbrev pub shows : Bool → Served → Bool
@@ -98,20 +103,14 @@ shows keep_going served = keep_going || not (served.rejected || served.unread)
 
 -- how rows are written: those of lines in words or as objects, those of records as these are, all with the line end of the
 -- first record of the first input
-abbrev pub style_by : Form → Asked → List (Option (Vec ℕ)) → Style
+abbrev pub style_by : Form → Asked → List Input → Style
 style_by Lines asked inputs = if asked.json then Objects asked.allow_incomplete else Words
 style_by Records asked inputs = Table
     (record { scoring = asked.scoring; allow_incomplete = asked.allow_incomplete; guarded = asked.guarded; each = false })
-    (is_crlf (first_record inputs))
+    (is_crlf inputs)
 
-abbrev pub style_of : Asked → List (Option (Vec ℕ)) → Style
+abbrev pub style_of : Asked → List Input → Style
 style_of asked inputs = style_by asked.form asked inputs
-
--- the header that is printed, that of the first input: its first line, where lines have headers, or its first record, where
--- that is a header
-abbrev pub IsTop : Form → Bool → List (Option (Vec ℕ)) → Option (List ℕ) → Type 0
-IsTop Lines header inputs top = top ≡ (if header then first_header inputs else None)
-IsTop Records header inputs top = IsHeaderOf (first_record inputs) top
 
 -- what is printed, by whether that is nothing, or numbers: these, or the rows that are shown, each in the style, after the
 -- header if there is one
@@ -132,18 +131,24 @@ abbrev pub PrintsIf : Bool → Asked → Style → Option (List ℕ) → List �
 PrintsIf true asked style top starts many operands ranking read text served = Prints asked style top starts many operands ranking read text served
 PrintsIf false asked style top starts many operands ranking read text served = (text ≡ []) × (served ≡ read)
 
--- the lines or records of the inputs are ranked, and this is printed of the ranking; those without a row are reported
-pub record IsRanked (asked : Asked) (overrides : List Override) (operands : List (Vec ℕ)) (inputs : List (Option (Vec ℕ)))
+-- the lines or records of the inputs are ranked, and this is printed of the ranking, after the header of the first input if
+-- there is one; those without a row are reported
+pub record RanksLines (asked : Asked) (overrides : List Override) (operands : List (Vec ℕ)) (inputs : List Input)
     (report report' : Reported) (text : List ℕ) (served : Served) : Type 0 where
-  pub rows : List (Option (List ℕ))
-  pub are_rows : AreRowsIn asked.form asked.header inputs rows
   pub ranking : Ranking
-  pub is : IsRanking asked.prefer overrides asked.scoring asked.allow_incomplete rows ranking
-  pub reported : ReportsEach (ReportsBadLine asked.form rows (starts_of asked.form inputs) (many_files operands) operands) ranking.bad.items report report'
-  pub top : Option (List ℕ)
-  pub is_top : IsTop asked.form asked.header inputs top
-  pub prints : PrintsIf (shows asked.keep_going (served_of ranking.bad.items inputs)) asked (style_of asked inputs) top (starts_of asked.form inputs)
-      (many_files operands) operands ranking (served_of ranking.bad.items inputs) text served
+  pub is : IsRanking asked.prefer overrides asked.scoring asked.allow_incomplete (lines_of asked.form inputs) ranking
+  pub reported : ReportsEach (ReportsBadLine asked.form (lines_of asked.form inputs) (starts_of asked.form inputs) (many_files operands) operands) ranking.bad.items report report'
+  pub prints : PrintsIf (shows asked.keep_going (served_of ranking.bad.items inputs)) asked (style_of asked inputs) (first_header asked.form inputs)
+      (starts_of asked.form inputs) (many_files operands) operands ranking (served_of ranking.bad.items inputs) text served
+
+-- the inputs have these texts, if they are read; an input that lacks the column is reported, and the others are ranked
+pub record IsRanked (asked : Asked) (overrides : List Override) (operands : List (Vec ℕ)) (texts : List (Option (Vec ℕ)))
+    (report report' : Reported) (text : List ℕ) (served : Served) : Type 0 where
+  pub inputs : List Input
+  pub are : AllZip (IsInputOf asked.form asked.header asked.column) texts inputs
+  pub missed : Reported
+  pub misses : ReportsLacking (list_any lacks_column inputs) asked.column report missed
+  pub ranks : RanksLines asked overrides operands inputs missed report' text served
 
 -- all operands are read in turn after the settings, and their lines are ranked
 pub record Ranks (asked : Asked) (operands : List (Vec ℕ)) (old new : State) (text : List ℕ) (served : Served) : Type 0 where

@@ -4,13 +4,14 @@
 
 mod counting;
 mod form;
+mod input;
 mod inputs;
 pub mod laws;
 mod lines;
+mod locations;
 mod messages;
 mod overrides;
 mod own_metrics;
-mod places;
 mod preferring;
 mod ranking;
 mod reading;
@@ -18,6 +19,7 @@ mod records;
 mod report;
 mod row;
 mod rows;
+mod served;
 mod settings;
 mod style;
 mod table;

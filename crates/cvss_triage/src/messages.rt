@@ -1,9 +1,10 @@
 //! The texts that are reported on standard error.
 
-ghost use Rattle.std.specs.Prelude.{◌≡◌, ◌++◌, [], IfOk, Some, codes, option_map};
+ghost use Rattle.std.specs.Prelude.{◌≡◌, ◌++◌, IfOk, Some, codes, option_map};
 ghost use Rattle.cvss_json.specs.Sinks.{Adds};
-ghost use Rattle.cvss_triage.specs.Places.{form_text, name_text, place_text};
-ghost use Rattle.cvss_triage.specs.Reports.{bad_line_text, reason_words, unknown_text, why_text};
+ghost use Rattle.cvss_frame.specs.Names.{shown_name};
+ghost use Rattle.cvss_triage.specs.Locations.{form_text, name_text, location_text};
+ghost use Rattle.cvss_triage.specs.Reports.{bad_line_text, reason_words, unknown_line_text, unknown_text, why_text};
 ghost use Rattle.cvss_triage.specs.declared.form.Form.TheVariants.{Lines};
 
 use crate::form::Form;
@@ -48,7 +49,7 @@ fn put_bad_line<S: Sink>(
         sink.old sink.new }
 {
     sink.push(b"cvss: ");
-    put_place(sink, form, name, number);
+    put_location(sink, form, name, number);
     put_why(sink, form, unclosed, reason);
     sink.push(b"\n");
 }
@@ -59,15 +60,14 @@ fn put_bad_line<S: Sink>(
 ///
 /// Out of memory.
 pub(crate) fn unknown_text(alloc: Global, metrics: &[u8]) -> Result<Vec<u8>, AllocError>
-    ensures { IfOk result (λ text. text.items ≡ unknown_text [] metrics.now) }
+    ensures { IfOk result (λ text. text.items ≡ unknown_text metrics.now) }
 {
     let mut text = Growing::new(alloc);
-    text.push(b"cvss: ");
-    put_unknown(&mut text, metrics);
+    put_unknown(&mut text, b"cvss: no CVSS version has ", metrics);
     text.end()
 }
 
-/// What is reported of metrics in the line of this number of a profile.
+/// What is reported of the line of this number of a profile, which has a name.
 ///
 /// # Errors
 ///
@@ -76,31 +76,34 @@ pub(crate) fn unknown_line_text(
     alloc: Global,
     name: &[u8],
     number: usize,
-    metrics: &[u8],
+    line: &[u8],
 ) -> Result<Vec<u8>, AllocError>
     ensures { IfOk result (λ text. text.items
-        ≡ unknown_text (place_text Lines (Some name.now) number) metrics.now) }
+        ≡ unknown_line_text (location_text Lines (Some name.now) number) line.now) }
 {
     let mut text = Growing::new(alloc);
     text.push(b"cvss: ");
-    put_place(&mut text, Form::Lines, Some(name), number);
-    put_unknown(&mut text, metrics);
+    put_location(&mut text, Form::Lines, Some(name), number);
+    put_unknown(&mut text, NOT_METRICS, line);
     text.end()
 }
 
-fn put_unknown<S: Sink>(sink: &mut S, metrics: &[u8])
-    ensures { Adds S.Holds (codes "no CVSS version has " ++ (metrics.now ++ codes "\n"))
-        sink.old sink.new }
+/// What is said of a line of a profile that has no metrics of a version.
+const NOT_METRICS: &[u8] = b"not v2 metrics, nor v3 or v4.0 metrics after their prefix: ";
+
+/// Writes words and what is given, as it is shown.
+fn put_unknown<S: Sink>(sink: &mut S, words: &[u8], given: &[u8])
+    ensures { Adds S.Holds (words.now ++ (shown_name given.now ++ codes "\n")) sink.old sink.new }
 {
-    sink.push(b"no CVSS version has ");
-    sink.push(metrics);
+    sink.push(words);
+    put_shown(sink, given);
     sink.push(b"\n");
 }
 
 /// Writes the name of a file, if there is one, and the number of a line or a record.
 #[tactic(auto, using(cvss_json::proofs::AddsLemmas::join2))]
-fn put_place<S: Sink>(sink: &mut S, form: Form, name: Option<&[u8]>, number: usize)
-    ensures { Adds S.Holds (place_text form (option_map (λ name. name.now) name.entry) number)
+fn put_location<S: Sink>(sink: &mut S, form: Form, name: Option<&[u8]>, number: usize)
+    ensures { Adds S.Holds (location_text form (option_map (λ name. name.now) name.entry) number)
         sink.old sink.new }
 {
     put_name(sink, name);

@@ -1,11 +1,12 @@
 //! Lines, ranked.
 
-ghost use Rattle.std.specs.Prelude.{All, IfErr, IfOk, List, OnOk, Some, map, option_map};
+ghost use Rattle.std.specs.Prelude.{All, IfErr, IfOk, List, OnOk, Some, option_map};
 ghost use Rattle.cvss_triage.specs.Ranking.{IsRanking, IsRow};
 ghost use Rattle.cvss_triage.specs.Reading.{IsReason};
 ghost use Rattle.cvss_triage.specs.declared.overrides.Override.{Override};
-ghost use Rattle.cvss_triage.specs.private.Steps.{Adds, AreOwnMetrics, IsReadBy, IsToTen};
+ghost use Rattle.cvss_triage.specs.private.Steps.{Adds, AreOwnMetrics, IsReadBy, IsToTen, as_line, rows_of};
 
+use crate::lines::CutLine;
 use crate::own_metrics::OwnMetrics;
 use crate::preferring::{Preference, chosen};
 use crate::reading::Reason;
@@ -54,13 +55,12 @@ impl<'a> Ranking<'a> {
     #[tactic(auto, using(crate::proofs::RankLemmas::to_ten_ranked))]
     pub(crate) fn of(
         alloc: Global,
-        lines: &[Option<&'a [u8]>],
+        lines: &'a [Option<CutLine<'a>>],
         rules: &Rules,
     ) -> Result<Ranking<'a>, AllocError>
         ensures ranking { (overrides : List Override) → AreOwnMetrics overrides rules.now.own
             → IfOk result (IsRanking rules.now.prefer overrides rules.now.scoring
-            rules.now.allow_incomplete
-            (map (λ line. option_map (λ line. line.now) line) lines.now)) }
+            rules.now.allow_incomplete (rows_of lines.now)) }
         ensures to_ten { IfOk result (λ ranking. All IsToTen ranking.rows.items) }
     {
         let mut ranking = Ranking::in_turn(alloc, lines, rules)?;
@@ -71,11 +71,10 @@ impl<'a> Ranking<'a> {
     /// The rows of lines, in the order of the lines, and the lines that have none.
     fn in_turn(
         alloc: Global,
-        lines: &[Option<&'a [u8]>],
+        lines: &'a [Option<CutLine<'a>>],
         rules: &Rules,
     ) -> Result<Ranking<'a>, AllocError>
-        ensures { IfOk result (λ ranking. IsReadBy rules.now
-            (map (λ line. option_map (λ line. line.now) line) lines.now)
+        ensures { IfOk result (λ ranking. IsReadBy rules.now (rows_of lines.now)
             ranking.rows.items ranking.bad.items) }
     {
         let mut ranking = Ranking {
@@ -83,7 +82,7 @@ impl<'a> Ranking<'a> {
             bad: Vec::new(alloc),
         };
         for (index, line) in lines.iter().enumerate() {
-            ranking.add_if(index + 1, *line, rules)?;
+            ranking.add_if(index + 1, line, rules)?;
         }
         Ok(ranking)
     }
@@ -92,10 +91,10 @@ impl<'a> Ranking<'a> {
     fn add_if(
         &mut self,
         number: usize,
-        line: Option<&'a [u8]>,
+        line: &'a Option<CutLine<'a>>,
         rules: &Rules,
     ) -> Result<(), AllocError>
-        ensures { OnOk result (Adds rules.now number (option_map (λ line. line.now) line.entry)
+        ensures { OnOk result (Adds rules.now number (option_map as_line line.now)
             self.old self.new) }
     {
         match line {
@@ -106,10 +105,10 @@ impl<'a> Ranking<'a> {
 
     /// Adds the row of the line of this number, or the line as a bad one.
     #[tactic(auto, using(crate::proofs::RankLemmas::reads_row, crate::proofs::RankLemmas::reads_bad))]
-    fn add(&mut self, number: usize, line: &'a [u8], rules: &Rules) -> Result<(), AllocError>
-        ensures { OnOk result (Adds rules.now number (Some line.now) self.old self.new) }
+    fn add(&mut self, number: usize, line: &'a CutLine<'a>, rules: &Rules) -> Result<(), AllocError>
+        ensures { OnOk result (Adds rules.now number (Some (as_line line.now)) self.old self.new) }
     {
-        match row_of(number, line, rules) {
+        match row_of(number, line.bytes, line.searched.as_slice(), rules) {
             Ok(row) => self.rows.push(row)?,
             Err(reason) => self.bad.push(BadLine { number, reason })?,
         }
@@ -117,18 +116,24 @@ impl<'a> Ranking<'a> {
     }
 }
 
-/// The row of the line of this number, or why it has none.
+/// The row of the line of this number, whose vector is looked for in a text, or why it has none.
 #[tactic(auto, using(crate::proofs::RankLemmas::row_by))]
-fn row_of<'a>(number: usize, line: &'a [u8], rules: &Rules) -> Result<Row<'a>, Reason<'a>>
+fn row_of<'a>(
+    number: usize,
+    line: &'a [u8],
+    searched: &'a [u8],
+    rules: &Rules,
+) -> Result<Row<'a>, Reason<'a>>
     ensures row { (overrides : List Override) → AreOwnMetrics overrides rules.now.own
         → IfOk result (IsRow rules.now.prefer overrides rules.now.scoring
-        rules.now.allow_incomplete number line.now) }
+        rules.now.allow_incomplete number
+        (record { bytes = line.now; searched = searched.now })) }
     ensures to_ten { IfOk result IsToTen }
     ensures reason { (overrides : List Override) → AreOwnMetrics overrides rules.now.own
         → IfErr result (IsReason rules.now.prefer overrides rules.now.scoring
-        rules.now.allow_incomplete line.now) }
+        rules.now.allow_incomplete searched.now) }
 {
-    let vector = rules.own.in_vector(chosen(line, rules)?);
+    let vector = rules.own.in_vector(chosen(searched, rules)?);
     match vector.missing_by(rules.allow_incomplete) {
         None => Ok(Row {
             number,

@@ -1,42 +1,49 @@
 //! The records of tables.
 
-ghost use Rattle.std.specs.Prelude.{◌≡◌, ◌+◌, ◌++◌, ◌↔◌, [], IsTrue, MatchOption, None, OnOk, Some, length, map, option_map};
+ghost use Rattle.std.specs.Prelude.{◌≡◌, ◌++◌, IfOk, OnOk, map, option_map};
+ghost use Rattle.std.specs.Cow.{cow_slice_items};
 ghost use Rattle.cvss_csv.specs.Records.{as_record, is_open, records as records_of_text};
-ghost use Rattle.cvss_matches.specs.Matches.{AreFound, candidates_of};
-ghost use Rattle.cvss_triage.specs.Inputs.{AreRanked, IsHeader, IsHeaderOf, IsRankedFirst, first_record, is_crlf, ranked_of};
-ghost use Rattle.cvss_triage.specs.private.Steps.{AddsRows, rows_of};
+ghost use Rattle.cvss_triage.specs.Lines.{after_header, closed_line, ends_crlf, first_of, is_crlf, ranked_of, searched_in};
+ghost use Rattle.cvss_triage.specs.private.Steps.{as_line, rows_of};
 
-use cvss_csv::{CutRecord, first_record};
-use cvss_matches::Matches;
-use std::alloc::AllocError;
+use crate::input::{Input, InputText, first_text};
+use crate::lines::CutLine;
+use cvss_csv::{Cells, CutRecord, first_record, value_at};
+use std::alloc::{AllocError, Global};
+use std::borrow::CowSlice;
 
-/// Appends what is ranked of the records of a text, of which the first may be its header.
+/// Appends what is ranked of the records of an input.
 pub(crate) fn push_records<'a>(
-    text: &'a [u8],
-    rows: &mut Vec<Option<&'a [u8]>>,
+    alloc: Global,
+    input: InputText<'a>,
+    lines: &mut Vec<Option<CutLine<'a>>>,
 ) -> Result<(), AllocError>
-    ensures rows { OnOk result (AddsRows (AreRanked (records_of_text text.now))
-        rows.old.items rows.new.items) }
-    ensures count { OnOk result (length rows.new.items
-        ≡ length rows.old.items + length (records_of_text text.now)) }
+    ensures { OnOk result (rows_of lines.new.items
+        ≡ rows_of lines.old.items ++ after_header input.entry.layout.has_header
+        (map (ranked_of input.entry.layout.cells) (records_of_text input.entry.text.now))) }
 {
-    match first_record(text) {
-        Some((first, rest)) => {
-            rows.push(ranked_first(&first))?;
-            push_others(rest, rows)
+    match first_record(input.text) {
+        Some((_, rest)) if input.layout.has_header => {
+            lines.push(None)?;
+            push_all(alloc, input.layout.cells, rest, lines)
         }
-        None => Ok(()),
+        _ => push_all(alloc, input.layout.cells, input.text, lines),
     }
 }
 
 /// Appends what is ranked of records none of which is a header.
-fn push_others<'a>(text: &'a [u8], rows: &mut Vec<Option<&'a [u8]>>) -> Result<(), AllocError>
-    ensures { OnOk result (rows_of rows.new.items
-        ≡ rows_of rows.old.items ++ map ranked_of (records_of_text text.now)) }
+fn push_all<'a>(
+    alloc: Global,
+    cells: Cells,
+    text: &'a [u8],
+    lines: &mut Vec<Option<CutLine<'a>>>,
+) -> Result<(), AllocError>
+    ensures { OnOk result (rows_of lines.new.items
+        ≡ rows_of lines.old.items ++ map (ranked_of cells) (records_of_text text.now)) }
 {
     let mut left = text;
     while let Some((record, rest)) = first_record(left) {
-        rows.push(ranked_of(&record))?;
+        lines.push(ranked_of(alloc, cells, &record)?)?;
         left = rest;
     }
     Ok(())
@@ -44,86 +51,79 @@ fn push_others<'a>(text: &'a [u8], rows: &mut Vec<Option<&'a [u8]>>) -> Result<(
 
 /// What is ranked of a record: nothing of an empty one, and no bytes of one that is not closed, so that no
 /// vector is found in it.
-fn ranked_of<'a>(cut: &CutRecord<'a>) -> Option<&'a [u8]>
+fn ranked_of<'a>(
+    alloc: Global,
+    cells: Cells,
+    cut: &CutRecord<'a>,
+) -> Result<Option<CutLine<'a>>, AllocError>
     requires { cut.now.unclosed ≡ is_open cut.now.body.now }
-    ensures { option_map (λ row. row.now) result ≡ ranked_of (as_record cut.now) }
+    ensures { IfOk result (λ line. option_map as_line line ≡ ranked_of cells (as_record cut.now)) }
 {
     if cut.unclosed {
-        Some(&[])
-    } else if cut.body.is_empty() {
-        None
+        Ok(Some(CutLine::whole(&[])))
     } else {
-        Some(cut.body)
+        closed_line(alloc, cells, cut.body)
     }
 }
 
-/// What is ranked of the first record of a text: nothing, if that is its header.
-fn ranked_first<'a>(first: &CutRecord<'a>) -> Option<&'a [u8]>
-    requires { first.now.unclosed ≡ is_open first.now.body.now }
-    ensures { IsRankedFirst (as_record first.now) (option_map (λ row. row.now) result) }
+/// What is ranked of a record that is closed.
+fn closed_line<'a>(
+    alloc: Global,
+    cells: Cells,
+    body: &'a [u8],
+) -> Result<Option<CutLine<'a>>, AllocError>
+    ensures { IfOk result (λ line. option_map as_line line ≡ closed_line cells body.now) }
 {
-    if is_header(first) {
-        None
-    } else {
-        ranked_of(first)
+    if body.is_empty() {
+        return Ok(None);
+    }
+    Ok(Some(CutLine {
+        bytes: body,
+        searched: searched_in(alloc, cells, body)?,
+    }))
+}
+
+/// The text of a record in which its vector is looked for.
+fn searched_in<'a>(
+    alloc: Global,
+    cells: Cells,
+    body: &'a [u8],
+) -> Result<CowSlice<'a, u8>, AllocError>
+    ensures { IfOk result (λ text. cow_slice_items text ≡ searched_in cells body.now) }
+{
+    match cells {
+        Cells::Any => Ok(CowSlice::Borrowed(body)),
+        Cells::At(index) => value_at(alloc, index, body),
     }
 }
 
-/// Whether the first record of a text is its header.
-fn is_header(cut: &CutRecord<'_>) -> bool
-    requires { cut.now.unclosed ≡ is_open cut.now.body.now }
-    ensures { IsTrue result ↔ IsHeader cut.now.body.now }
+/// The first record of a text without its line end, if it has one.
+pub(crate) fn first_body(text: &[u8]) -> Option<&[u8]>
+    ensures { option_map (λ body. body.now) result
+        ≡ first_of (map (λ each. each.body) (records_of_text text.now)) }
 {
-    if cut.unclosed {
-        return false;
-    }
-    if cut.body.is_empty() {
-        return false;
-    }
-    has_no_vector(cut.body)
-}
-
-fn has_no_vector(body: &[u8]) -> bool
-    ensures { IsTrue result ↔ AreFound (candidates_of body.now) [] }
-{
-    let mut matches = Matches::of(body);
-    match matches.next() {
-        None => true,
-        Some(_) => false,
-    }
-}
-
-/// The header of the first input, if that is read and has one.
-pub(crate) fn table_header(inputs: &[Option<Vec<u8>>]) -> Option<&[u8]>
-    ensures { IsHeaderOf (first_record inputs.now) (option_map (λ row. row.now) result) }
-{
-    match first_of(inputs) {
-        Some(first) if is_header(&first) => Some(first.body),
-        _ => None,
+    match first_record(text) {
+        Some((first, _)) => Some(first.body),
+        None => None,
     }
 }
 
 /// Whether the first record of the first input ends with a carriage return and a line feed.
-pub(crate) fn is_crlf(inputs: &[Option<Vec<u8>>]) -> bool
-    ensures { result ≡ is_crlf (first_record inputs.now) }
+pub(crate) fn is_crlf(inputs: &[Input<'_>]) -> bool
+    ensures { result ≡ is_crlf inputs.now }
 {
-    match first_of(inputs) {
-        Some(first) => matches!(first.line_end, b"\r\n"),
+    match first_text(inputs) {
+        Some(input) => ends_crlf(input.text),
         None => false,
     }
 }
 
-/// The first record of the first input, if that is read and has one.
-fn first_of(inputs: &[Option<Vec<u8>>]) -> Option<CutRecord<'_>>
-    ensures { MatchOption result (first_record inputs.now ≡ None)
-        (λ first. (first_record inputs.now ≡ Some (as_record first))
-        × (first.unclosed ≡ is_open first.body.now)) }
+/// Whether the first record of a text, if it has one, ends so.
+fn ends_crlf(text: &[u8]) -> bool
+    ensures { result ≡ ends_crlf (first_of (records_of_text text.now)) }
 {
-    match inputs {
-        [Some(text), ..] => match first_record(text) {
-            Some((first, _)) => Some(first),
-            None => None,
-        },
-        _ => None,
+    match first_record(text) {
+        Some((first, _)) => matches!(first.line_end, b"\r\n"),
+        None => false,
     }
 }

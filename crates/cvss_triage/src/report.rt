@@ -1,19 +1,23 @@
 //! What is reported on standard error.
 
-ghost use Rattle.std.specs.Prelude.{[], None, OnOk, Some};
+ghost use Rattle.std.specs.Prelude.{◌≡◌, [], None, OnOk, Some};
+ghost use Rattle.std.specs.List.{list_any};
 ghost use Rattle.cvss_lines.specs.Lines.{lines as lines_of_text};
 ghost use Rattle.cvss_frame.specs.Reports.{reported};
-ghost use Rattle.cvss_triage.specs.Reports.{ReportsBadLine, ReportsEach, ReportsLines, ReportsSetting, ReportsUnknown, ReportsUnknownIn};
-ghost use Rattle.cvss_triage.specs.Places.{place_text};
+ghost use Rattle.cvss_triage.specs.Reports.{ReportsBadLine, ReportsEach, ReportsLines, ReportsLacking, ReportsSetting, ReportsUnknown, ReportsUnknownIn, unknown_line_text, unknown_text};
+ghost use Rattle.cvss_triage.specs.Inputs.{lacks_column};
+ghost use Rattle.cvss_triage.specs.Locations.{location_text};
 ghost use Rattle.cvss_triage.specs.Settings.{as_metrics, line_metrics};
 ghost use Rattle.cvss_triage.specs.declared.form.Form.TheVariants.{Lines};
 ghost use Rattle.cvss_triage.specs.private.Steps.{rows_of};
 
+use crate::input::Input;
+use crate::locations::Locations;
 use crate::messages::{bad_line_text, unknown_line_text, unknown_text};
 use crate::overrides::Override;
-use crate::places::Places;
 use crate::ranking::BadLine;
 use crate::settings::{SettingKind, SettingText};
+use cvss_csv::{Column, report_missing};
 use cvss_frame::Report;
 use cvss_lines::first_line;
 use std::alloc::{AllocError, Global};
@@ -62,7 +66,7 @@ fn report_metrics<E: Write>(
     metrics: &[u8],
     report: &mut Report<E>,
 ) -> Result<(), AllocError>
-    ensures { OnOk result (ReportsUnknown (None, metrics.now) [] metrics.now
+    ensures { OnOk result (ReportsUnknown (None, metrics.now) (unknown_text metrics.now)
         (reported E.contents report.old) (reported E.contents report.new)) }
 {
     if !Override::for_all_versions(metrics).holds_for_some() {
@@ -99,7 +103,7 @@ fn report_line<E: Write>(
     alloc: Global,
     report: &mut Report<E>,
 ) -> Result<(), AllocError>
-    ensures { OnOk result (ReportsUnknownIn (line_metrics line.now) (place_text Lines (Some name.now) number)
+    ensures { OnOk result (ReportsUnknownIn (line_metrics line.now) (location_text Lines (Some name.now) number)
         line.now (reported E.contents report.old) (reported E.contents report.new)) }
 {
     match Override::by_line(line) {
@@ -117,13 +121,34 @@ fn report_override<E: Write>(
     alloc: Global,
     report: &mut Report<E>,
 ) -> Result<(), AllocError>
-    ensures { OnOk result (ReportsUnknown (as_metrics it.entry) (place_text Lines (Some name.now) number)
-        line.now (reported E.contents report.old) (reported E.contents report.new)) }
+    ensures { OnOk result (ReportsUnknown (as_metrics it.entry)
+        (unknown_line_text (location_text Lines (Some name.now) number) line.now)
+        (reported E.contents report.old) (reported E.contents report.new)) }
 {
     if !it.holds_for_some() {
         report.write(&unknown_line_text(alloc, name, number, line)?);
     }
     Ok(())
+}
+
+/// Reports the name or the number of the column, if an input lacks it.
+pub(crate) fn report_lacking<E: Write>(
+    column: Column<'_>,
+    inputs: &[Input<'_>],
+    report: &mut Report<E>,
+)
+    ensures { ReportsLacking (list_any lacks_column inputs.now) column.entry
+        (reported E.contents report.old) (reported E.contents report.new) }
+{
+    if is_any_lacking(inputs) {
+        report_missing(column, report);
+    }
+}
+
+fn is_any_lacking(inputs: &[Input<'_>]) -> bool
+    ensures { result ≡ list_any lacks_column inputs.now }
+{
+    inputs.iter().any(|input| input.lacks_column())
 }
 
 /// Reports the lines or records that have no row, each with its number in its input and, where there are
@@ -136,15 +161,15 @@ fn report_override<E: Write>(
 pub(crate) fn report_bad<E: Write>(
     alloc: Global,
     bad: &[BadLine<'_>],
-    places: &Places<'_>,
+    locations: &Locations<'_>,
     report: &mut Report<E>,
 ) -> Result<(), AllocError>
     ensures { OnOk result (ReportsEach
-        (ReportsBadLine places.now.form (rows_of places.now.lines.now) places.now.starts.now
-        places.now.many places.now.operands.now) bad.now (reported E.contents report.old) (reported E.contents report.new)) }
+        (ReportsBadLine locations.now.form (rows_of locations.now.lines.now) locations.now.starts.now
+        locations.now.many locations.now.operands.now) bad.now (reported E.contents report.old) (reported E.contents report.new)) }
 {
     for it in bad {
-        report_bad_line(alloc, it, places, report)?;
+        report_bad_line(alloc, it, locations, report)?;
     }
     Ok(())
 }
@@ -152,16 +177,16 @@ pub(crate) fn report_bad<E: Write>(
 fn report_bad_line<E: Write>(
     alloc: Global,
     it: &BadLine<'_>,
-    places: &Places<'_>,
+    locations: &Locations<'_>,
     report: &mut Report<E>,
 ) -> Result<(), AllocError>
     ensures { OnOk result
-        (ReportsBadLine places.now.form (rows_of places.now.lines.now) places.now.starts.now
-        places.now.many places.now.operands.now it.now (reported E.contents report.old) (reported E.contents report.new)) }
+        (ReportsBadLine locations.now.form (rows_of locations.now.lines.now) locations.now.starts.now
+        locations.now.many locations.now.operands.now it.now (reported E.contents report.old) (reported E.contents report.new)) }
 {
-    let (name, number) = places.of_line(it.number);
-    let unclosed = places.is_unclosed(it.number);
-    let text = bad_line_text(alloc, places.form, unclosed, name, number, &it.reason)?;
+    let (name, number) = locations.of_line(it.number);
+    let unclosed = locations.is_unclosed(it.number);
+    let text = bad_line_text(alloc, locations.form, unclosed, name, number, &it.reason)?;
     report.write(&text);
     Ok(())
 }

@@ -10,7 +10,7 @@ ghost use Rattle.cvss_triage.specs.declared.style.Style.TheVariants.{Words};
 ghost use Rattle.cvss_triage.specs.private.Steps.{IsToTen, WritesRow};
 
 use crate::counting::numbers_text;
-use crate::places::Places;
+use crate::locations::Locations;
 use crate::ranking::Ranking;
 use crate::row::Row;
 use crate::style::Style;
@@ -36,19 +36,19 @@ pub(crate) fn printed_text(
     style: &Style,
     top: Option<&[u8]>,
     ranking: &Ranking<'_>,
-    places: &Places<'_>,
+    locations: &Locations<'_>,
 ) -> Result<Vec<u8>, AllocError>
     requires { All IsToTen ranking.now.rows.items }
     ensures { IfOk result (λ text. IsPrinted asked.now.gate.quiet asked.now.count style.now
-        (option_map (λ line. line.now) top.entry) places.now.starts.now places.now.many
-        places.now.operands.now asked.now.gate ranking.now text.items) }
+        (option_map (λ line. line.now) top.entry) locations.now.starts.now locations.now.many
+        locations.now.operands.now asked.now.gate ranking.now text.items) }
 {
     if asked.gate.quiet {
         Ok(Vec::new(alloc))
     } else if asked.count {
         numbers_text(alloc, asked.gate, ranking)
     } else {
-        table_text(alloc, asked.gate, style, top, &ranking.rows, places)
+        table_text(alloc, asked.gate, style, top, &ranking.rows, locations)
     }
 }
 
@@ -59,18 +59,18 @@ fn table_text(
     style: &Style,
     top: Option<&[u8]>,
     rows: &[Row<'_>],
-    places: &Places<'_>,
+    locations: &Locations<'_>,
 ) -> Result<Vec<u8>, AllocError>
     requires { All IsToTen rows.now }
     ensures { IfOk result (λ text. IsTable style.now (option_map (λ line. line.now) top.entry)
-        (IsRowText style.now places.now.starts.now places.now.many places.now.operands.now)
+        (IsRowText style.now locations.now.starts.now locations.now.many locations.now.operands.now)
         (shown_rows gate rows.now) text.items) }
 {
     let mut text = OutputBuffer {
         bytes: Vec::new(alloc),
     };
     write_header(style, top, &mut text)?;
-    write_rows(alloc, gate, style, rows, places, &mut text)?;
+    write_rows(alloc, gate, style, rows, locations, &mut text)?;
     Ok(text.bytes)
 }
 
@@ -107,17 +107,17 @@ fn write_rows(
     gate: Gate,
     style: &Style,
     rows: &[Row<'_>],
-    places: &Places<'_>,
+    locations: &Locations<'_>,
     text: &mut OutputBuffer,
 ) -> Result<(), AllocError>
     requires { All IsToTen rows.now }
     ensures { OnOk result (WritesRow (AreRowTexts
-        (IsRowText style.now places.now.starts.now places.now.many places.now.operands.now)
+        (IsRowText style.now locations.now.starts.now locations.now.many locations.now.operands.now)
         (shown_rows gate rows.now)) text.old.bytes.items text.new.bytes.items) }
 {
     for row in rows {
         if gate.shows(row.tenths) {
-            write_row(alloc, style, row, places, text)?;
+            write_row(alloc, style, row, locations, text)?;
         }
     }
     Ok(())
@@ -128,18 +128,18 @@ fn write_row(
     alloc: Global,
     style: &Style,
     row: &Row<'_>,
-    places: &Places<'_>,
+    locations: &Locations<'_>,
     text: &mut OutputBuffer,
 ) -> Result<(), AllocError>
     requires { IsToTen row.now }
     ensures { OnOk result (WritesRow
-        (IsRowText style.now places.now.starts.now places.now.many places.now.operands.now row.now)
+        (IsRowText style.now locations.now.starts.now locations.now.many locations.now.operands.now row.now)
         text.old.bytes.items text.new.bytes.items) }
 {
     match style {
         Style::Words => write_words(row, text),
         Style::Objects(allow_incomplete) => {
-            write_object(alloc, *allow_incomplete, row, places, text)
+            write_object(alloc, *allow_incomplete, row, locations, text)
         }
         Style::Table(asked, crlf) => write_table_row(*asked, *crlf, row, text),
     }
@@ -188,14 +188,14 @@ fn write_object(
     alloc: Global,
     allow_incomplete: bool,
     row: &Row<'_>,
-    places: &Places<'_>,
+    locations: &Locations<'_>,
     text: &mut OutputBuffer,
 ) -> Result<(), AllocError>
     ensures { OnOk result (WritesRow (IsObject allow_incomplete
-        places.now.starts.now places.now.many places.now.operands.now row.now)
+        locations.now.starts.now locations.now.many locations.now.operands.now row.now)
         text.old.bytes.items text.new.bytes.items) }
 {
-    let (name, number) = places.of_line(row.number);
+    let (name, number) = locations.of_line(row.number);
     write_first_members(name, number, row.line, text)?;
     let vector = row.vector.to_string(alloc)?;
     write_cells(

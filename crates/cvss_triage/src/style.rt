@@ -1,11 +1,11 @@
 //! How rows are written.
 
-ghost use Rattle.std.specs.Prelude.{◌≡◌, option_map};
-ghost use Rattle.cvss_triage.specs.Triage.{IsTop, asked_of, style_of};
+ghost use Rattle.std.specs.Prelude.{◌≡◌};
+ghost use Rattle.cvss_triage.specs.Triage.{asked_of, style_of};
 
 use crate::form::Form;
-use crate::lines::first_header;
-use crate::records::{is_crlf, table_header};
+use crate::input::Input;
+use crate::records::is_crlf;
 use crate::triage::Triage;
 use cvss_csv::Asked;
 
@@ -22,7 +22,7 @@ pub(crate) enum Style {
 
 impl Style {
     /// How the rows of inputs are written.
-    pub(crate) fn of(asked: &Triage<'_>, inputs: &[Option<Vec<u8>>]) -> Style
+    pub(crate) fn of(asked: &Triage<'_>, inputs: &[Input<'_>]) -> Style
         ensures { result ≡ style_of (asked_of asked.now) inputs.now }
     {
         match asked.form {
@@ -38,16 +38,5 @@ impl Style {
                 Style::Table(cells, is_crlf(inputs))
             }
         }
-    }
-}
-
-/// The header that is printed, if there is one: that of the first input.
-pub(crate) fn top_of(form: Form, header: bool, inputs: &[Option<Vec<u8>>]) -> Option<&[u8]>
-    ensures { IsTop form header inputs.now (option_map (λ line. line.now) result) }
-{
-    match form {
-        Form::Lines if header => first_header(inputs),
-        Form::Lines => None,
-        Form::Records => table_header(inputs),
     }
 }

@@ -1,29 +1,28 @@
 //! The whole of triage.
 
-ghost use Rattle.std.specs.Prelude.{◌≡◌, ◌↔◌, All, IfOk, IsSome, IsTrue, List, MatchOption, is_none, option_map};
-ghost use Rattle.std.specs.List.{list_any};
+ghost use Rattle.std.specs.Prelude.{◌≡◌, ◌↔◌, All, IfOk, IsSome, IsTrue, List, MatchOption, option_map};
 ghost use Rattle.cvss_frame.specs.Reports.{reported};
 ghost use Rattle.cvss_frame.specs.Streams.{state};
-ghost use Rattle.cvss_report.specs.Gates.{fails};
 ghost use Rattle.cvss_triage.specs.Settings.{AreUnderstood};
-ghost use Rattle.cvss_triage.specs.Shown.{after_gate};
 ghost use Rattle.cvss_triage.specs.declared.overrides.Override.{Override};
 ghost use Rattle.cvss_triage.specs.private.Steps.{AreOwnMetrics, IsToTen};
-ghost use Rattle.cvss_triage.specs.Triage.{IsOutcome, IsRanked, PrintsIf, Triages, WritesOutcome, asked_of, served_of, shows};
+ghost use Rattle.cvss_triage.specs.Triage.{IsOutcome, IsRanked, PrintsIf, RanksLines, Triages, WritesOutcome, asked_of, shows};
 
 use crate::form::Form;
+use crate::input::{Input, inputs_by};
 use crate::inputs::read_inputs;
-use crate::lines::lines_of;
+use crate::lines::{first_header, lines_of};
+use crate::locations::Locations;
 use crate::overrides::{Override, overrides_of};
 use crate::own_metrics::OwnMetrics;
-use crate::places::Places;
 use crate::preferring::Preference;
-use crate::ranking::{BadLine, Ranking, Rules};
-use crate::report::{report_bad, report_unknown};
-use crate::row::Row;
+use crate::ranking::{Ranking, Rules};
+use crate::report::{report_bad, report_lacking, report_unknown};
 use crate::rows::printed_text;
+use crate::served::{after_gate, served_of, shows};
 use crate::settings::{Setting, SettingText, read_settings};
-use crate::style::{Style, top_of};
+use crate::style::Style;
+use cvss_csv::Column;
 use cvss_frame::{Host, Report, Served, Streams, WatchedWriter, are_many};
 use cvss_lines::{RunFault, write_whole};
 use cvss_report::Gate;
@@ -50,9 +49,11 @@ pub struct Triage<'a> {
     pub json: bool,
     /// The first line of each input is its header, which is not ranked.
     pub header: bool,
-    /// What is ranked. Rows of records are records, and the first one of an input is its header if no vector is
-    /// found in it.
+    /// What is ranked. Rows of records are records.
     pub form: Form,
+    /// Which cell of a record has its vector. The first record of an input is its header if no vector is found
+    /// in it, or if the column has a name. An input that lacks the column is not ranked.
+    pub column: Column<'a>,
     /// The cells of records are guarded, as by `cvss_csv`.
     pub guarded: bool,
     /// Which vector is ranked of a line that has several.
@@ -135,21 +136,40 @@ fn are_read(texts: &[SettingText<'_>]) -> bool
     texts.iter().all(|it| it.text.is_some())
 }
 
-/// The rows of the lines or records of inputs.
+/// The rows of the lines or records of the inputs that have these texts.
 fn ranked<E: Write>(
     alloc: Global,
     asked: &Triage<'_>,
     own: OwnMetrics,
     operands: &[Vec<u8>],
-    inputs: &[Option<Vec<u8>>],
+    texts: &[Option<Vec<u8>>],
     report: &mut Report<E>,
 ) -> Result<Outcome, AllocError>
     ensures { (overrides : List Override) → AreOwnMetrics overrides own → IfOk result (λ outcome.
-        IsRanked (asked_of asked.now) overrides operands.now inputs.now
+        IsRanked (asked_of asked.now) overrides operands.now texts.now
         (reported E.contents report.old) (reported E.contents report.new)
         outcome.text.items outcome.served) }
 {
-    let lines = lines_of(alloc, asked.form, asked.header, inputs)?;
+    let inputs = inputs_by(alloc, asked, texts)?;
+    report_lacking(asked.column, &inputs, report);
+    ranked_lines(alloc, asked, own, operands, &inputs, report)
+}
+
+/// The rows of the lines or records of inputs.
+fn ranked_lines<E: Write>(
+    alloc: Global,
+    asked: &Triage<'_>,
+    own: OwnMetrics,
+    operands: &[Vec<u8>],
+    inputs: &[Input<'_>],
+    report: &mut Report<E>,
+) -> Result<Outcome, AllocError>
+    ensures { (overrides : List Override) → AreOwnMetrics overrides own → IfOk result (λ outcome.
+        RanksLines (asked_of asked.now) overrides operands.now inputs.now
+        (reported E.contents report.old) (reported E.contents report.new)
+        outcome.text.items outcome.served) }
+{
+    let lines = lines_of(alloc, asked.form, inputs)?;
     let rules = Rules {
         own,
         scoring: asked.scoring,
@@ -157,18 +177,18 @@ fn ranked<E: Write>(
         prefer: asked.prefer,
     };
     let ranking = Ranking::of(alloc, &lines.lines, &rules)?;
-    let places = Places {
+    let locations = Locations {
         form: asked.form,
         lines: &lines.lines,
         starts: &lines.starts,
         many: are_many(operands),
         operands,
     };
-    report_bad(alloc, &ranking.bad, &places, report)?;
+    report_bad(alloc, &ranking.bad, &locations, report)?;
     let read = served_of(&ranking.bad, inputs);
     let style = Style::of(asked, inputs);
-    let top = top_of(asked.form, asked.header, inputs);
-    printed(alloc, asked, &style, top, &ranking, &places, read)
+    let top = first_header(asked.form, inputs);
+    printed(alloc, asked, &style, top, &ranking, &locations, read)
 }
 
 /// What is printed of a ranking, and what triage comes to, after what it comes to by what is read.
@@ -178,13 +198,13 @@ fn printed(
     style: &Style,
     top: Option<&[u8]>,
     ranking: &Ranking<'_>,
-    places: &Places<'_>,
+    locations: &Locations<'_>,
     read: Served,
 ) -> Result<Outcome, AllocError>
     requires { All IsToTen ranking.now.rows.items }
     ensures { IfOk result (λ outcome. PrintsIf (shows asked.now.keep_going read) (asked_of asked.now)
-        style.now (option_map (λ line. line.now) top.entry) places.now.starts.now places.now.many
-        places.now.operands.now ranking.now read outcome.text.items outcome.served) }
+        style.now (option_map (λ line. line.now) top.entry) locations.now.starts.now locations.now.many
+        locations.now.operands.now ranking.now read outcome.text.items outcome.served) }
 {
     if !shows(asked.keep_going, &read) {
         return Ok(Outcome {
@@ -192,47 +212,7 @@ fn printed(
             served: read,
         });
     }
-    let text = printed_text(alloc, asked, style, top, ranking, places)?;
+    let text = printed_text(alloc, asked, style, top, ranking, locations)?;
     let served = after_gate(asked.gate, &ranking.rows, read);
     Ok(Outcome { text, served })
-}
-
-/// What triage comes to by which lines have no row and which inputs are read.
-fn served_of(bad: &[BadLine<'_>], inputs: &[Option<Vec<u8>>]) -> Served
-    ensures { result ≡ served_of bad.now inputs.now }
-{
-    Served {
-        rejected: !bad.is_empty(),
-        unread: is_any_unread(inputs),
-        stopped: None,
-    }
-}
-
-fn is_any_unread(inputs: &[Option<Vec<u8>>]) -> bool
-    ensures { result ≡ list_any is_none inputs.now }
-{
-    inputs.iter().any(|input| input.is_none())
-}
-
-/// Whether rows are shown: unless a line has none or an input is unread and triage is not to go on then.
-fn shows(keep_going: bool, served: &Served) -> bool
-    ensures { result ≡ shows keep_going served.now }
-{
-    keep_going || !(served.rejected || served.unread)
-}
-
-/// What triage comes to, where it fails on a row that is shown.
-fn after_gate(gate: Gate, rows: &[Row<'_>], served: Served) -> Served
-    ensures { result ≡ after_gate gate rows.now served }
-{
-    Served {
-        rejected: served.rejected || fails_on_any(gate, rows),
-        ..served
-    }
-}
-
-fn fails_on_any(gate: Gate, rows: &[Row<'_>]) -> bool
-    ensures { result ≡ list_any (λ row. fails gate row.tenths) rows.now }
-{
-    rows.iter().any(|row| gate.fails(row.tenths))
 }

@@ -33,9 +33,11 @@
 //!   why.
 //! - `record TEXT`: the vector's record, a JSON object.
 //! - `differ TEXT OBJECT`: the members of an object that disagree with the vector.
-//! - `places DOCUMENT`: where vectors are in it, and the members there that disagree.
+//! - `locations DOCUMENT`: where vectors are in it, and the members there that disagree.
+//! - `c MARK ..`: what C gets, as `capi` says.
 #![tactic(auto)]
 
+mod capi;
 mod faults;
 mod json;
 mod kinds;
@@ -62,6 +64,9 @@ fn main(rt: HostRuntime) -> io::Result<()> {
 
 /// What a line asks for.
 fn answer(rt: &HostRuntime, line: &[u8]) -> io::Result<()> {
+    if let [b'c', b' ', asked @ ..] = line {
+        return capi::answer(rt, asked);
+    }
     match str::from_utf8(line) {
         Ok(text) => {
             let (mark, asked) = first_word(text);
@@ -115,7 +120,7 @@ fn answer_json(rt: &HostRuntime, line: &[u8], mark: &str, asked: &str) -> io::Re
         "json" => json::json(rt, asked),
         "record" => records::record(rt, asked),
         "differ" => records::differ(rt, asked),
-        "places" => records::places(rt, asked),
+        "locations" => records::locations(rt, asked),
         _ => vectors::of_any(rt, line),
     }
 }

@@ -3,7 +3,7 @@
 ghost use Rattle.cvss.specs.Answers.{HasScore};
 
 use cvss::{Cvss, Error};
-use cvss_audit::{Difference, Form, Place, differences, differences_at, vectors_in};
+use cvss_audit::{Difference, Form, Location, differences, differences_at, vectors_in};
 use cvss_json::Page;
 use cvss_report::put_record;
 use serde_json::Value;
@@ -66,37 +66,37 @@ fn print_members(rt: &HostRuntime, found: &[Difference<'_>]) -> io::Result<()> {
 }
 
 /// Where vectors are in a document.
-pub(crate) fn places(rt: &HostRuntime, document: &str) -> io::Result<()> {
+pub(crate) fn locations(rt: &HostRuntime, document: &str) -> io::Result<()> {
     match Value::from_str(rt.alloc(), document) {
-        Ok(document) => print_places(rt, &document),
+        Ok(document) => print_locations(rt, &document),
         Err(_) => println!(rt; "no JSON"),
     }
 }
 
-fn print_places(rt: &HostRuntime, document: &Value) -> io::Result<()> {
-    let mut places = vectors_in(rt.alloc(), document)?;
+fn print_locations(rt: &HostRuntime, document: &Value) -> io::Result<()> {
+    let mut locations = vectors_in(rt.alloc(), document)?;
     for _ in 0..u64::MAX {
-        let Some(place) = places.next_place(rt.alloc())? else {
+        let Some(location) = locations.next_location(rt.alloc())? else {
             break;
         };
-        print_place(rt, &place)?;
+        print_location(rt, &location)?;
     }
     println!(rt)
 }
 
-fn print_place(rt: &HostRuntime, place: &Place<'_>) -> io::Result<()> {
-    print!(rt; "{}={}", place.at, form_text(place.form))?;
-    if let Some(text) = place.text {
+fn print_location(rt: &HostRuntime, location: &Location<'_>) -> io::Result<()> {
+    print!(rt; "{}={}", location.at, form_text(location.form))?;
+    if let Some(text) = location.text {
         print!(rt; " {text}")?;
-        print_differences(rt, place, text)?;
+        print_differences(rt, location, text)?;
     }
     print!(rt; ";")
 }
 
-/// What is at a place beside a vector's text and says otherwise than the vector.
-fn print_differences(rt: &HostRuntime, place: &Place<'_>, text: &str) -> io::Result<()> {
+/// What is at a location beside a vector's text and says otherwise than the vector.
+fn print_differences(rt: &HostRuntime, location: &Location<'_>, text: &str) -> io::Result<()> {
     if let Some(vector) = Cvss::read_bytes(text.as_bytes()) {
-        for difference in &differences_at(rt.alloc(), &vector, place)? {
+        for difference in &differences_at(rt.alloc(), &vector, location)? {
             print!(rt; " {}", difference.member)?;
         }
     }

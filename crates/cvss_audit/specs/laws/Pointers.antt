@@ -3,7 +3,7 @@ use Rattle.std.specs.Prelude.{◌≡◌, ℕ, List, [], ◌++◌, codes, Some, N
 use Rattle.std.specs.Fmt.{decimal}
 use Rattle.serde_json.specs.Data.{Data, null, boolean, number, string, array, object, Items, no_items, item, Members, no_members, member}
 use Rattle.serde_json.specs.Find.{get_item, get_member}
-use Rattle.cvss_audit.specs.Places.{escaped}
+use Rattle.cvss_audit.specs.Locations.{escaped}
 
 -- from a value the pointer leads to another: the empty one to the value itself; else its first step leads to the
 -- item of that number, or to the member of that name, and what is left of the pointer leads on from there

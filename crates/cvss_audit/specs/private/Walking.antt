@@ -2,12 +2,12 @@
 use Rattle.std.specs.Prelude.{◌≡◌, ℕ, ◌+◌, ◌<◌, List, [], ◌∷◌, ◌++◌, drop, flat_map, length, map}
 use Rattle.serde_json.specs.Data.{Data, null, boolean, number, string, array, object, Items, no_items, item, Members, no_members, member}
 use Rattle.serde_json.specs.View.{items_view, members_view}
-use Rattle.cvss_audit.specs.Places.{Context, Place, places_within}
-use Rattle.cvss_audit.specs.PlacesLeft.{places_in_levels, step_text, under}
-use Rattle.cvss_audit.specs.declared.places.walk.Level.{Level}
-use Rattle.cvss_audit.specs.declared.places.walk.Rest.{Rest}
-use Rattle.cvss_audit.specs.declared.places.walk.Rest.TheVariants as rest
-use Rattle.cvss_audit.specs.declared.places.pointer.Step.{Step}
+use Rattle.cvss_audit.specs.Locations.{Context, Location, locations_within}
+use Rattle.cvss_audit.specs.LocationsLeft.{locations_in_levels, step_text, under}
+use Rattle.cvss_audit.specs.declared.locations.walk.Level.{Level}
+use Rattle.cvss_audit.specs.declared.locations.walk.Rest.{Rest}
+use Rattle.cvss_audit.specs.declared.locations.walk.Rest.TheVariants as rest
+use Rattle.cvss_audit.specs.declared.locations.pointer.Step.{Step}
 
 -- a level
 abbrev pub level_of : Step → Rest → Level
@@ -45,14 +45,14 @@ abbrev pub steps_left : List Level → ℕ
 steps_left [] = 0
 steps_left (level ∷ inner) = steps_in_rest level.rest + steps_left inner
 
--- a step gives these places, leaves the others, and there is one step less to come
-pub record Visits (old : List Level) (given : List Place) (new : List Level) : Type 0 where
-  pub places : places_in_levels old ≡ given ++ places_in_levels new
+-- a step gives these locations, leaves the others, and there is one step less to come
+pub record Visits (old : List Level) (given : List Location) (new : List Level) : Type 0 where
+  pub locations : locations_in_levels old ≡ given ++ locations_in_levels new
   pub fewer : steps_left new < steps_left old
 
 -- what is in a value, to which a step leads, is visited next
 pub record Enters (step : Step) (context : Context) (value : Data) (old new : List Level) : Type 0 where
   pub added : List Level
   pub are : new ≡ old ++ added
-  pub places : places_in_levels added ≡ map (under (step_text step)) (places_within context value)
+  pub locations : locations_in_levels added ≡ map (under (step_text step)) (locations_within context value)
   pub steps : steps_left added ≡ steps_in value

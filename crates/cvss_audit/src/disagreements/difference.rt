@@ -5,7 +5,7 @@ ghost use Rattle.std.specs.Option.{option_to_list};
 ghost use Rattle.cvss_vector.specs.Answers.{HasScore};
 ghost use Rattle.cvss_audit.specs.Differences.{AreDifferences, AreDifferencesAt, claim_view, difference_at, difference_from, difference_view, differences_at, expected_by, expected_here, member_differences, osv_type, record_differences, said_view, wrong_name};
 ghost use Rattle.cvss_audit.specs.Expected.{expected_value};
-ghost use Rattle.cvss_audit.specs.Places.{place_view};
+ghost use Rattle.cvss_audit.specs.Locations.{location_view};
 ghost use Rattle.cvss_audit.specs.private.Views.{Adds};
 ghost use Rattle.cvss_report.specs.Record.{expected_view};
 ghost use Rattle.serde_json.specs.View.{members_view, view};
@@ -15,9 +15,9 @@ use crate::disagreements::ratings::{push_rating_members, push_spdx, push_trivy};
 use crate::disagreements::surroundings::push_around;
 use crate::expected::member::{agrees, expected_at, expected_value};
 use crate::expected::sub_scores::SubScores;
-use crate::places::form::Form;
-use crate::places::member::given_at;
-use crate::places::place::Place;
+use crate::locations::form::Form;
+use crate::locations::location::Location;
+use crate::locations::member::given_at;
 use cvss_report::{Expected, Scores};
 use cvss_vector::Cvss;
 use serde_json::{Map, Value};
@@ -73,7 +73,7 @@ pub fn differences<'a>(
     Ok(found)
 }
 
-/// Where the document says otherwise at a place than the vector whose text is there. First the
+/// Where the document says otherwise at a location than the vector whose text is there. First the
 /// members of the object that holds it: of a record all, of the other forms those that the form has
 /// beside the vector. Then what is around the object: the versions that the names of the two members
 /// say that it is in, and, as NVD has them, the severity of a vector of CVSS v2 and the sub-scores of
@@ -85,18 +85,18 @@ pub fn differences<'a>(
 pub fn differences_at<'a>(
     alloc: Global,
     cvss: &Cvss,
-    place: &Place<'a>,
+    location: &Location<'a>,
 ) -> Result<Vec<Difference<'a>>, AllocError>
     requires { HasScore cvss.now }
-    ensures { IfOk result (λ found. AreDifferencesAt cvss.now (place_view place.now)
+    ensures { IfOk result (λ found. AreDifferencesAt cvss.now (location_view location.now)
         (map difference_view found.items)) }
 {
     let scores = Scores::of(cvss);
     let parts = SubScores::of(cvss);
     let vector = Scored { cvss, scores };
     let mut found = Vec::new(alloc);
-    push_object(&mut found, vector, parts, place)?;
-    push_around(&mut found, vector, parts, place.context.around)?;
+    push_object(&mut found, vector, parts, location)?;
+    push_around(&mut found, vector, parts, location.context.around)?;
     Ok(found)
 }
 
@@ -105,14 +105,14 @@ fn push_object<'a>(
     found: &mut Vec<Difference<'a>>,
     vector: Scored<'_>,
     parts: Option<SubScores>,
-    place: &Place<'a>,
+    location: &Location<'a>,
 ) -> Result<(), AllocError>
     ensures { OnOk result (Adds found.old.items
-        (member_differences vector.entry.cvss.now vector.entry.scores parts place.now.form
-        (members_view place.now.object.now.entries)) found.new.items) }
+        (member_differences vector.entry.cvss.now vector.entry.scores parts location.now.form
+        (members_view location.now.object.now.entries)) found.new.items) }
 {
-    let object = place.object;
-    match place.form {
+    let object = location.object;
+    match location.form {
         Form::Record => push_members(found, vector, object),
         Form::GitHub => push_at(found, "score", Claim::Number(vector.scores.base), object),
         Form::Osv => push_at(found, "type", Claim::Text(osv_type(vector.cvss)), object),

@@ -3,14 +3,14 @@
 ghost use Rattle.std.specs.Prelude.{◌≡◌, OnOk, codes, false, option_map, unwrap_or};
 ghost use Rattle.cvss_audit.specs.Differences.{claim_view, given_rating_differences, is_spdx_type, method_of, metrics_differences, severity, severity_text_of, spdx_differences, spdx_type, spdx_type_differences, trivy_differences, trivy_name};
 ghost use Rattle.cvss_audit.specs.private.Views.{Adds};
-ghost use Rattle.cvss_audit.specs.Places.{text_at};
+ghost use Rattle.cvss_audit.specs.Locations.{text_at};
 ghost use Rattle.serde_json.specs.View.{members_view};
 
 use crate::disagreements::claim::Claim;
 use crate::disagreements::difference::{Difference, Scored, push_at, push_name};
 use crate::disagreements::surroundings::push_parts;
 use crate::expected::sub_scores::SubScores;
-use crate::places::member::{object_at, text_at};
+use crate::locations::member::{object_at, text_at};
 use cvss_base::TENTH;
 use cvss_vector::Cvss;
 use serde_json::{Map, Value};

@@ -3,14 +3,14 @@
 
 ghost use Rattle.std.specs.Prelude.{◌≡◌, ◌&&◌, not, OnOk, option_map};
 ghost use Rattle.cvss_audit.specs.Differences.{around_differences, has_severities, has_sub_scores, is_in, name_differences, names_of, nvd_names, outer_differences, part_differences, record_names, reports_version, severity_differences, severity_differences_at, severity_name, sub_score_differences};
-ghost use Rattle.cvss_audit.specs.Places.{around_view, is_among};
+ghost use Rattle.cvss_audit.specs.Locations.{around_view, is_among};
 ghost use Rattle.cvss_audit.specs.private.Views.{Adds};
 ghost use Rattle.serde_json.specs.View.{members_view};
 
 use crate::disagreements::claim::Claim;
 use crate::disagreements::difference::{Difference, Scored, push_at, push_name};
 use crate::expected::sub_scores::SubScores;
-use crate::places::place::Around;
+use crate::locations::location::Around;
 use cvss_report::severity_word;
 use cvss_vector::Cvss;
 use serde_json::{Map, Value};
@@ -234,5 +234,10 @@ pub(crate) fn push_parts<'a>(
         Claim::Number(parts.exploitability),
         object,
     )?;
-    push_at(found, "impactScore", Claim::Number(parts.impact), object)
+    push_at(
+        found,
+        "impactScore",
+        Claim::Impact(parts.impact, parts.is_below_zero),
+        object,
+    )
 }

@@ -2,7 +2,7 @@
 
 ghost use Rattle.std.specs.Prelude.{◌≡◌, false};
 ghost use Rattle.cvss_base.specs.Exact.{of_count, ◌≈◌, IsWithinLimit};
-ghost use Rattle.cvss_audit.specs.SubScores.{AreSubScores, AreSubScoresOf};
+ghost use Rattle.cvss_audit.specs.SubScores.{AreSubScores, AreSubScoresOf, is_below_zero};
 ghost use Rattle.cvss_audit.specs.private.Tenths.{AreNearest};
 ghost use Rattle.cvss_score.specs.v2.Scores as scores_v2;
 ghost use Rattle.cvss_score.specs.v3.Closeness.{IsCloseTo};
@@ -11,6 +11,7 @@ ghost use Rattle.cvss_vector.specs.v2.Weights as weights_v2;
 ghost use Rattle.cvss_vector.specs.v3.VectorWeights as weights_v3;
 
 use cvss_base::TENTH;
+use cvss_score::v3::Weights;
 use cvss_vector::Cvss;
 
 /// The sub-scores of a vector in tenths, each rounded to the nearest.
@@ -18,6 +19,8 @@ use cvss_vector::Cvss;
 pub(crate) struct SubScores {
     pub(crate) exploitability: u8,
     pub(crate) impact: u8,
+    /// Whether the impact is below 0, and rounded up to it.
+    pub(crate) is_below_zero: bool,
 }
 
 impl SubScores {
@@ -33,25 +36,35 @@ impl SubScores {
     }
 
     fn of_v2(vector: &cvss_vector::v2::Vector) -> SubScores
-        ensures { AreSubScores false (scores_v2.exploitability (weights_v2.weights_of vector.now))
+        ensures { AreSubScores false false (scores_v2.exploitability (weights_v2.weights_of vector.now))
             (scores_v2.impact (weights_v2.weights_of vector.now)) result }
     {
         SubScores {
             exploitability: nearest_v2(vector.exploitability()),
             impact: nearest_v2(vector.impact()),
+            is_below_zero: false,
         }
     }
 
     fn of_v3(vector: &cvss_vector::v3::Vector) -> SubScores
         ensures { AreSubScores (weights_v3.weights_of vector.now).changed
+            (is_below_zero (weights_v3.weights_of vector.now))
             (scores_v3.exploitability (weights_v3.weights_of vector.now))
             (scores_v3.impact (weights_v3.weights_of vector.now)) result }
     {
         SubScores {
             exploitability: nearest_v3(vector.exploitability()),
             impact: nearest_v3(scoped_impact(vector)),
+            is_below_zero: is_below_zero(&vector.weights()),
         }
     }
+}
+
+/// Whether Impact of CVSS v3 is below 0.
+fn is_below_zero(weights: &Weights) -> bool
+    ensures { result ≡ is_below_zero weights.now }
+{
+    weights.changed && weights.c == 0 && weights.i == 0 && weights.a == 0
 }
 
 /// Impact by the scope (v3.1 specification, section 7.1; v3.0 specification, section 8.1). It is exact

@@ -4,18 +4,18 @@ ghost use Rattle.std.specs.Prelude.{◌≡◌, [], IfErr, IfOk, OnOk, string_byt
 ghost use Rattle.cvss_audit.specs.Answers.{AreErrorTexts, IsErrorIn, are_blanks, is_passed_over, not_json};
 ghost use Rattle.cvss_audit.specs.Inputs.{input_view};
 ghost use Rattle.cvss_audit.specs.Objects.{error_value};
-ghost use Rattle.cvss_audit.specs.Places.{places_in};
+ghost use Rattle.cvss_audit.specs.Locations.{locations_in};
 ghost use Rattle.cvss_audit.specs.private.Writing.{Answers, StopsAnswering, StopsFound, StreamsFound, WritesLine, WritesTexts};
 ghost use Rattle.cvss_audit.specs.Texts.{WritesObject};
 ghost use Rattle.serde_json.specs.View.{view};
 
 use crate::documents::files::is_blank;
 use crate::documents::input::{AuditForm, Input};
-use crate::places::walk::vectors_in;
+use crate::locations::walk::vectors_in;
 use crate::tree::write::write_tree_object;
 use crate::written::lines::write_error;
+use crate::written::location::answer_location;
 use crate::written::members::{put_error, put_input};
-use crate::written::place::answer_place;
 use cvss_lines::{OutputBuffer, RunFault};
 use serde_json::{Map, Value};
 use std::alloc::{AllocError, Global};
@@ -161,16 +161,16 @@ fn answer_document<W: Write>(
     writer: &mut W,
 ) -> Result<bool, RunFault>
     ensures streamed { IfOk result (StreamsFound (input_view input.entry)
-        (places_in (view document.now)) [] answers.old.bytes.items answers.new.bytes.items
+        (locations_in (view document.now)) [] answers.old.bytes.items answers.new.bytes.items
         (W.contents writer.old) (W.contents writer.new)) }
     ensures stopped { IfErr result (StopsFound (input_view input.entry)
-        (places_in (view document.now)) answers.old.bytes.items
+        (locations_in (view document.now)) answers.old.bytes.items
         (W.contents writer.old) (W.contents writer.new)) }
 {
-    let mut places = vectors_in(alloc, document)?;
+    let mut locations = vectors_in(alloc, document)?;
     let mut agree = true;
-    while let Some(place) = places.next_place(alloc)? {
-        agree &= answer_place(alloc, input, &place, answers)?;
+    while let Some(location) = locations.next_location(alloc)? {
+        agree &= answer_location(alloc, input, &location, answers)?;
         answers.write_if_full(writer)?;
     }
     Ok(agree)

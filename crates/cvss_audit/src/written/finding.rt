@@ -5,12 +5,12 @@ ghost use Rattle.cvss_audit.specs.Differences.{difference_view};
 ghost use Rattle.cvss_report.specs.Tallies.{at_most};
 ghost use Rattle.cvss_audit.specs.Findings.{HasScoreIn, IsFinding, IsFoundFor, IsRatedIf, IsRatedIn, agrees, finding_view, is_allowed, lines_about, nothing_differs};
 ghost use Rattle.cvss_audit.specs.Inputs.{input_view};
-ghost use Rattle.cvss_audit.specs.Places.{place_view};
+ghost use Rattle.cvss_audit.specs.Locations.{location_view};
 ghost use Rattle.cvss_vector.specs.Answers.{HasScore};
 
 use crate::disagreements::difference::{Difference, differences_at};
 use crate::documents::input::Input;
-use crate::places::place::Place;
+use crate::locations::location::Location;
 use cvss_base::Error;
 use cvss_vector::{Cvss, Evaluation, Rated};
 use std::alloc::{AllocError, Global};
@@ -30,25 +30,29 @@ impl<'a> Finding<'a> {
     /// # Errors
     ///
     /// Out of memory.
-    pub(crate) fn at(alloc: Global, place: &Place<'a>) -> Result<Finding<'a>, AllocError>
-        ensures is { IfOk result (λ finding. IsFinding (place_view place.now) (finding_view finding)) }
+    pub(crate) fn at(alloc: Global, location: &Location<'a>) -> Result<Finding<'a>, AllocError>
+        ensures is { IfOk result (λ finding. IsFinding (location_view location.now) (finding_view finding)) }
         ensures scored { IfOk result (λ finding. HasScoreIn (finding_view finding)) }
     {
-        match place.text {
-            Some(text) => Finding::of_text(alloc, place, text),
+        match location.text {
+            Some(text) => Finding::of_text(alloc, location, text),
             None => Ok(Finding::Rejected(String::from_str(alloc, "not a string")?)),
         }
     }
 
     /// What is found where a text is.
-    fn of_text(alloc: Global, place: &Place<'a>, text: &str) -> Result<Finding<'a>, AllocError>
-        ensures is { IfOk result (λ finding. IsFoundFor (place_view place.now) (Some text.now)
+    fn of_text(
+        alloc: Global,
+        location: &Location<'a>,
+        text: &str,
+    ) -> Result<Finding<'a>, AllocError>
+        ensures is { IfOk result (λ finding. IsFoundFor (location_view location.now) (Some text.now)
             (finding_view finding)) }
         ensures scored { IfOk result (λ finding. HasScoreIn (finding_view finding)) }
     {
         match Cvss::from_str(alloc, text) {
             Ok(cvss) => {
-                let differences = differences_at(alloc, &cvss, place)?;
+                let differences = differences_at(alloc, &cvss, location)?;
                 Ok(Finding::Vector(cvss, differences))
             }
             Err(Error::OutOfMemory) => Err(AllocError),

@@ -3,22 +3,22 @@
 ghost use Rattle.std.specs.Prelude.{◌≡◌, flat_map, map, option_map};
 ghost use Rattle.cvss_audit.specs.Inputs.{input_view};
 ghost use Rattle.cvss_audit.specs.Lines.{file_text, id_text, is_located, location_text, name_text, number_text, reason_text, space_if, start_text};
-ghost use Rattle.cvss_audit.specs.Places.{place_view};
+ghost use Rattle.cvss_audit.specs.Locations.{location_view};
 ghost use Rattle.cvss_json.specs.Sinks.{Adds};
 
 use crate::documents::input::Input;
-use crate::places::place::Place;
+use crate::locations::location::Location;
 use cvss_frame::put_shown;
 use cvss_json::{Sink, put_escaped, put_whole};
 
 /// Writes the beginning of a line about a location.
 #[tactic(auto, using(cvss_json::proofs::AddsLemmas::join2))]
-pub(crate) fn put_start<S: Sink>(sink: &mut S, input: Input<'_>, place: &Place<'_>)
-    ensures { Adds S.Holds (start_text (input_view input.entry) (place_view place.now))
+pub(crate) fn put_start<S: Sink>(sink: &mut S, input: Input<'_>, location: &Location<'_>)
+    ensures { Adds S.Holds (start_text (input_view input.entry) (location_view location.now))
         sink.old sink.new }
 {
-    put_location(sink, input, place.at.as_str());
-    put_id(sink, place.context.id);
+    put_location(sink, input, location.at.as_str());
+    put_id(sink, location.context.id);
 }
 
 /// Writes the file, the line, and the pointer to a value in the document.

@@ -1,13 +1,13 @@
 //! The members of the objects that are written.
 
 ghost use Rattle.std.specs.Prelude.{◌≡◌, ◌∷◌, [], IfOk, OnOk, map, option_map, string_bytes};
-ghost use Rattle.cvss_audit.specs.Objects.{accepted_members, input_members, list_member, member_if, place_members, error_member, rated_value, reported_members, score_members, scores_value, v4_members};
+ghost use Rattle.cvss_audit.specs.Objects.{accepted_members, input_members, list_member, member_if, location_members, error_member, rated_value, reported_members, score_members, scores_value, v4_members};
 ghost use Rattle.cvss_audit.specs.Inputs.{input_view};
 ghost use Rattle.cvss_audit.specs.Trees as trees;
 ghost use Rattle.cvss_audit.specs.Trees.{tree_view};
 ghost use Rattle.cvss_audit.specs.Differences.{difference_view};
 ghost use Rattle.cvss_audit.specs.Members.{object_of, with_members};
-ghost use Rattle.cvss_audit.specs.Places.{place_view};
+ghost use Rattle.cvss_audit.specs.Locations.{location_view};
 ghost use Rattle.cvss_audit.specs.Scores.{score_value};
 ghost use Rattle.serde_json.specs.Data.{string};
 ghost use Rattle.serde_json.specs.View.{members_view, view};
@@ -15,7 +15,7 @@ ghost use Rattle.serde_json.specs.View.{members_view, view};
 use crate::disagreements::difference::Difference;
 use crate::documents::input::Input;
 use crate::expected::scores::score_value;
-use crate::places::place::Place;
+use crate::locations::location::Location;
 use crate::tree::value::{Tree, put_tree};
 use crate::written::differs::put_differences;
 use crate::written::missing::put_missing;
@@ -55,20 +55,20 @@ pub(crate) fn put_error(
 }
 
 /// Puts where a vector is, in which document, and its text as it is there.
-pub(crate) fn put_place<'a>(
+pub(crate) fn put_location_members<'a>(
     members: &mut Map<String, Tree<'a>>,
     alloc: Global,
     input: Input<'a>,
-    place: &'a Place<'a>,
+    location: &'a Location<'a>,
 ) -> Result<(), AllocError>
     ensures { OnOk result (trees.members_view members.new.entries
-        ≡ with_members (place_members (input_view input.entry) (place_view place.now))
+        ≡ with_members (location_members (input_view input.entry) (location_view location.now))
         (trees.members_view members.old.entries)) }
 {
-    put_tree(members, alloc, "at", Tree::Text(place.at.as_str()))?;
+    put_tree(members, alloc, "at", Tree::Text(location.at.as_str()))?;
     put_input(members, alloc, input)?;
-    put_text(members, alloc, "id", place.context.id)?;
-    put_text(members, alloc, "given", place.text)
+    put_text(members, alloc, "id", location.context.id)?;
+    put_text(members, alloc, "given", location.text)
 }
 
 /// Puts a text under a name, if there is one.

@@ -5,7 +5,7 @@ ghost use Rattle.cvss_audit.specs.Answers.{AreObjects, IsObjectOf, IsVectorObjec
 ghost use Rattle.cvss_audit.specs.Differences.{difference_view};
 ghost use Rattle.cvss_audit.specs.Findings.{HasScoreIn, finding_view, rejected};
 ghost use Rattle.cvss_audit.specs.Inputs.{input_view};
-ghost use Rattle.cvss_audit.specs.Places.{place_view};
+ghost use Rattle.cvss_audit.specs.Locations.{location_view};
 ghost use Rattle.cvss_audit.specs.private.Writing.{WritesTexts};
 ghost use Rattle.cvss_audit.specs.Trees.{members_view};
 ghost use Rattle.cvss_vector.specs.Answers.{HasScore};
@@ -13,11 +13,11 @@ ghost use Rattle.serde_json.specs.Data.{object};
 
 use crate::disagreements::difference::Difference;
 use crate::documents::input::Input;
-use crate::places::place::Place;
+use crate::locations::location::Location;
 use crate::tree::value::Tree;
 use crate::tree::write::write_tree_object;
 use crate::written::finding::Finding;
-use crate::written::members::{put_accepted, put_error, put_place};
+use crate::written::members::{put_accepted, put_error, put_location_members};
 use cvss_lines::OutputBuffer;
 use cvss_vector::{Cvss, Evaluation};
 use serde_json::Map;
@@ -27,15 +27,15 @@ use std::alloc::{AllocError, Global};
 pub(crate) fn write_object(
     alloc: Global,
     input: Input<'_>,
-    place: &Place<'_>,
+    location: &Location<'_>,
     finding: Finding<'_>,
     answers: &mut OutputBuffer,
 ) -> Result<(), AllocError>
     requires { HasScoreIn (finding_view finding) }
-    ensures { OnOk result (WritesTexts (AreObjects (input_view input.entry) (place_view place.now)
+    ensures { OnOk result (WritesTexts (AreObjects (input_view input.entry) (location_view location.now)
         (finding_view finding.entry)) answers.old.bytes.items answers.new.bytes.items) }
 {
-    let members = object_of(alloc, input, place, finding)?;
+    let members = object_of(alloc, input, location, finding)?;
     write_tree_object(alloc, &members, answers)
 }
 
@@ -43,18 +43,18 @@ pub(crate) fn write_object(
 fn object_of<'a>(
     alloc: Global,
     input: Input<'a>,
-    place: &'a Place<'a>,
+    location: &'a Location<'a>,
     finding: Finding<'a>,
 ) -> Result<Map<String, Tree<'a>>, AllocError>
     requires { HasScoreIn (finding_view finding) }
-    ensures { IfOk result (λ members. IsObjectOf (input_view input.entry) (place_view place.now)
+    ensures { IfOk result (λ members. IsObjectOf (input_view input.entry) (location_view location.now)
         (finding_view finding.entry) (object (members_view members.entries))) }
 {
     match finding {
         Finding::Vector(cvss, differences) => {
-            vector_object(alloc, input, place, &cvss, differences)
+            vector_object(alloc, input, location, &cvss, differences)
         }
-        Finding::Rejected(reason) => rejected_object(alloc, input, place, reason),
+        Finding::Rejected(reason) => rejected_object(alloc, input, location, reason),
     }
 }
 
@@ -62,17 +62,17 @@ fn object_of<'a>(
 fn vector_object<'a>(
     alloc: Global,
     input: Input<'a>,
-    place: &'a Place<'a>,
+    location: &'a Location<'a>,
     cvss: &Cvss,
     differences: Vec<Difference<'a>>,
 ) -> Result<Map<String, Tree<'a>>, AllocError>
     requires { HasScore cvss.now }
     ensures { IfOk result (λ members. IsVectorObject (input_view input.entry)
-        (place_view place.now) cvss.now (map difference_view differences.entry.items)
+        (location_view location.now) cvss.now (map difference_view differences.entry.items)
         (object (members_view members.entries))) }
 {
     let mut members = Map::new(alloc);
-    put_place(&mut members, alloc, input, place)?;
+    put_location_members(&mut members, alloc, input, location)?;
     let scores = Evaluation::of(cvss);
     put_accepted(&mut members, alloc, cvss, &scores, differences)?;
     Ok(members)
@@ -82,14 +82,14 @@ fn vector_object<'a>(
 fn rejected_object<'a>(
     alloc: Global,
     input: Input<'a>,
-    place: &'a Place<'a>,
+    location: &'a Location<'a>,
     reason: String,
 ) -> Result<Map<String, Tree<'a>>, AllocError>
-    ensures { IfOk result (λ members. IsObjectOf (input_view input.entry) (place_view place.now)
+    ensures { IfOk result (λ members. IsObjectOf (input_view input.entry) (location_view location.now)
         (rejected (string_bytes reason)) (object (members_view members.entries))) }
 {
     let mut members = Map::new(alloc);
-    put_place(&mut members, alloc, input, place)?;
+    put_location_members(&mut members, alloc, input, location)?;
     put_error(&mut members, alloc, reason)?;
     Ok(members)
 }

@@ -2,7 +2,7 @@
 use Rattle.std.specs.Prelude.{◌≡◌, ℕ, Bool, List, ◌++◌, Option, Some, map}
 use Rattle.cvss_lines.specs.declared.summary.Summary.{Summary}
 use Rattle.cvss_csv.specs.Answers.{Answered, HasRows, IsOneAnswer, counted_once}
-use Rattle.cvss_csv.specs.Rows.{AreRows, IsRow, Row, later_rows, rows_text}
+use Rattle.cvss_csv.specs.Rows.{AreRows, IsRow, WrittenRow, later_rows, rows_text}
 use Rattle.cvss_csv.specs.declared.asked.Asked.{Asked}
 use Rattle.cvss_csv.specs.declared.asked.Cells.{Cells}
 use Rattle.cvss_csv.specs.private.Counting.{Counts, CountsAll}
@@ -16,7 +16,7 @@ pub record WritesAnswer (asked : Asked) (cells : Cells) (is_header : Bool) (body
 
 -- the row of a text is written and counted
 pub record WritesRow (asked : Asked) (body line_end text old new : List ℕ) (before after : Summary) : Type 0 where
-  pub row : Row
+  pub row : WrittenRow
   pub is_row : IsRow asked body line_end text row
   pub written : new ≡ old ++ row.bytes
   pub counts : Counts before (Some row.accepted) after
@@ -24,7 +24,7 @@ pub record WritesRow (asked : Asked) (body line_end text old new : List ℕ) (be
 -- those of some texts are, after another row
 pub record WritesLater (asked : Asked) (body line_end : List ℕ) (texts : List (List ℕ)) (old new : List ℕ) (before after : Summary)
     : Type 0 where
-  pub rows : List Row
+  pub rows : List WrittenRow
   pub are_rows : AreRows asked body line_end texts rows
   pub written : new ≡ old ++ later_rows line_end rows
   pub counts : CountsAll before (map (λ row. row.accepted) rows) after
@@ -32,7 +32,7 @@ pub record WritesLater (asked : Asked) (body line_end : List ℕ) (texts : List 
 -- all those of some texts
 pub record WritesRows (asked : Asked) (body line_end : List ℕ) (texts : List (List ℕ)) (old new : List ℕ) (before after : Summary)
     : Type 0 where
-  pub rows : List Row
+  pub rows : List WrittenRow
   pub are_rows : AreRows asked body line_end texts rows
   pub written : new ≡ old ++ rows_text line_end rows
   pub counts : CountsAll before (map (λ row. row.accepted) rows) after

@@ -1,25 +1,25 @@
 -- What the private code of the cutting does piece by piece. No public clause cites it.
 use Rattle.std.specs.Prelude.{◌≡◌, ℕ, ◌||◌, Bool, false, true, List, [], ◌∷◌, ◌++◌, Option, None, Some}
 use denote.Ref.{Bor}
-use Rattle.cvss_csv.specs.Fields.{comma, cut, is_end, next, place_after}
+use Rattle.cvss_csv.specs.Fields.{comma, cut, is_end, next, state_after}
 use Rattle.cvss_csv.specs.declared.fields.Fields.{Fields}
-use Rattle.cvss_csv.specs.declared.place.Place.{Place}
-use Rattle.cvss_csv.specs.declared.place.Place.TheVariants.{Start}
+use Rattle.cvss_csv.specs.declared.state.State.{State}
+use Rattle.cvss_csv.specs.declared.state.State.TheVariants.{Start}
 
 -- a piece ends in these bytes
-abbrev pub has_end : ℕ → Place → List ℕ → Bool
-has_end delimiter place [] = false
-has_end delimiter place (byte ∷ bytes) = is_end delimiter place byte || has_end delimiter (next place byte) bytes
+abbrev pub has_end : ℕ → State → List ℕ → Bool
+has_end delimiter state [] = false
+has_end delimiter state (byte ∷ bytes) = is_end delimiter state byte || has_end delimiter (next state byte) bytes
 
--- no piece ends in these bytes, after which the place is this
-pub record IsWithin (delimiter : ℕ) (place : Place) (bytes : List ℕ) (after : Place) : Type 0 where
-  pub none : has_end delimiter place bytes ≡ false
-  pub leads : place_after place bytes ≡ after
+-- no piece ends in these bytes, after which the state is this
+pub record IsWithin (delimiter : ℕ) (state : State) (bytes : List ℕ) (after : State) : Type 0 where
+  pub none : has_end delimiter state bytes ≡ false
+  pub leads : state_after state bytes ≡ after
 
 -- the first piece of the bytes, and what follows the delimiter that ends it
-pub record IsFirstPiece (delimiter : ℕ) (place : Place) (bytes piece following : List ℕ) : Type 0 where
-  pub last : Place
-  pub within : IsWithin delimiter place piece last
+pub record IsFirstPiece (delimiter : ℕ) (state : State) (bytes piece following : List ℕ) : Type 0 where
+  pub last : State
+  pub within : IsWithin delimiter state piece last
   pub ends : is_end delimiter last delimiter ≡ true
   pub is : bytes ≡ piece ++ delimiter ∷ following
 

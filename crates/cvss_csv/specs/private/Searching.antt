@@ -1,6 +1,6 @@
 -- What the private code of a search has found, in a note of it. No public clause cites it.
 use Rattle.std.specs.Prelude.{ℕ, List, ◌++◌, map}
-use Rattle.cvss_matches.specs.Matches.{AreFound, Placed}
+use Rattle.cvss_matches.specs.Matches.{AreFound, Candidate}
 use Rattle.cvss_csv.specs.Answers.{AreTextsIn, AreTextsOf}
 use Rattle.cvss_csv.specs.Tallies.{Adds}
 
@@ -17,9 +17,9 @@ pub record FindsInAll {N : Type 0} (IsOf : N → List (List ℕ) → Type 0) (fi
   pub adds : Adds IsOf own old new
 
 -- those before the candidates that are left of a value
-pub record HasFound {N : Type 0} (IsOf : N → List (List ℕ) → Type 0) (all left : List Placed) (old new : N) : Type 0 where
-  pub found : List Placed
-  pub are_found : (more : List Placed) → AreFound left more → AreFound all (found ++ more)
+pub record HasFound {N : Type 0} (IsOf : N → List (List ℕ) → Type 0) (all left : List Candidate) (old new : N) : Type 0 where
+  pub found : List Candidate
+  pub are_found : (more : List Candidate) → AreFound left more → AreFound all (found ++ more)
   pub adds : Adds IsOf (map (λ each. each.text) found) old new
 
 -- those before the fields that are left

@@ -2,17 +2,18 @@
 use Rattle.std.specs.Prelude.{◌≡◌, ℕ, ◌⊎◌, Bool, false, List, [], ◌∷◌, ◌++◌, Option, None, Some}
 use Rattle.cvss_lines.specs.Lines.{last_piece}
 use Rattle.cvss_lines.specs.declared.fault.RunFault.TheVariants.{Memory}
-use Rattle.cvss_csv.specs.Answers.{Answered, IsAnswerTo, cells_by}
-use Rattle.cvss_csv.specs.Fields.{fields, place_after}
+use Rattle.cvss_csv.specs.Answers.{Answered, IsAnswerTo}
+use Rattle.cvss_csv.specs.Fields.{fields, state_after}
+use Rattle.cvss_csv.specs.Layouts.{LacksColumn, SaysFirst, cells_by}
 use Rattle.cvss_csv.specs.Records.{Record, ended_records, pieces, records}
-use Rattle.cvss_csv.specs.Runs.{AreAllAnswers, LacksColumn, SaysFirst, answer_bytes, summary_of}
+use Rattle.cvss_csv.specs.Runs.{AreAllAnswers, answer_bytes, summary_of}
 use Rattle.cvss_csv.specs.declared.asked.Asked.{Asked}
 use Rattle.cvss_csv.specs.declared.asked.Cells.{Cells}
 use Rattle.cvss_csv.specs.declared.asked.Column.{Column}
 use Rattle.cvss_csv.specs.declared.fault.CsvFault.{CsvFault}
 use Rattle.cvss_csv.specs.declared.fault.CsvFault.TheVariants.{Run, UnknownColumn}
 use Rattle.cvss_csv.specs.declared.pending.Pending.{Pending}
-use Rattle.cvss_csv.specs.declared.place.Place.TheVariants.{Start}
+use Rattle.cvss_csv.specs.declared.state.State.TheVariants.{Start}
 use Rattle.cvss_csv.specs.declared.progress.Progress.{Progress}
 use Rattle.cvss_csv.specs.private.Counting.{CountsAll}
 
@@ -45,7 +46,7 @@ pub record AnswersRecord (column : Column) (body line_end : List ℕ) (old new :
   pub asked : new.answerer.asked ≡ old.answerer.asked
   pub known : new.cells ≡ Some cells
 
--- why a record is not answered: memory is refused, or it is the first and has no cell with the name of the column
+-- why a record is not answered: memory is refused, or it is the first and lacks the column
 abbrev pub CannotAnswer : Column → List ℕ → Progress → CsvFault → Type 0
 CannotAnswer column body old fault = (fault ≡ Run Memory)
     ⊎ ((fault ≡ UnknownColumn) × (old.cells ≡ None) × (cells_by column (fields body) ≡ None))
@@ -76,7 +77,7 @@ unended_piece text = last_piece (pieces text)
 pub record Awaits (asked : Asked) (column : Column) (written read : List ℕ) (pending : Pending) : Type 0 where
   pub has_answered : HasAnswered asked column written (ended_records read) pending.progress
   pub kept : pending.cut.items ≡ unended_piece read
-  pub placed : place_after Start read ≡ pending.place
+  pub state_is : state_after Start read ≡ pending.state
 
 -- this chunk of the input is read after whatever was
 abbrev pub Reads : Column → List ℕ → Pending → Pending → Type 0

@@ -1,7 +1,7 @@
 -- Rows, as the code has them.
 use Rattle.std.specs.Prelude.{ℕ, List, [], ◌∷◌, ◌++◌, codes}
 use Rattle.cvss_explain.specs.V4.{class_text, digits}
-use Rattle.cvss_explain.specs.Lines.{Row}
+use Rattle.cvss_explain.specs.Lines.{TitledFigure}
 use Rattle.cvss_explain.specs.V4.{contribution_text}
 use Rattle.cvss_explain.specs.declared.lines.Figure.{Figure}
 use Rattle.cvss_explain.specs.declared.lines.Figure.TheVariants.{Of, Contribution}
@@ -22,5 +22,5 @@ figure_text (Of amount) = amount_text amount
 figure_text (Contribution value group) = contribution_text value group.now
 
 -- a row
-abbrev pub row_view : Title × Figure → Row
+abbrev pub row_view : Title × Figure → TitledFigure
 row_view row = (title_text row.0, figure_text row.1)

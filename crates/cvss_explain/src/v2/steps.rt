@@ -10,6 +10,7 @@ ghost use Rattle.cvss_score.specs.v2.Scores.{IsBase, IsTemporal, adjusted_impact
 
 use crate::step::{Quantity, Step};
 use cvss_score::v2::Weights;
+use cvss_vector::Bounds;
 
 /// The steps to each score of a vector.
 #[derive(Drop)]
@@ -47,7 +48,7 @@ fn base_steps(weights: &Weights, base: i64) -> [Step; 5]
         Step::nearest(Quantity::Exploitability, exploitability(weights)),
         Step::nearest(Quantity::Factor, factor(weights)),
         Step::nearest(Quantity::BeforeRounding, base_number(weights)),
-        Step::score(Quantity::BaseScore, raised_to_zero(base)),
+        Step::rated(Quantity::BaseScore, Bounds::OfV2, raised_to_zero(base)),
     ]
 }
 
@@ -60,7 +61,7 @@ fn temporal_steps(weights: &Weights, base: i64) -> [Step; 2]
     let score = weights.temporal();
     [
         Step::nearest(Quantity::BeforeRounding, temporal_number(weights, base)),
-        Step::score(Quantity::TemporalScore, raised_to_zero(score)),
+        Step::rated(Quantity::TemporalScore, Bounds::OfV2, raised_to_zero(score)),
     ]
 }
 
@@ -81,7 +82,11 @@ fn environmental_steps(weights: &Weights, base: i64, temporal: i64) -> [Step; 5]
             Quantity::BeforeRounding,
             weights.environmental_number(temporal),
         ),
-        Step::score(Quantity::EnvironmentalScore, raised_to_zero(score)),
+        Step::rated(
+            Quantity::EnvironmentalScore,
+            Bounds::OfV2,
+            raised_to_zero(score),
+        ),
     ]
 }
 

@@ -10,6 +10,7 @@ ghost use Rattle.cvss_score.specs.v3.private.Near.{Approximates};
 
 use crate::step::{Quantity, Step};
 use cvss_score::v3::{Exponent, Weights};
+use cvss_vector::Bounds;
 
 /// The steps to each score of a vector.
 #[derive(Drop)]
@@ -48,7 +49,7 @@ fn base_steps(weights: &Weights, minor: usize, base: u64) -> [Step; 5]
         Step::nearest(Quantity::Impact, weights.impact()),
         Step::nearest(Quantity::Exploitability, weights.exploitability()),
         Step::nearest_units(Quantity::BeforeRounding, weights.base_units()),
-        Step::rated(Quantity::BaseScore, base),
+        Step::rated(Quantity::BaseScore, Bounds::SinceV3, base),
     ]
 }
 
@@ -63,7 +64,11 @@ fn temporal_steps(weights: &Weights, minor: usize, base: u64) -> [Step; 2]
             Quantity::BeforeRounding,
             weights.temporal_units(base) as i64,
         ),
-        Step::rated(Quantity::TemporalScore, weights.times_temporal(base, minor)),
+        Step::rated(
+            Quantity::TemporalScore,
+            Bounds::SinceV3,
+            weights.times_temporal(base, minor),
+        ),
     ]
 }
 
@@ -92,6 +97,7 @@ fn environmental_steps(weights: &Weights, minor: usize, first: u64) -> [Step; 7]
         ),
         Step::rated(
             Quantity::EnvironmentalScore,
+            Bounds::SinceV3,
             weights.times_temporal(first, minor),
         ),
     ]

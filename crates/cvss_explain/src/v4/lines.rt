@@ -27,6 +27,7 @@ use cvss_lines::OutputBuffer;
 use cvss_report::names::{self, v4};
 use cvss_score::v4::scoring::classes::MacroVector;
 use cvss_score::v4::scoring::explanation::GroupExplanation;
+use cvss_vector::Bounds;
 use cvss_vector::v4::{Explanation, Nomenclature, Vector};
 use std::alloc::AllocError;
 
@@ -61,7 +62,7 @@ impl Explained for Vector {
         kind.description()
     }
 
-    fn rows(kind: MetricType) -> &'static [names::Row] {
+    fn value_words(kind: MetricType) -> &'static [names::ValueWord] {
         v4::entry(kind).1
     }
 
@@ -90,7 +91,7 @@ fn write_numbers(
     let number = (Words("Before rounding"), fraction(explanation.number));
     let score = (
         Words(title_of(vector.nomenclature())),
-        Of(Amount::Rated(tenths)),
+        Of(Amount::Rated(Bounds::SinceV3, tenths)),
     );
     let Some(groups) = &explanation.groups else {
         let none = (Words("No impact"), Of(Amount::Score(0)));
@@ -203,7 +204,10 @@ fn write_part(
     let shown = is_shown(nomenclature, vector.nomenclature(), by, tenths);
     write_rows_if(
         shown,
-        &[(Words(title_of(nomenclature)), Of(Amount::Rated(by)))],
+        &[(
+            Words(title_of(nomenclature)),
+            Of(Amount::Rated(Bounds::SinceV3, by)),
+        )],
         answers,
     )
 }

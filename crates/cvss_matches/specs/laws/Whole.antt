@@ -36,4 +36,4 @@ EndsOutside text = suffix_len is_edge text ≡ 0
 -- after such a byte and before one with which no vector is written, or the ends, the text is a candidate by itself
 abbrev pub IsMatchedBetween : List ℕ → List ℕ → List ℕ → Type 0
 IsMatchedBetween before text after = EndsOutside before → is_other after ≡ true
-    → Contains (candidates_of (before ++ (text ++ after))) (record { place = length before; text = text })
+    → Contains (candidates_of (before ++ (text ++ after))) (record { offset = length before; text = text })

@@ -2,11 +2,11 @@
 use Rattle.std.specs.Prelude.{◌≡◌, ℕ, suc, ◌==◌, ◌||◌, Bool, List, [], ◌∷◌, ◌++◌, if◌then◌else◌}
 use Rattle.std.specs.List.{list_any}
 use Rattle.cvss_base.specs.Text.{slash}
-use Rattle.cvss_matches.specs.Matches.{Placed}
+use Rattle.cvss_matches.specs.Matches.{Candidate}
 use Rattle.cvss_matches.specs.CandidatesLeft.{NoneFound}
 use Rattle.cvss_matches.specs.Parts.{begins_part, percent}
 
--- how many bytes are before the first place at which the text is cut
+-- how many bytes of a text are before its first cut
 abbrev pub uncut_length : List ℕ → ℕ
 uncut_length [] = 0
 uncut_length (byte ∷ rest) = if begins_part (byte ∷ rest) then 0 else suc (uncut_length rest)
@@ -19,7 +19,7 @@ abbrev pub has_mark : List ℕ → Bool
 has_mark text = list_any is_mark text
 
 -- after some candidates, none of which is found
-pub record Passes (candidates left : List Placed) : Type 0 where
-  pub passed : List Placed
+pub record Passes (candidates left : List Candidate) : Type 0 where
+  pub passed : List Candidate
   pub is : candidates ≡ passed ++ left
   pub none : NoneFound passed

@@ -5,7 +5,7 @@ use Rattle.cvss_matches.specs.Answers.{AreKept, AreShown, Asked, IsReported, Kep
 use Rattle.cvss_matches.specs.declared.line.Line.{Line}
 use Rattle.cvss_matches.specs.declared.form.Form.{Form}
 use Rattle.cvss_matches.specs.declared.form.Form.TheVariants.{Annotated, Located, Object}
-use Rattle.cvss_matches.specs.Matches.{AreFound, Placed, candidates_of}
+use Rattle.cvss_matches.specs.Matches.{AreFound, Candidate, candidates_of}
 
 -- what is asked of a line
 abbrev pub asked_of : Line → Asked
@@ -43,7 +43,7 @@ abbrev pub AnswersLine : Asked → List ℕ → List ℕ → Bool → Type 0
 AnswersLine asked = WritesAnswer (find_rule asked.form asked.scoring asked.allow_incomplete asked.assumed asked.gate asked.prefix) asked.number asked.line
 
 -- what is reported of the candidate is written after the earlier texts
-pub record WritesReported (asked : Asked) (candidate : Placed) (old new : List ℕ) (accepted : Bool) : Type 0 where
+pub record WritesReported (asked : Asked) (candidate : Candidate) (old new : List ℕ) (accepted : Bool) : Type 0 where
   pub reported : Reported
   pub is_reported : IsReported asked candidate reported
   pub accepts : accepted ≡ reported.accepts
@@ -57,9 +57,9 @@ pub record WritesKept (Is : Kept → Type 0) (form : Form) (old new : List ℕ) 
   pub written : new ≡ old ++ flat_map (written_as form) kept.texts
 
 -- what is kept is written of the candidates before those that are left, as far as they are found
-pub record Reports (asked : Asked) (left : List Placed) (old new : List ℕ) (accepted : Bool) : Type 0 where
-  pub found : List Placed
-  pub are_found : (more : List Placed) → AreFound left more → AreFound (candidates_of asked.line) (found ++ more)
+pub record Reports (asked : Asked) (left : List Candidate) (old new : List ℕ) (accepted : Bool) : Type 0 where
+  pub found : List Candidate
+  pub are_found : (more : List Candidate) → AreFound left more → AreFound (candidates_of asked.line) (found ++ more)
   pub kept : List Kept
   pub are_kept : AreKept asked found kept
   pub accepts : accepted ≡ all_accepted kept
@@ -67,7 +67,7 @@ pub record Reports (asked : Asked) (left : List Placed) (old new : List ℕ) (ac
 
 -- what is kept of the candidates that are shown is written
 pub record WritesShown (all : Bool) (asked : Asked) (old new : List ℕ) (accepted : Bool) : Type 0 where
-  pub shown : List Placed
+  pub shown : List Candidate
   pub are_shown : AreShown all (candidates_of asked.line) shown
   pub kept : List Kept
   pub are_kept : AreKept asked shown kept

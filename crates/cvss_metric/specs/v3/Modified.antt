@@ -6,12 +6,12 @@ use Rattle.cvss_metric.specs.declared.v3.environmental.modified.Modified.{Modifi
 use Rattle.cvss_metric.specs.declared.v3.environmental.modified.Modified.TheVariants.{NotDefined, Modified as Set}
 
 -- how a value is spelled, and its weight in hundredths, if it has one
-abbrev pub Row : Type 0
-Row = List ℕ × Option ℕ
+abbrev pub ValueWeight : Type 0
+ValueWeight = List ℕ × Option ℕ
 
 -- the rows of a modified metric, by those of the base metric: X and the base metric's spellings; each weighs 0 of its own,
 -- since the equations take the base metric's weight of the value that it puts in place
-abbrev pub modified_rows : List Row → List Row
+abbrev pub modified_rows : List ValueWeight → List ValueWeight
 modified_rows rows = (codes "X", Some 0) ∷ map (λ row. (row.0, Some 0)) rows
 
 -- the same, with another value for the one that is set

@@ -38,7 +38,7 @@ use Rattle.cvss_metric.specs.declared.v3.environmental.modified.ModifiedScope.{M
 use Rattle.cvss_metric.specs.declared.v3.environmental.modified.ModifiedScope.TheVariants as modified_scope
 use Rattle.cvss_metric.specs.declared.v3.environmental.modified.Modified.{Modified}
 use Rattle.cvss_metric.specs.declared.v3.environmental.modified.Modified.TheVariants.{NotDefined, Modified as Set}
-use Rattle.cvss_metric.specs.v3.Modified.{Row, modified_map, modified_rows, modified_rank}
+use Rattle.cvss_metric.specs.v3.Modified.{ValueWeight, modified_map, modified_rows, modified_rank}
 
 -- the type of a metric's values
 abbrev pub Value : MetricType → Type 0
@@ -67,7 +67,7 @@ Value MA = Modified Availability
 
 -- how each value of a metric is spelled, and its weight in hundredths, if it has one; the values as they are compared,
 -- the least first; none of the modified metrics, whose rows are made of these
-abbrev own_rows : MetricType → List Row
+abbrev own_rows : MetricType → List ValueWeight
 own_rows AV = (codes "P", Some 20) ∷ (codes "L", Some 55) ∷ (codes "A", Some 62) ∷ (codes "N", Some 85) ∷ []
 own_rows AC = (codes "H", Some 44) ∷ (codes "L", Some 77) ∷ []
 own_rows PR = (codes "H", Some 27) ∷ (codes "L", Some 62) ∷ (codes "N", Some 85) ∷ []
@@ -85,7 +85,7 @@ own_rows AR = (codes "X", Some 100) ∷ (codes "H", Some 150) ∷ (codes "M", So
 own_rows modified = []
 
 -- the rows of each metric
-abbrev pub rows_of : MetricType → List Row
+abbrev pub rows_of : MetricType → List ValueWeight
 rows_of MAV = modified_rows (own_rows AV)
 rows_of MAC = modified_rows (own_rows AC)
 rows_of MPR = modified_rows (own_rows PR)
@@ -135,7 +135,7 @@ rank_of MA = modified_rank (own_rank A)
 rank_of kind = own_rank kind
 
 -- a value's row
-abbrev row_of : (kind : MetricType) → Value kind → Row
+abbrev row_of : (kind : MetricType) → Value kind → ValueWeight
 row_of kind value = unwrap_or (slice_get (rows_of kind) (rank_of kind value)) ([], None)
 
 -- how a value is spelled

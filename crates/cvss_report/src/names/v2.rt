@@ -5,26 +5,26 @@ ghost use Rattle.cvss_report.specs.WordsV2.{entry_of};
 
 use crate::field::Field::{self, Score, Text, V2, Version};
 use crate::names::NOT_DEFINED;
-use crate::names::rows::Row;
+use crate::names::words::ValueWord;
 use MetricType::*;
 use cvss_base::v2::MetricType;
 use cvss_vector::Group::{Base, Environmental, Temporal};
 
-/// The row of a value that is not defined.
-const ND: Row = ("ND", NOT_DEFINED);
+/// The word of a value that is not defined.
+const ND: ValueWord = ("ND", NOT_DEFINED);
 
 /// The values of an impact.
-const IMPACTS: &[Row] = &[("N", "NONE"), ("P", "PARTIAL"), ("C", "COMPLETE")];
+const IMPACTS: &[ValueWord] = &[("N", "NONE"), ("P", "PARTIAL"), ("C", "COMPLETE")];
 
 /// The values of a security requirement.
-const REQUIREMENTS: &[Row] = &[("L", "LOW"), ("M", "MEDIUM"), ("H", "HIGH"), ND];
+const REQUIREMENTS: &[ValueWord] = &[("L", "LOW"), ("M", "MEDIUM"), ("H", "HIGH"), ND];
 
 /// The name of the member that holds the metric's value, and how its values are spelled, each
 /// with its word.
 // A line for each metric, as the schema has them.
 #[rattlefmt::skip]
-pub fn entry(kind: MetricType) -> (&'static str, &'static [Row])
-    ensures { (result.0.now, map (λ row. (row.0.now, row.1.now)) result.1.now) ≡ entry_of kind }
+pub fn entry(kind: MetricType) -> (&'static str, &'static [ValueWord])
+    ensures { (result.0.now, map (λ word. (word.0.now, word.1.now)) result.1.now) ≡ entry_of kind }
 {
     match kind {
         AV => ("accessVector", &[("L", "LOCAL"), ("A", "ADJACENT_NETWORK"), ("N", "NETWORK")]),

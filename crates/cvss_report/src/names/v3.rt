@@ -4,26 +4,26 @@ ghost use Rattle.std.specs.Prelude.{◌≡◌, map};
 ghost use Rattle.cvss_report.specs.WordsV3.{entry_of};
 
 use crate::field::Field::{self, Score, Severity, Text, V3, Version};
-use crate::names::rows::{Row, X};
+use crate::names::words::{ValueWord, X};
 use MetricType::*;
 use cvss_base::v3::MetricType;
 use cvss_vector::Group::{Base, Environmental, Temporal};
 
 /// The values of an impact.
-const IMPACTS: &[Row] = &[("N", "NONE"), ("L", "LOW"), ("H", "HIGH")];
+const IMPACTS: &[ValueWord] = &[("N", "NONE"), ("L", "LOW"), ("H", "HIGH")];
 
 /// The values of a security requirement.
-const REQUIREMENTS: &[Row] = &[X, ("H", "HIGH"), ("M", "MEDIUM"), ("L", "LOW")];
+const REQUIREMENTS: &[ValueWord] = &[X, ("H", "HIGH"), ("M", "MEDIUM"), ("L", "LOW")];
 
 /// The values of a modified impact.
-const MODIFIED_IMPACTS: &[Row] = &[X, ("N", "NONE"), ("L", "LOW"), ("H", "HIGH")];
+const MODIFIED_IMPACTS: &[ValueWord] = &[X, ("N", "NONE"), ("L", "LOW"), ("H", "HIGH")];
 
 /// The name of the member that holds the metric's value, and how its values are spelled, each
 /// with its word.
 // A line for each metric, as the schema has them.
 #[rattlefmt::skip]
-pub fn entry(kind: MetricType) -> (&'static str, &'static [Row])
-    ensures { (result.0.now, map (λ row. (row.0.now, row.1.now)) result.1.now) ≡ entry_of kind }
+pub fn entry(kind: MetricType) -> (&'static str, &'static [ValueWord])
+    ensures { (result.0.now, map (λ word. (word.0.now, word.1.now)) result.1.now) ≡ entry_of kind }
 {
     match kind {
         AV => ("attackVector",

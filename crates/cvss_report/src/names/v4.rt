@@ -4,22 +4,22 @@ ghost use Rattle.std.specs.Prelude.{◌≡◌, map};
 ghost use Rattle.cvss_report.specs.WordsV4.{entry_of};
 
 use crate::field::Field::{self, Score, Severity, Text, V4, Version};
-use crate::names::rows::{Row, X};
+use crate::names::words::{ValueWord, X};
 use MetricType::*;
 use cvss_base::v4::MetricType;
 use cvss_vector::Group::Base;
 
 /// The values of an impact.
-const IMPACTS: &[Row] = &[("N", "NONE"), ("L", "LOW"), ("H", "HIGH")];
+const IMPACTS: &[ValueWord] = &[("N", "NONE"), ("L", "LOW"), ("H", "HIGH")];
 
 /// The values of a security requirement.
-const REQUIREMENTS: &[Row] = &[X, ("L", "LOW"), ("M", "MEDIUM"), ("H", "HIGH")];
+const REQUIREMENTS: &[ValueWord] = &[X, ("L", "LOW"), ("M", "MEDIUM"), ("H", "HIGH")];
 
 /// The values of a modified impact.
-const MODIFIED_IMPACTS: &[Row] = &[X, ("N", "NONE"), ("L", "LOW"), ("H", "HIGH")];
+const MODIFIED_IMPACTS: &[ValueWord] = &[X, ("N", "NONE"), ("L", "LOW"), ("H", "HIGH")];
 
 /// The values of a modified impact that may harm persons.
-const SAFETY_IMPACTS: &[Row] = &[
+const SAFETY_IMPACTS: &[ValueWord] = &[
     X,
     ("N", "NEGLIGIBLE"),
     ("L", "LOW"),
@@ -31,8 +31,8 @@ const SAFETY_IMPACTS: &[Row] = &[
 /// with its word.
 // A line for each metric, as the schema has them.
 #[rattlefmt::skip]
-pub fn entry(kind: MetricType) -> (&'static str, &'static [Row])
-    ensures { (result.0.now, map (λ row. (row.0.now, row.1.now)) result.1.now) ≡ entry_of kind }
+pub fn entry(kind: MetricType) -> (&'static str, &'static [ValueWord])
+    ensures { (result.0.now, map (λ word. (word.0.now, word.1.now)) result.1.now) ≡ entry_of kind }
 {
     match kind {
         AV => ("attackVector",

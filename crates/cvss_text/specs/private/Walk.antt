@@ -44,19 +44,19 @@ pub record IsEmpty {V K : Type 0} (version : Version V K) (v : V) : Type 0 where
   pub frontless : version.front v ≡ []
   pub valueless : HasNoValue version v
 
--- an empty place gains the value with this spelling
+-- an empty field gains the value with this spelling
 pub record Fills {X : Type 0} (spelling : X → List ℕ) (old : Option X) (text : List ℕ) (new : Option X) : Type 0 where
   pub was_empty : old ≡ None
   pub value : X
   pub spelled : spelling value ≡ text
   pub filled : new ≡ Some value
 
--- why no value goes into a place
+-- why no value goes into a field
 abbrev pub IsComponentError : {X : Type 0} → (X → List ℕ) → Option X → List ℕ → ComponentError → Type 0
-IsComponentError spelling place text Invalid = ¬ (Spells spelling text)
-IsComponentError spelling place text Twice = Spells spelling text × IsSome place
+IsComponentError spelling field text Invalid = ¬ (Spells spelling text)
+IsComponentError spelling field text Twice = Spells spelling text × IsSome field
 
--- what filling a place with the value that has this spelling answers
+-- what filling a field with the value that has this spelling answers
 pub record IsFilled {X : Type 0} (spelling : X → List ℕ) (old : Option X) (text : List ℕ) (answer : Result (Unit {0}) ComponentError) (new : Option X) : Type 0 where
   pub filled : OnOk answer (Fills spelling old text new)
   pub component_error : IfErr answer (IsComponentError spelling old text)

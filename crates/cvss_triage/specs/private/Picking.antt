@@ -1,6 +1,6 @@
 -- What is picked of the vectors of a line before its next match.
 use Rattle.std.specs.Prelude.{◌≡◌, ◌≢◌, ◌++◌, [], Bool, List, All, Option, None, Some}
-use Rattle.cvss_matches.specs.Matches.{Placed}
+use Rattle.cvss_matches.specs.Matches.{Candidate}
 use Rattle.cvss_vector.specs.Evaluation.{version_of}
 use Rattle.cvss_vector.specs.declared.scoring.Scoring.{Scoring}
 use Rattle.cvss_vector.specs.declared.setting.Version.{Version}
@@ -20,13 +20,13 @@ IsBest overrides scoring allow_incomplete vectors None = vectors ≡ []
 IsBest overrides scoring allow_incomplete vectors (Some best) = IsHighest overrides scoring allow_incomplete vectors best.cvss best.tenths
 
 -- all are these vectors, and then those that the candidates that are left denote
-pub record Continues (left : List Placed) (vectors all : List Cvss) : Type 0 where
+pub record Continues (left : List Candidate) (vectors all : List Cvss) : Type 0 where
   pub others : List Cvss
   pub are : AreVectorsIn left others
   pub is : all ≡ vectors ++ others
 
 -- such vectors are denoted by what is found before the candidates that are left: what all denote begins with them
-pub record Begins (Is : List Cvss → Type 0) (candidates left : List Placed) : Type 0 where
+pub record Begins (Is : List Cvss → Type 0) (candidates left : List Candidate) : Type 0 where
   pub vectors : List Cvss
   pub is : Is vectors
   pub onward : (others : List Cvss) → AreVectorsIn left others → AreVectorsIn candidates (vectors ++ others)

@@ -1,13 +1,15 @@
 -- What the code does with one override and with one line.
 use Rattle.std.specs.Prelude.{◌≡◌, ◌≤◌, ℕ, ◌+◌, List, [], ◌∷◌, ◌++◌, All, length, map, Option, option_and_then, option_map}
-use denote.Ref.{Bor}
+use Rattle.std.specs.Cow.{cow_slice_items}
 use Rattle.cvss_base.specs.Version.{Version}
 use Rattle.cvss_vector.specs.Answers.{HasScore}
 use Rattle.cvss_vector.specs.v2.Vector.{v2}
 use Rattle.cvss_vector.specs.v3.Vector.{v3}
 use Rattle.cvss_vector.specs.v4.Vector.{v4}
+use Rattle.cvss_triage.specs.Lines.{Line}
 use Rattle.cvss_triage.specs.Overrides.{AreOwn}
 use Rattle.cvss_triage.specs.Ranking.{AreRead}
+use Rattle.cvss_triage.specs.declared.lines.CutLine.{CutLine}
 use Rattle.cvss_triage.specs.declared.overrides.Family.TheVariants.{V2, V3, V4}
 use Rattle.cvss_triage.specs.declared.overrides.Override.{Override}
 use Rattle.cvss_triage.specs.declared.own_metrics.OwnMetrics.{OwnMetrics}
@@ -32,13 +34,13 @@ pub record IsToTen (row : Row) : Type 0 where
   pub scored : HasScore row.vector
 
 -- lines are read by rules in turn, and the scores of their rows can be written
-pub record IsReadBy (rules : Rules) (lines : List (Option (List ℕ))) (rows : List Row) (bad : List BadLine) : Type 0 where
+pub record IsReadBy (rules : Rules) (lines : List (Option Line)) (rows : List Row) (bad : List BadLine) : Type 0 where
   pub read : (overrides : List Override) → AreOwnMetrics overrides rules.own → AreRead rules.prefer overrides rules.scoring rules.allow_incomplete 1 lines rows bad
   pub to_ten : All IsToTen rows
 
 -- the line of this number is read after those before it
-abbrev pub Adds : Rules → ℕ → Option (List ℕ) → Ranking → Ranking → Type 0
-Adds rules number line old new = (lines : List (Option (List ℕ))) → length lines + 1 ≡ number → IsReadBy rules lines old.rows.items old.bad.items → IsReadBy rules (lines ++ line ∷ []) new.rows.items new.bad.items
+abbrev pub Adds : Rules → ℕ → Option Line → Ranking → Ranking → Type 0
+Adds rules number line old new = (lines : List (Option Line)) → length lines + 1 ≡ number → IsReadBy rules lines old.rows.items old.bad.items → IsReadBy rules (lines ++ line ∷ []) new.rows.items new.bad.items
 
 -- such a text is written after what was
 pub record WritesRow (IsText : List ℕ → Type 0) (old new : List ℕ) : Type 0 where
@@ -46,12 +48,9 @@ pub record WritesRow (IsText : List ℕ → Type 0) (old new : List ℕ) : Type 
   pub is_text : IsText text
   pub written : new ≡ old ++ text
 
--- what is ranked, as the code has it
-abbrev pub rows_of : List (Option (Bor (List ℕ))) → List (Option (List ℕ))
-rows_of rows = map (λ row. option_map (λ row. row.now) row) rows
+-- a line or a record, as the code has it
+abbrev pub as_line : CutLine → Line
+as_line cut = record { bytes = cut.bytes.now; searched = cow_slice_items cut.searched }
 
--- such rows are added after those that there were
-pub record AddsRows (Are : List (Option (List ℕ)) → Type 0) (old new : List (Option (Bor (List ℕ)))) : Type 0 where
-  pub own : List (Option (List ℕ))
-  pub are : Are own
-  pub added : rows_of new ≡ rows_of old ++ own
+abbrev pub rows_of : List (Option CutLine) → List (Option Line)
+rows_of rows = map (option_map as_line) rows

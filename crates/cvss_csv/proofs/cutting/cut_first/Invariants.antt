@@ -5,7 +5,7 @@ use Rattle.cvss_csv.proofs.cutting.cut_first.Given as goal
 abbrev pub invariant-loop-at : goal.invariant-loop-at
 invariant-loop-at l = record {
   within : l.at ≤ length l.bytes;
-  passed : IsWithin l.delimiter l.fn.place (take l.at l.bytes) l.now;
+  passed : IsWithin l.delimiter l.fn.state (take l.at l.bytes) l.now;
 }
 
 abbrev pub decreases-loop-at : goal.decreases-loop-at

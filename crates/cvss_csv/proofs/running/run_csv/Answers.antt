@@ -7,7 +7,7 @@ use Rattle.cvss_csv.proofs.running.run_csv.Goals as goal
 pub returns-in_err-chunk : goal.returns-in_err-chunk
 returns-in_err-chunk g c =
     let new = c.new-pending.ensures in
-    let b = Between_start c.new-pending.result new.cut new.place new.asked new.cells new.answers new.summary in
+    let b = Between_start c.new-pending.result new.cut new.state new.asked new.cells new.answers new.summary in
     reported c.from_residual.result _ (Ends c.args.asked c.args.column _ _ _ _) c.from_residual.ensures.1 (Ends_memory b (Keeps-refl _))
 
 pub loop-init : goal.loop-init
@@ -15,14 +15,14 @@ loop-init g c =
     let new = c.new-pending.ensures in
     record {
       room = omega (arith, c.in_ok-chunk.ensures);
-      between = Between_start c.new-pending.result new.cut new.place new.asked new.cells new.answers new.summary;
+      between = Between_start c.new-pending.result new.cut new.state new.asked new.cells new.answers new.summary;
     }
 
 pub answer_end-requires : goal.answer_end-requires
-answer_end-requires g c = c.loop.invariant.between.placed
+answer_end-requires g c = c.loop.invariant.between.state_is
 
 pub answer_chunk-requires : goal.answer_chunk-requires
-answer_chunk-requires g c = c.loop.invariant.between.placed
+answer_chunk-requires g c = c.loop.invariant.between.state_is
 
 pub returns-in_err-answer_end : goal.returns-in_err-answer_end
 returns-in_err-answer_end g c =
@@ -67,7 +67,7 @@ loop-preserved g c =
     let is = c.deref.ensures.value ∙ take_at c.read.new.buf (drop (length c.read.new.buf) c.loop.chunk.items) c.loop.chunk.len (omega arith) in
     record {
       room = c.loop.invariant.room;
-      between = Between_chunk b _ chunk (rw is c.in-Ok.ensures.bytes.0) c.in_ok-answer_chunk.ensures.answered c.in_ok-answer_chunk.ensures.place
+      between = Between_chunk b _ chunk (rw is c.in-Ok.ensures.bytes.0) c.in_ok-answer_chunk.ensures.answered c.in_ok-answer_chunk.ensures.state
           c.in_ok-write_out-2.ensures.written c.in_ok-write_out-2.ensures.none_waits;
     }
 

@@ -7,7 +7,7 @@ use Rattle.cvss_explain.proofs.what_if.write_cell.Goals as goal
 
 pub returns-in-None : goal.returns-in-None
 returns-in-None c =
-    let set = component c.args.name.now c.args.row.0.now in
+    let set = component c.args.name.now c.args.value.0.now in
     record {
       text = [];
       holds = inr (subst (λ tenths. MatchOption tenths ((new : Cvss) → ¬ (IsWith c.args.cvss.now set new)) (IsScored c.args.cvss.now set)) c.in-None.is c.in_ok-tenths.ensures.set, refl);

@@ -11,13 +11,13 @@ returns g c =
     let padding = rw (c.as_bytes.ensures.value, c.name-name.ensures) at c.in_ok-write_padded.ensures in
     let cells = c.in_ok-write_cells.ensures in
     let views = joins_views (IsCell c.args.cvss.now c.name-name.result.now (option_copied c.spelled.result))
-    (λ (row : Bor (List ℕ) × Bor (List ℕ)). (row.0.now, row.1.now)) c.rows.result.now cells.text cells.holds in
+    (λ (value : Bor (List ℕ) × Bor (List ℕ)). (value.0.now, value.1.now)) c.value_words.result.now cells.text cells.holds in
     on_ok_weaker c.push-2.result
     (λ last. record {
       text = _;
       holds = record {
         cells = cells.text;
-        are = rw (c.name-name.ensures, c.spelled.ensures, c.rows.ensures) at views;
+        are = rw (c.name-name.ensures, c.spelled.ensures, c.value_words.ensures) at views;
         is = refl;
       };
       written = four_parts _ _ _ _ _ _ _ _ _ c.in_ok-push.ensures padding cells.written last;

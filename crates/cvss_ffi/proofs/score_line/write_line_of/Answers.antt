@@ -18,7 +18,7 @@ score_short tenths within =
     simp length-append (omega (arith, units, digit))
 
 -- a text after which another one was written already
-module _ (own rest old middle : List ℕ) (place reported : ℕ) (own_is : length own ≡ place) (at : IsWrittenAt place rest old middle reported) where
+module _ (own rest old middle : List ℕ) (offset reported : ℕ) (own_is : length own ≡ offset) (at : IsWrittenAt offset rest old middle reported) where
   whole : reported ≡ length (own ++ rest)
   whole = omega (arith, at.reported_is, own_is, length-append own rest)
 
@@ -28,9 +28,9 @@ module _ (own rest old middle : List ℕ) (place reported : ℕ) (own_is : lengt
   both_written : (new : List ℕ) (given : ℕ) → reported ≤ length old → IsWritten own middle new given → IsWritten (own ++ rest) old new reported
   both_written new given fits first =
       let middle_is = at.there fits in
-      let taken = length-take-le place old (omega (arith, fits, at.reported_is)) in
-      let after = rw taken at (drop-append_seam (take place old) (rest ++ drop reported old)) in
-      let room : length own ≤ length middle = omega (arith, own_is, taken, ap length middle_is, length-append (take place old) (rest ++ drop reported old)) in
+      let taken = length-take-le offset old (omega (arith, fits, at.reported_is)) in
+      let after = rw taken at (drop-append_seam (take offset old) (rest ++ drop reported old)) in
+      let room : length own ≤ length middle = omega (arith, own_is, taken, ap length middle_is, length-append (take offset old) (rest ++ drop reported old)) in
       record {
         reported_is = whole;
         now_is = rw (le-leb (length (own ++ rest)) (length old) (omega (arith, whole, fits)))

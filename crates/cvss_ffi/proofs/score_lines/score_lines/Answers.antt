@@ -9,33 +9,33 @@ use Rattle.cvss_ffi.specs.ScoreLines.{HasWritten, IsLineOf, IsScoreLine, ended}
 use Rattle.cvss_ffi.proofs.score_lines.score_lines.Goals as goal
 
 -- a text that is written into the rest of a buffer, which is as long as this
-module _ (old first buffer text part : List ℕ) (place reported : ℕ) (put : HasPut old first buffer place) (written : IsWritten text (mid_of place (length buffer - place) buffer) part reported) where
+module _ (old first buffer text part : List ℕ) (offset reported : ℕ) (put : HasPut old first buffer offset) (written : IsWritten text (mid_of offset (length buffer - offset) buffer) part reported) where
   abbrev size : ℕ
-  size = length buffer - place
+  size = length buffer - offset
 
-  after : drop place buffer ≡ drop (length first) old
-  after = rw (put.begins, put.place_is) (drop-append_seam first (drop (length first) old))
+  after : drop offset buffer ≡ drop (length first) old
+  after = rw (put.begins, put.offset_is) (drop-append_seam first (drop (length first) old))
 
-  rest_is : mid_of place size buffer ≡ drop (length first) old
-  rest_is = take_all size (drop place buffer) (omega (arith, length-drop place buffer)) ∙ after
+  rest_is : mid_of offset size buffer ≡ drop (length first) old
+  rest_is = take_all size (drop offset buffer) (omega (arith, length-drop offset buffer)) ∙ after
 
-  whole : put_mid place size buffer part ≡ first ++ part
-  whole = ap₂ (λ front back. front ++ (part ++ back)) (rw (put.begins, put.place_is) (take-append_seam first (drop (length first) old))) (drop_all size (drop place buffer) (omega (arith, length-drop place buffer)))
+  whole : put_mid offset size buffer part ≡ first ++ part
+  whole = ap₂ (λ front back. front ++ (part ++ back)) (rw (put.begins, put.offset_is) (take-append_seam first (drop (length first) old))) (drop_all size (drop offset buffer) (omega (arith, length-drop offset buffer)))
       ∙ ap (λ back. first ++ back) (append-nil part)
 
   room : length (drop (length first) old) ≡ size
-  room = ap length (sym after) ∙ length-drop place buffer
+  room = ap length (sym after) ∙ length-drop offset buffer
 
-  part_left : size < reported → put_mid place size buffer part ≡ buffer
+  part_left : size < reported → put_mid offset size buffer part ≡ buffer
   part_left large = whole ∙ ap (λ back. first ++ back) (rw (rest_is, lt-leb (length text) (length (drop (length first) old)) (omega (arith, large, room, written.reported_is))) at written.now_is) ∙ sym put.begins
 
-  part_put : reported ≤ size → HasPut old (first ++ text) (put_mid place size buffer part) (place + reported)
+  part_put : reported ≤ size → HasPut old (first ++ text) (put_mid offset size buffer part) (offset + reported)
   part_put fits = record {
     begins = whole
         ∙ ap (λ back. first ++ back) (rw (rest_is, le-leb (length text) (length (drop (length first) old)) (omega (arith, fits, room, written.reported_is))) at written.now_is)
         ∙ sym (append_assoc first text _)
         ∙ ap (λ back. (first ++ text) ++ back) (drop-drop (length text) (length first) old ∙ ap (λ n. drop n old) (sym (length-append first text)));
-    place_is = omega (arith, put.place_is, written.reported_is, length-append first text);
+    offset_is = omega (arith, put.offset_is, written.reported_is, length-append first text);
   }
 
 pub loop-line-init : goal.loop-line-init
@@ -44,7 +44,7 @@ loop-line-init c = record {
   texts_are = refl;
   lines = [];
   are = record { pairs = []; each = All-nil _; given_are = refl; lines_are = refl };
-  put = record { begins = refl; place_is = refl };
+  put = record { begins = refl; offset_is = refl };
 }
 
 pub loop-line-preserved : goal.loop-line-preserved

@@ -4,10 +4,10 @@ use Rattle.std.proofs.lemmas.List.{get_or-drop, take_rest}
 use Rattle.cvss_lines.specs.Search.{IsFirstOf}
 use Rattle.cvss_lines.proofs.search.either_or_len.Goals as goal
 
--- a byte is not before a place after bytes without it, where it is not before that place in the rest
-without : (byte : ℕ) (bytes : List ℕ) (at place : ℕ) → ((k : ℕ) → k < at → get_or bytes k 0 ≢ byte)
-    → ((k : ℕ) → k < place → get_or (drop at bytes) k 0 ≢ byte) → (k : ℕ) → k < at + place → get_or bytes k 0 ≢ byte
-without byte bytes at place front rest k below = elim (cases_lt k at) [
+-- a byte is not before an index after bytes without it, where it is not before that index in the rest
+without : (byte : ℕ) (bytes : List ℕ) (at index : ℕ) → ((k : ℕ) → k < at → get_or bytes k 0 ≢ byte)
+    → ((k : ℕ) → k < index → get_or (drop at bytes) k 0 ≢ byte) → (k : ℕ) → k < at + index → get_or bytes k 0 ≢ byte
+without byte bytes at index front rest k below = elim (cases_lt k at) [
   | inl before ↦ front k before
   | inr after ↦
       let same_byte : get_or (drop at bytes) (k - at) 0 ≡ get_or bytes k 0 =
@@ -16,13 +16,13 @@ without byte bytes at place front rest k below = elim (cases_lt k at) [
 ]
 
 -- the first byte of two after bytes that have none
-after : (one other : ℕ) (bytes : List ℕ) (at place : ℕ) → at ≤ length bytes → ((k : ℕ) → k < at → get_or bytes k 0 ≢ one)
-    → ((k : ℕ) → k < at → get_or bytes k 0 ≢ other) → IsFirstOf one other (drop at bytes) place → IsFirstOf one other bytes (at + place)
-after one other bytes at place within no_one no_other p = record {
+after : (one other : ℕ) (bytes : List ℕ) (at index : ℕ) → at ≤ length bytes → ((k : ℕ) → k < at → get_or bytes k 0 ≢ one)
+    → ((k : ℕ) → k < at → get_or bytes k 0 ≢ other) → IsFirstOf one other (drop at bytes) index → IsFirstOf one other bytes (at + index)
+after one other bytes at index within no_one no_other p = record {
   within = omega (arith, p.within, length-drop at bytes);
-  without_one = without one bytes at place no_one p.without_one;
-  without_other = without other bytes at place no_other p.without_other;
-  found = λ below. subst (λ byte. (byte ≡ one) ⊎ (byte ≡ other)) (get_or-drop at bytes place 0) (p.found (omega (arith, length-drop at bytes)));
+  without_one = without one bytes at index no_one p.without_one;
+  without_other = without other bytes at index no_other p.without_other;
+  found = λ below. subst (λ byte. (byte ≡ one) ⊎ (byte ≡ other)) (get_or-drop at bytes index 0) (p.found (omega (arith, length-drop at bytes)));
 }
 
 pub returns : goal.returns

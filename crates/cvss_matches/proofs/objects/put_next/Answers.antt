@@ -1,4 +1,4 @@
-use Rattle.std.proofs.Common.{◌≡◌, ◌+◌, arith, codes, decimal, refl, subst, sym}
+use Rattle.std.proofs.Common.{◌≡◌, ◌+◌, arith, codes, decimal, refl, subst}
 use Rattle.std.specs.Fmt.{digits}
 use Rattle.cvss_json.specs.Sinks.{Adds}
 use Rattle.cvss_matches.proofs.objects.put_next.Goals as goal

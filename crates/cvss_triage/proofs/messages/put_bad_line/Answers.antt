@@ -2,4 +2,4 @@ use Rattle.cvss_json.proofs.AddsLemmas.{join2}
 use Rattle.cvss_triage.proofs.messages.put_bad_line.Goals as goal
 
 pub returns : goal.returns
-returns g c = join2 c.push.ensures (join2 c.put_place.ensures (join2 c.put_why.ensures c.push-2.ensures))
+returns g c = join2 c.push.ensures (join2 c.put_location.ensures (join2 c.put_why.ensures c.push-2.ensures))

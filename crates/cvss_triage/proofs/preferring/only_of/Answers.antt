@@ -1,6 +1,6 @@
 use Rattle.std.proofs.Common.{List, ◌∷◌, ◌∙◌, ap, sym, unwrap_or}
 use Rattle.std.proofs.lemmas.Bool.{false≢true}
-use Rattle.cvss_matches.specs.CandidatesLeft.{as_placed, candidates_left}
+use Rattle.cvss_matches.specs.CandidatesLeft.{as_candidate, candidates_left}
 use Rattle.cvss_matches.specs.Matches.{candidates_of}
 use Rattle.cvss_vector.specs.declared.vector.Cvss.{Cvss}
 use Rattle.cvss_triage.proofs.PickingLemmas.{begins_more, contains_before, contains_match, none_denoted, only_differs, only_other, only_picked, only_same}
@@ -12,7 +12,7 @@ returns-in_err-cvss-clause-picked c = λ overrides scoring allow_incomplete.
     let Is : List Cvss → Type 0 = λ vectors. IsOnly c.args.version vectors c.loop-found.only in
     rw c.from_residual.ensures
     (λ first more are. absurd (
-    none_denoted Is (candidates_of c.args.line.now) (candidates_left c.loop-found.matches) c.loop-found.invariant.0 (candidates_left c.next.new.self) (as_placed c.in-Some.found) c.in-Some.ensures.steps
+    none_denoted Is (candidates_of c.args.line.now) (candidates_left c.loop-found.matches) c.loop-found.invariant.0 (candidates_left c.next.new.self) (as_candidate c.in-Some.found) c.in-Some.ensures.steps
     (λ cvss denoted. let given = c.in_err-cvss.ensures.accepts cvss denoted in absurd cc) (first ∷ more) are))
 
 pub returns-then-not-is_same-clause-picked : goal.returns-then-not-is_same-clause-picked
@@ -27,7 +27,7 @@ returns-then-not-is_same-clause-picked c = λ overrides scoring allow_incomplete
     only_differs version begins.vectors all c.loop-found.only cvss begins.is (c.is_of.ensures.0 c.if-is_of.true)
     (λ same. absurd (false≢true (sym c.if-not-is_same.true ∙ c.is_same.ensures.1 same)))
     (λ own contained. contains_before Is candidates left begins own contained all are)
-    (contains_match Is candidates left begins (candidates_left c.next.new.self) (as_placed c.in-Some.found) c.in-Some.ensures.steps cvss
+    (contains_match Is candidates left begins (candidates_left c.next.new.self) (as_candidate c.in-Some.found) c.in-Some.ensures.steps cvss
     (λ other denoted. sym (ap (λ read. unwrap_or read other) (c.in_ok-cvss.ensures.accepts other denoted))) all are)
 
 pub loop-found-preserved-then-is_of : goal.loop-found-preserved-then-is_of
@@ -37,7 +37,7 @@ loop-found-preserved-then-is_of c =
     let Is : List Cvss → Type 0 = λ vectors. IsOnly version vectors only in
     let begins = c.loop-found.invariant.0 in
     let cvss = c.in_ok-cvss.cvss in (
-      begins_more Is (candidates_of c.args.line.now) (candidates_left c.loop-found.matches) begins (candidates_left c.next.new.self) (as_placed c.in-Some.found) c.in-Some.ensures.steps
+      begins_more Is (candidates_of c.args.line.now) (candidates_left c.loop-found.matches) begins (candidates_left c.next.new.self) (as_candidate c.in-Some.found) c.in-Some.ensures.steps
           _ cvss c.in_ok-cvss.ensures.denoted (λ other denoted. sym (ap (λ read. unwrap_or read other) (c.in_ok-cvss.ensures.accepts other denoted)))
           (λ vectors is. only_same version vectors cvss only (c.is_of.ensures.0 c.if-is_of.true) (c.is_same.ensures.0 c.if-not-is_same.false) is),
       c.in_ok-cvss.ensures.scored,
@@ -50,7 +50,7 @@ loop-found-preserved c =
     let Is : List Cvss → Type 0 = λ vectors. IsOnly version vectors only in
     let begins = c.loop-found.invariant.0 in
     let cvss = c.in_ok-cvss.cvss in (
-      begins_more Is (candidates_of c.args.line.now) (candidates_left c.loop-found.matches) begins (candidates_left c.next.new.self) (as_placed c.in-Some.found) c.in-Some.ensures.steps
+      begins_more Is (candidates_of c.args.line.now) (candidates_left c.loop-found.matches) begins (candidates_left c.next.new.self) (as_candidate c.in-Some.found) c.in-Some.ensures.steps
           _ cvss c.in_ok-cvss.ensures.denoted (λ other denoted. sym (ap (λ read. unwrap_or read other) (c.in_ok-cvss.ensures.accepts other denoted)))
           (λ vectors is. only_other version vectors cvss only (λ same. absurd (false≢true (sym c.if-is_of.false ∙ c.is_of.ensures.1 same))) is),
       c.loop-found.invariant.1,

@@ -7,7 +7,7 @@ use Rattle.cvss_triage.proofs.report.report_bad.Given as goal
 -- however the lines that are left are reported, all are so
 abbrev pub invariant-loop-it : goal.invariant-loop-it
 invariant-loop-it g l =
-    let places = l.fn.places in
-    let Step = ReportsBadLine places.form (rows_of places.lines.now) places.starts.now places.many places.operands.now in
+    let locations = l.fn.locations in
+    let Step = ReportsBadLine locations.form (rows_of locations.lines.now) locations.starts.now locations.many locations.operands.now in
     (last : Reported) → ReportsEach Step (drop l.it-index l.fn.bad) (reported g.E.Write.contents l.report) last
     → ReportsEach Step l.fn.bad (reported g.E.Write.contents l.fn.report) last

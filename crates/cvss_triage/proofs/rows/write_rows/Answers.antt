@@ -9,14 +9,14 @@ use Rattle.cvss_triage.proofs.rows.write_rows.Goals.{then-shows+in_ok-write_row,
 
 pub loop-row-init : goal.loop-row-init
 loop-row-init c =
-    let places = c.args.places.now in
-    texts_none (IsRowText c.args.style.now places.starts.now places.many places.operands.now) c.args.text.now.bytes.items
+    let locations = c.args.locations.now in
+    texts_none (IsRowText c.args.style.now locations.starts.now locations.many locations.operands.now) c.args.text.now.bytes.items
 
 pub loop-row-preserved : goal.loop-row-preserved
 loop-row-preserved c =
     let gate = c.args.gate in
-    let places = c.args.places.now in
-    let IsText = IsRowText c.args.style.now places.starts.now places.many places.operands.now in
+    let locations = c.args.locations.now in
+    let IsText = IsRowText c.args.style.now locations.starts.now locations.many locations.operands.now in
     let rows = c.args.rows.now in
     let index = c.loop-row.row-index in
     let old = c.args.text.now.bytes.items in

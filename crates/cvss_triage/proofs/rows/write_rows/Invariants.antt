@@ -6,5 +6,5 @@ use Rattle.cvss_triage.proofs.rows.write_rows.Given as goal
 
 abbrev pub invariant-loop-row : goal.invariant-loop-row
 invariant-loop-row l =
-    WritesRow (AreRowTexts (IsRowText l.fn.style l.fn.places.starts.now l.fn.places.many l.fn.places.operands.now) (shown_rows l.fn.gate (take l.row-index l.fn.rows)))
+    WritesRow (AreRowTexts (IsRowText l.fn.style l.fn.locations.starts.now l.fn.locations.many l.fn.locations.operands.now) (shown_rows l.fn.gate (take l.row-index l.fn.rows)))
     l.fn.text.bytes.items l.text.bytes.items

@@ -11,18 +11,18 @@ use cvss_metric::v2::MetricValue;
 use cvss_text::fast_path::{put_read, rest_after_name};
 use cvss_text::values::letter_in_order;
 
-/// Puts the value of a metric into its place, if a text begins with a slash and its component, and
+/// Puts the value of a metric into its field, if a text begins with a slash and its component, and
 /// gives what follows that; else no value, and the text.
 #[inline(always)]
-pub(super) fn put_value<'a, M: MetricValue>(place: &mut Option<M>, text: &'a [u8]) -> &'a [u8]
-    ensures { text.now ≡ shown (name_of M.KIND) (λ value. spelling_of M.KIND (M.value value)) place.new
+pub(super) fn put_value<'a, M: MetricValue>(field: &mut Option<M>, text: &'a [u8]) -> &'a [u8]
+    ensures { text.now ≡ shown (name_of M.KIND) (λ value. spelling_of M.KIND (M.value value)) field.new
         ++ result.now }
 {
     let read = match rest_after_name(M::KIND.name(), text) {
         Some(value) => value_in_order(value),
         None => None,
     };
-    put_read(place, read, text)
+    put_read(field, read, text)
 }
 
 /// The value of a metric, where a text begins with its spelling up to a slash, and what is

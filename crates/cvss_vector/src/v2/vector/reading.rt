@@ -140,7 +140,7 @@ impl<M: MetricValue> Spells<M> for Vector {
     }
 }
 
-/// What filling the place of a metric answered. A law: where all else is kept, the value is put into
+/// What filling the field of a metric answered. A law: where all else is kept, the value is put into
 /// the vector.
 fn filled(
     kind: MetricType,

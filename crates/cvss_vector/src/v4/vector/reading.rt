@@ -201,7 +201,7 @@ fn urgency_in_order(text: &[u8]) -> Option<(table::U, &[u8])>
     Some((urgency, &[]))
 }
 
-/// What filling the place of a metric answered. A law: where all else is kept, the value is put into
+/// What filling the field of a metric answered. A law: where all else is kept, the value is put into
 /// the vector.
 fn filled(
     kind: MetricType,

@@ -1,6 +1,6 @@
 use Rattle.std.proofs.Common.{ap, ◌∙◌}
 use Rattle.cvss_csv.specs.Fields.{comma}
-use Rattle.cvss_csv.specs.declared.place.Place.TheVariants.{Start}
+use Rattle.cvss_csv.specs.declared.state.State.TheVariants.{Start}
 use Rattle.cvss_csv.specs.private.Cutting.{fields_of_rest}
 use Rattle.cvss_csv.proofs.CuttingLemmas.{cut_first_piece, cut_whole}
 use Rattle.cvss_csv.proofs.fields.Fields.cut_next.Goals as goal

@@ -1,4 +1,4 @@
-use Rattle.std.proofs.Common.{◌<◌, [], arith, length, subst}
+use Rattle.std.proofs.Common.{◌<◌, [], arith, length, subst, ◌∙◌}
 use Rattle.std.proofs.lemmas.Bool.Decides.{nat_tests}
 use Rattle.std.proofs.lemmas.List.{nil_from_length}
 use Rattle.std.proofs.lemmas.Result.{IfErr-weaker, on_ok_weaker}
@@ -11,10 +11,13 @@ returns-then-is_empty-clause-answered c = EndsInput_none c.args.column c.args.se
 
 pub returns-clause-answered : goal.returns-clause-answered
 returns-clause-answered c =
-    let some : 0 < length c.args.self.now.cut.items = grind (arith, nat_tests) in
+    let old = c.args.self.now in
+    let new = c.answer_record.new.self in
+    let some : 0 < length old.cut.items = grind (arith, nat_tests) in
     on_ok_weaker c.answer_record.result
-    (λ answers. EndsInput_record c.args.column c.args.self.now (record c.args.self.now { progress = c.answer_record.new.self }) some
-    (subst (λ body. AnswersRecord c.args.column body [] c.args.self.now.progress c.answer_record.new.self) c.deref.ensures.value answers))
+    (λ answers. EndsInput_record c.args.column old (record old { progress = new }) some
+    (subst (λ body. AnswersRecord c.args.column body [] old.progress new) (c.last-last.ensures.body ∙ c.deref.ensures.value)
+    (subst (λ line_end. AnswersRecord c.args.column c.last-last.result.body.now line_end old.progress new) c.last-last.ensures.line_end answers)))
     c.answer_record.ensures.answered
 
 pub returns-clause-stopped : goal.returns-clause-stopped
@@ -22,5 +25,5 @@ returns-clause-stopped c =
     let some : 0 < length c.args.self.now.cut.items = grind (arith, nat_tests) in
     IfErr-weaker c.answer_record.result _ _
     (λ fault cannot. StopsEnding_record c.args.column c.args.self.now fault some
-    (subst (λ body. CannotAnswer c.args.column body c.args.self.now.progress fault) c.deref.ensures.value cannot))
+    (subst (λ body. CannotAnswer c.args.column body c.args.self.now.progress fault) (c.last-last.ensures.body ∙ c.deref.ensures.value) cannot))
     c.answer_record.ensures.stopped

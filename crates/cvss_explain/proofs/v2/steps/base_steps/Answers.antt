@@ -16,7 +16,7 @@ returns c =
           near_step (f (impact w)) c.factor.result _ (omega (arith, ints, c.factor.ensures.limit)) (lit< tt) c.factor.ensures.value c.nearest-3.ensures,
           (
             near_step (base_number (impact w) (exploitability w)) c.base_number.result _ (omega (arith, ints, c.base_number.ensures.limit)) (lit< tt) c.base_number.ensures.value c.nearest-4.ensures,
-            (published_step (IsBase w (impact w)) c.args.base c.raised_to_zero.result _ (omega (arith, c.raised_to_zero.ensures.to_ten)) raised c.requires.base c.score.ensures, tt),
+            (published_step (IsBase w (impact w)) c.args.base c.raised_to_zero.result _ (omega (arith, c.raised_to_zero.ensures.to_ten)) raised c.requires.base c.rated.ensures, tt),
           ),
         ),
       ),

@@ -27,7 +27,7 @@ returns c =
           (
             near_of_step of_temporal temporal c.requires.temporal
                 (exact_step (IsNear (of_temporal temporal)) number _ (omega (arith, ints, scale.low, scale.high)) (near_itself (of_temporal temporal) number (lit< tt) value) c.exact.ensures),
-            (published_step (IsEnvironmental w) score c.raised_to_zero.result _ (omega (arith, c.raised_to_zero.ensures.to_ten)) raised c.environmental-score.ensures.value c.score.ensures, tt),
+            (published_step (IsEnvironmental w) score c.raised_to_zero.result _ (omega (arith, c.raised_to_zero.ensures.to_ten)) raised c.environmental-score.ensures.value c.rated.ensures, tt),
           ),
         ),
       ),

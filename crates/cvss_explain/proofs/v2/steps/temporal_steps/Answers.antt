@@ -15,5 +15,5 @@ returns c =
     let raised = simp (to_z-of_z w64 score (search rules)) at c.raised_to_zero.ensures.value in (
       near_of_step of_base c.args.base c.requires.base
           (near_step (of_base c.args.base) c.temporal_number.result _ (omega (arith, ints, c.temporal_number.ensures.limit)) (lit< tt) value c.nearest.ensures),
-      (published_step (IsTemporal w (impact w)) score c.raised_to_zero.result _ (omega (arith, c.raised_to_zero.ensures.to_ten)) raised c.temporal-score.ensures.value c.score.ensures, tt),
+      (published_step (IsTemporal w (impact w)) score c.raised_to_zero.result _ (omega (arith, c.raised_to_zero.ensures.to_ten)) raised c.temporal-score.ensures.value c.rated.ensures, tt),
     )

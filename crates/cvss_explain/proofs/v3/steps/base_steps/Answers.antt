@@ -5,6 +5,7 @@ use Rattle.cvss_score.specs.v3.Scores.{IsBaseScore, base_number, exploitability,
 use Rattle.cvss_explain.proofs.CloseLemmas.{impact_bottom}
 use Rattle.cvss_explain.proofs.StepLemmas.{near_by_step, near_step, near_units_step, score_step}
 use Rattle.cvss_explain.specs.declared.step.Amount.TheVariants.{Rated}
+use Rattle.cvss_vector.specs.declared.published.Bounds.TheVariants.{SinceV3}
 use Rattle.cvss_explain.proofs.v3.steps.base_steps.Goals as goal
 
 pub returns : goal.returns
@@ -17,7 +18,7 @@ returns c =
           near_step (exploitability w) c.exploitability.result _ (omega (arith, ints, c.exploitability.ensures.limit)) (lit< tt) c.exploitability.ensures.value c.nearest-3.ensures,
           (
             near_units_step _ (base_number w) c.base_units.result _ (omega (arith, c.base_units.ensures.to_ten)) (base_bottom w) (c.base_units.ensures.value 0).near c.nearest_units.ensures,
-            (score_step Rated (IsBaseScore c.args.minor w) c.args.base _ (omega arith) (search (rules, c.requires.base)) c.rated.ensures, tt),
+            (score_step (Rated SinceV3) (IsBaseScore c.args.minor w) c.args.base _ (omega arith) (search (rules, c.requires.base)) c.rated.ensures, tt),
           ),
         ),
       ),

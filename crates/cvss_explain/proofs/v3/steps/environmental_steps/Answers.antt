@@ -10,6 +10,7 @@ use Rattle.cvss_explain.proofs.StepLemmas.{exact_step, near_by_step, near_of_ste
 use Rattle.cvss_explain.specs.Near.{IsNear}
 use Rattle.cvss_explain.specs.V3.{IsFirst}
 use Rattle.cvss_explain.specs.declared.step.Amount.TheVariants.{Rated, Score}
+use Rattle.cvss_vector.specs.declared.published.Bounds.TheVariants.{SinceV3}
 use Rattle.cvss_explain.proofs.v3.steps.environmental_steps.Goals as goal
 
 pub returns : goal.returns
@@ -31,7 +32,7 @@ returns c =
               (
                 near_of_step of_tenths (pos c.args.first) c.requires.first
                     (exact_step (IsNear (of_tenths (pos c.args.first))) (pos units) _ (omega (arith, ints, c.temporal_units.ensures.to_ten)) near c.exact.ensures),
-                (score_step Rated (IsEnvironmentalScore minor w) c.times_temporal.result _ (omega (arith, c.times_temporal.ensures.to_ten)) (search (rules, c.requires.first, c.times_temporal.ensures.value)) c.rated.ensures, tt),
+                (score_step (Rated SinceV3) (IsEnvironmentalScore minor w) c.times_temporal.result _ (omega (arith, c.times_temporal.ensures.to_ten)) (search (rules, c.requires.first, c.times_temporal.ensures.value)) c.rated.ensures, tt),
               ),
             ),
           ),

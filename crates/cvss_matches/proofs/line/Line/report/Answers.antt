@@ -1,6 +1,6 @@
 use Rattle.std.proofs.Common.{subst}
 use Rattle.cvss_lines.specs.Answers.{WritesAnswer}
-use Rattle.cvss_matches.specs.CandidatesLeft.{as_placed}
+use Rattle.cvss_matches.specs.CandidatesLeft.{as_candidate}
 use Rattle.cvss_matches.proofs.ReportingLemmas.{WritesReported-answer}
 use Rattle.cvss_matches.specs.Answers.{answered_bytes, answers_as, with_version}
 use Rattle.cvss_matches.specs.Decoding.{decoded}
@@ -10,7 +10,7 @@ use Rattle.cvss_matches.proofs.line.Line.report.Goals as goal
 pub returns : goal.returns
 returns c =
     let asked = asked_of c.args.self in
-    let candidate = as_placed c.args.found in
+    let candidate = as_candidate c.args.found in
     let rule = answers_as asked.form asked.scoring asked.allow_incomplete in
     WritesReported-answer asked candidate c.args.answers.now.bytes.items _ _ _ _
     c.in_ok-write_before.ensures

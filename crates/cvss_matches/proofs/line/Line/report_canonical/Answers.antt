@@ -16,5 +16,5 @@ returns c =
     c.args.answers.now.bytes.items c.write_canonical.new.answers.bytes.items true)
     (sym c.requires.gate)
     (canonical_reported line.prefix.now line.scoring line.allow_incomplete line.assumed line.number text c.args.published c.args.answers.now.bytes.items _ _ _ c.requires.published
-    c.in_ok-write_prefix.ensures c.in_ok-write_first_place.ensures
+    c.in_ok-write_prefix.ensures c.in_ok-write_first_location.ensures
     (complete_written line.scoring line.allow_incomplete line.number text c.args.published _ _ c.requires.published c.in_ok-write_canonical.ensures)))

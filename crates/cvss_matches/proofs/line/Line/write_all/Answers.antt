@@ -1,4 +1,4 @@
-use Rattle.cvss_matches.specs.CandidatesLeft.{as_placed, candidates_left}
+use Rattle.cvss_matches.specs.CandidatesLeft.{as_candidate, candidates_left}
 use Rattle.cvss_matches.proofs.ReportingLemmas.{Reports-next, Reports-start, shown_all}
 use Rattle.cvss_matches.specs.private.Reporting.{asked_of}
 use Rattle.cvss_matches.proofs.line.Line.write_all.Goals as goal
@@ -8,7 +8,7 @@ loop-found-init c = Reports-start (asked_of c.args.self) c.args.answers.now.byte
 
 pub loop-found-preserved : goal.loop-found-preserved
 loop-found-preserved c =
-    Reports-next (asked_of c.args.self) (candidates_left c.loop-found.matches) _ (as_placed c.in-Some.found)
+    Reports-next (asked_of c.args.self) (candidates_left c.loop-found.matches) _ (as_candidate c.in-Some.found)
     c.args.answers.now.bytes.items c.loop-found.answers.bytes.items _ c.loop-found.accepted _
     c.loop-found.invariant c.in-Some.ensures.steps c.in_ok-accepted.ensures
 

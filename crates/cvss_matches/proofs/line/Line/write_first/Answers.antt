@@ -1,13 +1,13 @@
 use Rattle.std.proofs.Common.{subst}
 use Rattle.std.proofs.lemmas.Result.{IfOk-weaker}
-use Rattle.cvss_matches.specs.CandidatesLeft.{IsFirstFound, NoneFound, as_placed, candidates_left}
+use Rattle.cvss_matches.specs.CandidatesLeft.{IsFirstFound, NoneFound, as_candidate, candidates_left}
 use Rattle.cvss_matches.proofs.ReportingLemmas.{shown_first, shown_none}
 use Rattle.cvss_matches.specs.private.Reporting.{asked_of}
 use Rattle.cvss_matches.proofs.line.Line.write_first.Goals as goal
 
 pub returns-in-Some : goal.returns-in-Some
 returns-in-Some c =
-    let candidate = as_placed c.in-Some.found in
+    let candidate = as_candidate c.in-Some.found in
     let left = candidates_left c.next.new.self in
     IfOk-weaker c.keep.result _ _
     (λ accepted written. shown_first (asked_of c.args.self) candidate left c.args.answers.now.bytes.items _ accepted

@@ -7,4 +7,5 @@ pub returns : goal.returns
 returns c = record {
   exploitability = near_equal _ _ _ (lit< tt) c.exploitability.ensures.value c.nearest_v3.ensures;
   impact = near_by _ _ _ _ (impact_bottom (weights_of c.args.vector.now)) c.scoped_impact.ensures.close c.scoped_impact.ensures.exact c.nearest_v3-2.ensures;
+  sign = rw c.weights.ensures.value at c.is_below_zero.ensures;
 }

@@ -1,8 +1,0 @@
-use Rattle.std.proofs.Common.{refl}
-use Rattle.serde_json.specs.View.{view}
-use Rattle.cvss_audit.proofs.PlacesLemmas.{places_of_document}
-use Rattle.cvss_audit.proofs.places.walk.vectors_in.Goals as goal
-
-pub returns : goal.returns
-returns c =
-    places_of_document (view c.args.document.now) _ c.new.result.items c.enter.new.self.levels.items c.new.ensures.items refl c.in_ok-enter.ensures

@@ -1,7 +1,0 @@
-use Rattle.std.proofs.Common.{ap, sym, ◌∙◌}
-use Rattle.cvss_csv.specs.Records.{is_open}
-use Rattle.cvss_csv.proofs.ReadingLemmas.{ended_is_closed}
-use Rattle.cvss_csv.proofs.pending.answer_ended.Goals as goal
-
-pub answer_record-requires : goal.answer_record-requires
-answer_record-requires c = sym (ap is_open c.cut_line_end.ensures.body ∙ ended_is_closed c.args.piece.now c.requires)
