@@ -66,9 +66,9 @@ def difference(actual, expected, at=""):
 
 
 def is_as_written(line):
-    """Whether the members are in the order of their names, with nothing between them."""
+    """Whether the members are in the order of their names, with nothing between them, and what is hidden is escaped."""
     again = json.dumps(json.loads(line), sort_keys=True, separators=(",", ":"), ensure_ascii=False)
-    return again == line
+    return complete.shown(again) == line
 
 
 def run(given, end, *options, room=None):
@@ -79,7 +79,7 @@ def run(given, end, *options, room=None):
     if done.stderr:
         sys.exit(f"cvss explain: {done.stderr!r}")
     own, named = ("{", '{{"file":{},'.format) if "--json" in options else ("", "{}:".format)
-    names = {name: json.dumps(name, ensure_ascii=False) if own else name for name in given}
+    names = {name: json.dumps(name, ensure_ascii=False) if own else complete.shown(name) for name in given}
     read = [(named(names[name]) if len(given) > 1 else own, number, line) for name, content in given.items()
             for number, line in enumerate(reference.lines_of_file(content), 1)]
     answers = done.stdout.decode("utf-8").split(end)
