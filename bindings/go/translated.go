@@ -146,158 +146,158 @@ const constants = "CVSS.3.14.03.0LAN\x00\x00\x00\x00\x00\x00\x00(\x03\x00\x00\x0
 	"6-\x14K527(\x14+\x16\x0bK:(=0\x14.\x11\x087-\x153\x12\x09\x12\x07\x025\x18\x0e\x18\x0c\x05\x0a\x03\x01\x00\x01\x03\x00\x00H\x03\x00\x00\xd2\x00\x00\x00\xa8\x00\x00\x00\x00\x01\x00\x00H\x03\x00\x00\xa4\x01\x00\x00\x00\x03\x01\x03\x03\x00\x00\x00x\x00\x00\x00\x8c\x00\x00\x00i\x00\x00\x00i\x00\x00\x00T\x00\x00\x00\x01\x03\x06\x00" +
 	"\x8c\x00\x00\x00\xa8\x00\x00\x00\xd2\x00\x00\x00RTObase\x00\x00\x00\x00\x00\x00\x00\x00\x00\x01\x00\x00\x00\x00\x00\x00\x00\x00\x00\x00\x00\x00\x00\x00\x00\x02\x00\x00\x00\x00\x00\x00\x00\x00\x00\x00\x00\x00\x00\x00\x00\x00\x00\x00\x00\x00\x00\x00\x00\x00\x00\x00\x00\x00\x00\x00\x00\x03\x00\x00\x00\x00\x00\x00\x00\x00\x00\x00\x00\x00\x00\x00\x00\x04\x00\x00\x00\x00\x00\x00\x00" +
 	"environmental\x00\x00\x00\x00\x00\x00\x00\x00\x00\x00\x00\x01\x00\x00\x00\x00\x00\x00\x00\x00\x00\x00\x00\x00\x00\x00\x00\x00\x00\x00\x00\x00\x00\x00\x00\x00\x00\x00\x00\x00\x00\x00\x00\x02\x00\x00\x00\x00\x00\x00\x00\x00\x00\x00\x00\x00\x00\x00\x00\x03\x00\x00\x00\x00\x00\x00\x00\x00\x00\x00\x00\x00\x00\x00\x00\x04\x00\x00\x00\x00\x00\x00\x00line" +
-	"scoreseveritytemporal\x00\x00\x00\x00\x00\x00\x00\x00\x00\x00\x00\x00\x00\x00\x00\x00\x00\x00\x00\x00\x00\x00\x00\x00\x00\x00\x00\x00\x00\x00\x00\x01\x00\x00\x00\x00\x00\x00\x00vectorversionweights\x22:\x00\x01\x0d\x02\x03\x04\x09\x0b\x06\x05\x0c\x08\x07\x0a\x00\x0c\x01\x02" +
-	"\x0d\x0b\x0e\x03\x04\x05\x06\x07\x08\x09\x0anonelowmediumhighcriticalCVSS:4.CVSS:3.YID2.0null\x00\x00\x00\x00@B\x0f\x00\x00\x00\x00\x00\xa0\x86\x01\x00\x00\x00\x00\x00\x10'\x00\x00\x00\x00\x00\x00\xe8\x03\x00\x00\x00\x00\x00\x00d\x00\x00\x00" +
-	"\x00\x00\x00\x00\x0a\x00\x00\x00\x00\x00\x00\x00\x01\x00\x00\x00\x00\x00\x00\x00issimpactexploitabilityfnumbermissmodifiedImpactmodifiedExploitabilityfirstNumbe" +
-	"rfirstScoreadjustedImpactadjustedBaseadjustedTemporal[]EQ1EQ2EQ3+EQ6EQ4EQ5classdepthdistancegapgroup" +
-	"nextnextValueshareeffectivegroupsmacroVectormeannomenclaturevalueCVSS-BCVSS-BECVSS-BTCVSS-BTE\x00\x00\x00\x00\x00\x00\x00" +
-	"\x00\x00\x00\x00\x00\x00\x00\x00\x02\x00\x00\x00\x00\x00\x00\x00\x00\x00\x00\x00\x00\x00\x00\x00\x01\x00\x00\x00\x00\x00\x00\x00\x00\x00\x00\x00\x00\x00\x00\x00\x00\x00\x00\x00\x00\x00\x00\x00\x00\x00\x00\x00\x00\x00\x00\x00\x03\x00\x00\x00\x00\x00\x00\x00\x00\x00\x00\x00\x00\x00\x00\x00\x04\x00\x00\x00\x00\x00\x00\x00\x01\x00\x00\x00\x00\x00\x00\x00\x04\x00\x00\x00\x00\x00\x00\x00\x00\x00\x00\x00" +
-	"\x00\x00\x00\x00\x03\x00\x00\x00\x00\x00\x00\x00\x00\x00\x00\x00\x00\x00\x00\x00\x04\x00\x00\x00\x00\x00\x00\x00\x00\x00\x00\x00\x00\x00\x00\x00\x00\x00\x00\x00\x00\x00\x00\x00\x00\x00\x00\x00\x00\x00\x00\x00\x02\x00\x00\x00\x00\x00\x00\x00\x00\x00\x00\x00\x00\x00\x00\x00\x01\x00\x00\x00\x00\x00\x00\x00\x00\x00\x00\x00\x00\x00\x00\x00\x05\x00\x00\x00\x00\x00\x00\x00\x00\x00\x00\x00\x00\x00\x00\x00" +
-	"\x06\x00\x00\x00\x00\x00\x00\x00\x01\x00\x00\x00\x00\x00\x00\x00\x06\x00\x00\x00\x00\x00\x00\x00modifiedScopescope\x00\x00\x00\x00\x00\x00\x00\x00\x00\x00\x00\x00\x00\x00\x00\x00\x00\x00\x00\x00\x00\x00\x00\x00\x00\x00\x00\x00\x00\x00\x01\x00\x00\x00\x00\x00\x00\x00\x01\x00\x00\x00\x00\x00\x00\x00\x01\x00\x00\x00\x00\x00\x00\x00ACAR" +
-	"AVCREIRMAMACMAVMCMIMPRMUIPRRCRLUIunsupported CVSS versionnot UTF-8invalid CVSS metric group componen" +
-	"t: ``invalid CVSS string prefix: `unsupported CVSS version: unknown CVSS metric name: `invalid : `du" +
-	"plicate missing mandatory \x01\x01\x01\x01\x01\x01\x01\x01\x01\x01\x01\x01\x01\x01\x01\x01\x01\x01\x01\x01\x01\x01\x01\x01\x01\x01\x01\x01\x01\x01\x01\x01\x01\x01\x01\x01\x01\x00\x01\x01\x01\x01\x01\x01\x01\x01\x00\x00\x00\x00\x00\x00\x00\x00\x00\x00\x00\x00\x00\x01\x01\x01\x01\x01\x01\x00\x00\x01\x00\x00\x00\x00\x00\x00" +
-	"\x00\x00\x00\x00\x00\x00\x00\x00\x00\x00\x00\x00\x00\x00\x00\x00\x00\x01\x01\x01\x01\x01\x01\x00\x00\x01\x00\x00\x00\x00\x00\x00\x00\x00\x00\x00\x00\x00\x00\x00\x00\x00\x00\x00\x00\x00\x00\x00\x00\x01\x01\x01\x01\x01\x01\x01\x01\x01\x01\x01\x01\x01\x01\x01\x01\x01\x01\x01\x01\x01\x01\x01\x01\x01\x01\x01\x01\x01\x01\x01\x01\x01\x01\x01\x01\x01\x01\x01\x01\x01\x01\x01\x01\x01\x01\x01\x01\x01\x01\x01" +
-	"\x01\x01\x01\x01\x01\x01\x01\x01\x01\x01\x01\x01\x01\x01\x01\x01\x01\x01\x01\x01\x01\x01\x01\x01\x01\x01\x01\x01\x01\x01\x01\x01\x01\x01\x01\x01\x01\x01\x01\x01\x01\x01\x01\x01\x01\x01\x01\x01\x01\x01\x01\x01\x01\x01\x01\x01\x01\x01\x01\x01\x01\x01\x01\x01\x01\x01\x01\x01\x01\x01\x01\x01\x01\x01\x01\x01\x01\x01\x01\x01\x01\x01CVSS%3A0.0%2FAV%3A" +
-	"/\x00\x01\x00\x02\x00\x03\x00\x00\x00\x0d\x03\x00\x00\x09\x00\x04\x00\x0b\x03\x02\x00\x06\x00\x05\x00\x0c\x00\x07\x00\x08\x00\x0a\x03\x01\x05\x00\x06\x00\x02\x1a\x02\x1b\x02\x1d\x02\x00\x02\x01\x02\x02\x02\x0c\x03\x00\x04\x00\x02\x0d\x02\x0b\x02\x0e\x02\x0f\x02\x10\x02\x11\x02\x12\x02\x13\x02\x14\x02\x15\x02\x16\x02\x17\x02\x18\x02\x19\x02\x03\x02\x1e\x02\x04\x02\x05\x02\x06\x02\x07\x02\x1f\x05" +
-	"\x00\x06\x00\x02\x08\x02\x09\x02\x0a\x02\x1c\x01\x01\x01\x02\x01\x00\x01\x0d\x03\x00\x04\x00\x01\x03\x01\x0b\x03\x02\x04\x02\x01\x08\x01\x04\x01\x0c\x01\x0f\x01\x0e\x01\x15\x01\x13\x01\x14\x01\x10\x01\x12\x01\x11\x01\x05\x01\x09\x01\x0a\x01\x06\x03\x01\x04\x01\x01\x07\x05\x00\x06\x00vectorStringaccessVector\x00\x00\x00\x00\x00" +
-	"@/\x00\x00\x00\x00\x00@\x01\x00\x00\x00\x00\x00\x00\x00A/\x00\x00\x00\x00\x00@\x05\x00\x00\x00\x00\x00\x00\x00F/\x00\x00\x00\x00\x00@\x01\x00\x00\x00\x00\x00\x00\x00G/\x00\x00\x00\x00\x00@\x10\x00\x00\x00\x00\x00\x00\x00W/\x00\x00\x00\x00\x00@\x01\x00\x00\x00\x00\x00\x00\x00X/\x00\x00\x00\x00\x00@\x07\x00\x00\x00\x00\x00\x00\x00LLOC" +
-	"ALAADJACENT_NETWORKNNETWORK\x00accessComplexity\xd0/\x00\x00\x00\x00\x00@\x01\x00\x00\x00\x00\x00\x00\x00\xd1/\x00\x00\x00\x00\x00@\x04\x00\x00\x00\x00\x00\x00\x00\xd5/\x00\x00\x00\x00\x00@\x01\x00\x00\x00\x00\x00\x00\x00\xd6/\x00\x00\x00\x00\x00@" +
-	"\x06\x00\x00\x00\x00\x00\x00\x00\xdc/\x00\x00\x00\x00\x00@\x01\x00\x00\x00\x00\x00\x00\x00\xdd/\x00\x00\x00\x00\x00@\x03\x00\x00\x00\x00\x00\x00\x00HHIGHMMEDIUMLLOWauthentication\x00\x00P0\x00\x00\x00\x00\x00@\x01\x00\x00\x00\x00\x00\x00\x00Q0\x00\x00\x00\x00\x00@\x08\x00\x00\x00" +
-	"\x00\x00\x00\x00Y0\x00\x00\x00\x00\x00@\x01\x00\x00\x00\x00\x00\x00\x00Z0\x00\x00\x00\x00\x00@\x06\x00\x00\x00\x00\x00\x00\x00`0\x00\x00\x00\x00\x00@\x01\x00\x00\x00\x00\x00\x00\x00a0\x00\x00\x00\x00\x00@\x04\x00\x00\x00\x00\x00\x00\x00MMULTIPLESSINGLENNONE\x00\x00\x00confiden" +
-	"tialityImpact\x00\x00\x00\xe00\x00\x00\x00\x00\x00@\x01\x00\x00\x00\x00\x00\x00\x00\xe10\x00\x00\x00\x00\x00@\x04\x00\x00\x00\x00\x00\x00\x00\xe50\x00\x00\x00\x00\x00@\x01\x00\x00\x00\x00\x00\x00\x00\xe60\x00\x00\x00\x00\x00@\x07\x00\x00\x00\x00\x00\x00\x00\xed0\x00\x00\x00\x00\x00@\x01\x00\x00\x00\x00\x00\x00\x00\xee0\x00\x00" +
-	"\x00\x00\x00@\x08\x00\x00\x00\x00\x00\x00\x00NNONEPPARTIALCCOMPLETE\x00\x00integrityImpactavailabilityImpact\x00\x00\x00\x00\x00\x00\x00\xc01\x00\x00\x00\x00\x00@\x01\x00\x00\x00\x00\x00\x00\x00\xc11\x00\x00\x00\x00\x00@" +
-	"\x08\x00\x00\x00\x00\x00\x00\x00\xc91\x00\x00\x00\x00\x00@\x03\x00\x00\x00\x00\x00\x00\x00\xcc1\x00\x00\x00\x00\x00@\x10\x00\x00\x00\x00\x00\x00\x00\xdc1\x00\x00\x00\x00\x00@\x01\x00\x00\x00\x00\x00\x00\x00\xdd1\x00\x00\x00\x00\x00@\x0a\x00\x00\x00\x00\x00\x00\x00\xe71\x00\x00\x00\x00\x00@\x01\x00\x00\x00\x00\x00\x00\x00\xe81\x00\x00\x00\x00\x00@\x04\x00\x00\x00" +
-	"\x00\x00\x00\x00\xec1\x00\x00\x00\x00\x00@\x02\x00\x00\x00\x00\x00\x00\x00\xee1\x00\x00\x00\x00\x00@\x0b\x00\x00\x00\x00\x00\x00\x00UUNPROVENPOCPROOF_OF_CONCEPTFFUNCTIONALHHIGHNDNOT_DEFINED\x00\x00\x00\x00\x00\x00\x00" +
-	"remediationLevel\xb02\x00\x00\x00\x00\x00@\x02\x00\x00\x00\x00\x00\x00\x00\xb22\x00\x00\x00\x00\x00@\x0c\x00\x00\x00\x00\x00\x00\x00\xbe2\x00\x00\x00\x00\x00@\x02\x00\x00\x00\x00\x00\x00\x00\xc02\x00\x00\x00\x00\x00@\x0d\x00\x00\x00\x00\x00\x00\x00\xcd2\x00\x00\x00\x00\x00@\x01\x00\x00\x00\x00\x00\x00\x00\xce2\x00\x00" +
-	"\x00\x00\x00@\x0a\x00\x00\x00\x00\x00\x00\x00\xd82\x00\x00\x00\x00\x00@\x01\x00\x00\x00\x00\x00\x00\x00\xd92\x00\x00\x00\x00\x00@\x0b\x00\x00\x00\x00\x00\x00\x00\xe42\x00\x00\x00\x00\x00@\x02\x00\x00\x00\x00\x00\x00\x00\xe62\x00\x00\x00\x00\x00@\x0b\x00\x00\x00\x00\x00\x00\x00OFOFFICIAL_FIXTFTEMPORAR" +
-	"Y_FIXWWORKAROUNDUUNAVAILABLENDNOT_DEFINED\x00\x00\x00\x00\x00\x00\x00reportConfidence\x883\x00\x00\x00\x00\x00@\x02\x00\x00\x00\x00\x00\x00\x00\x8a3\x00\x00\x00\x00\x00@\x0b\x00\x00\x00\x00\x00\x00\x00\x953\x00\x00" +
-	"\x00\x00\x00@\x02\x00\x00\x00\x00\x00\x00\x00\x973\x00\x00\x00\x00\x00@\x0e\x00\x00\x00\x00\x00\x00\x00\xa53\x00\x00\x00\x00\x00@\x01\x00\x00\x00\x00\x00\x00\x00\xa63\x00\x00\x00\x00\x00@\x09\x00\x00\x00\x00\x00\x00\x00\xaf3\x00\x00\x00\x00\x00@\x02\x00\x00\x00\x00\x00\x00\x00\xb13\x00\x00\x00\x00\x00@\x0b\x00\x00\x00\x00\x00\x00\x00UCUNCONF" +
-	"IRMEDURUNCORROBORATEDCCONFIRMEDNDNOT_DEFINED\x00\x00\x00\x00collateralDamagePotential\x00\x00\x00\x00\x00\x00\x00\xa04\x00\x00\x00\x00\x00@\x01\x00\x00\x00\x00\x00\x00\x00\xa14\x00\x00" +
-	"\x00\x00\x00@\x04\x00\x00\x00\x00\x00\x00\x00\xa54\x00\x00\x00\x00\x00@\x01\x00\x00\x00\x00\x00\x00\x00\xa64\x00\x00\x00\x00\x00@\x03\x00\x00\x00\x00\x00\x00\x00\xa94\x00\x00\x00\x00\x00@\x02\x00\x00\x00\x00\x00\x00\x00\xab4\x00\x00\x00\x00\x00@\x0a\x00\x00\x00\x00\x00\x00\x00\xb54\x00\x00\x00\x00\x00@\x02\x00\x00\x00\x00\x00\x00\x00\xb74\x00\x00\x00\x00\x00@" +
-	"\x0b\x00\x00\x00\x00\x00\x00\x00\xc24\x00\x00\x00\x00\x00@\x01\x00\x00\x00\x00\x00\x00\x00\xc34\x00\x00\x00\x00\x00@\x04\x00\x00\x00\x00\x00\x00\x00\xc74\x00\x00\x00\x00\x00@\x02\x00\x00\x00\x00\x00\x00\x00\xc94\x00\x00\x00\x00\x00@\x0b\x00\x00\x00\x00\x00\x00\x00NNONELLOWLMLOW_MEDIUMMHMEDIU" +
-	"M_HIGHHHIGHNDNOT_DEFINED\x00\x00\x00\x00targetDistribution\x00\x00\x00\x00\x00\x00\x905\x00\x00\x00\x00\x00@\x01\x00\x00\x00\x00\x00\x00\x00\x915\x00\x00\x00\x00\x00@\x04\x00\x00\x00\x00\x00\x00\x00\x955\x00\x00\x00\x00\x00@\x01\x00\x00\x00\x00\x00\x00\x00" +
-	"\x965\x00\x00\x00\x00\x00@\x03\x00\x00\x00\x00\x00\x00\x00\x995\x00\x00\x00\x00\x00@\x01\x00\x00\x00\x00\x00\x00\x00\x9a5\x00\x00\x00\x00\x00@\x06\x00\x00\x00\x00\x00\x00\x00\xa05\x00\x00\x00\x00\x00@\x01\x00\x00\x00\x00\x00\x00\x00\xa15\x00\x00\x00\x00\x00@\x04\x00\x00\x00\x00\x00\x00\x00\xa55\x00\x00\x00\x00\x00@\x02\x00\x00\x00\x00\x00\x00\x00\xa75\x00\x00" +
-	"\x00\x00\x00@\x0b\x00\x00\x00\x00\x00\x00\x00NNONELLOWMMEDIUMHHIGHNDNOT_DEFINED\x00\x00\x00\x00\x00\x00confidentialityRequirement\x00\x00\x00\x00\x00\x00X6\x00\x00\x00\x00\x00@\x01\x00\x00\x00\x00\x00\x00\x00" +
-	"Y6\x00\x00\x00\x00\x00@\x03\x00\x00\x00\x00\x00\x00\x00\x5c6\x00\x00\x00\x00\x00@\x01\x00\x00\x00\x00\x00\x00\x00]6\x00\x00\x00\x00\x00@\x06\x00\x00\x00\x00\x00\x00\x00c6\x00\x00\x00\x00\x00@\x01\x00\x00\x00\x00\x00\x00\x00d6\x00\x00\x00\x00\x00@\x04\x00\x00\x00\x00\x00\x00\x00h6\x00\x00\x00\x00\x00@\x02\x00\x00\x00\x00\x00\x00\x00j6\x00\x00" +
-	"\x00\x00\x00@\x0b\x00\x00\x00\x00\x00\x00\x00LLOWMMEDIUMHHIGHNDNOT_DEFINED\x00\x00\x00integrityRequirementavailabilityRequirementattackVector\x00" +
-	"07\x00\x00\x00\x00\x00@\x01\x00\x00\x00\x00\x00\x00\x0017\x00\x00\x00\x00\x00@\x08\x00\x00\x00\x00\x00\x00\x0097\x00\x00\x00\x00\x00@\x01\x00\x00\x00\x00\x00\x00\x00:7\x00\x00\x00\x00\x00@\x05\x00\x00\x00\x00\x00\x00\x00?7\x00\x00\x00\x00\x00@\x01\x00\x00\x00\x00\x00\x00\x00@7\x00\x00\x00\x00\x00@\x10\x00\x00\x00\x00\x00\x00\x00P7\x00\x00" +
-	"\x00\x00\x00@\x01\x00\x00\x00\x00\x00\x00\x00Q7\x00\x00\x00\x00\x00@\x07\x00\x00\x00\x00\x00\x00\x00PPHYSICALLLOCALAADJACENT_NETWORKNNETWORKattackComplexity\xa87\x00\x00\x00\x00\x00@\x01\x00\x00\x00\x00\x00\x00\x00" +
-	"\xa97\x00\x00\x00\x00\x00@\x04\x00\x00\x00\x00\x00\x00\x00\xad7\x00\x00\x00\x00\x00@\x01\x00\x00\x00\x00\x00\x00\x00\xae7\x00\x00\x00\x00\x00@\x03\x00\x00\x00\x00\x00\x00\x00HHIGHLLOW\x00\x00\x00\x00\x00\x00\x00privilegesRequired\x00\x00\x00\x00\x00\x0008\x00\x00\x00\x00\x00@\x01\x00\x00\x00" +
-	"\x00\x00\x00\x0018\x00\x00\x00\x00\x00@\x04\x00\x00\x00\x00\x00\x00\x0058\x00\x00\x00\x00\x00@\x01\x00\x00\x00\x00\x00\x00\x0068\x00\x00\x00\x00\x00@\x03\x00\x00\x00\x00\x00\x00\x0098\x00\x00\x00\x00\x00@\x01\x00\x00\x00\x00\x00\x00\x00:8\x00\x00\x00\x00\x00@\x04\x00\x00\x00\x00\x00\x00\x00HHIGHLLOWNNONE\x00\x00" +
-	"userInteraction\x00\x908\x00\x00\x00\x00\x00@\x01\x00\x00\x00\x00\x00\x00\x00\x918\x00\x00\x00\x00\x00@\x08\x00\x00\x00\x00\x00\x00\x00\x998\x00\x00\x00\x00\x00@\x01\x00\x00\x00\x00\x00\x00\x00\x9a8\x00\x00\x00\x00\x00@\x04\x00\x00\x00\x00\x00\x00\x00RREQUIREDNNONE\x00\x00\xe08\x00\x00" +
-	"\x00\x00\x00@\x01\x00\x00\x00\x00\x00\x00\x00\xe18\x00\x00\x00\x00\x00@\x09\x00\x00\x00\x00\x00\x00\x00\xea8\x00\x00\x00\x00\x00@\x01\x00\x00\x00\x00\x00\x00\x00\xeb8\x00\x00\x00\x00\x00@\x07\x00\x00\x00\x00\x00\x00\x00UUNCHANGEDCCHANGED\x00\x00\x00\x00\x00\x00X9\x00\x00\x00\x00\x00@\x01\x00\x00\x00\x00\x00\x00\x00" +
-	"Y9\x00\x00\x00\x00\x00@\x04\x00\x00\x00\x00\x00\x00\x00]9\x00\x00\x00\x00\x00@\x01\x00\x00\x00\x00\x00\x00\x00^9\x00\x00\x00\x00\x00@\x03\x00\x00\x00\x00\x00\x00\x00a9\x00\x00\x00\x00\x00@\x01\x00\x00\x00\x00\x00\x00\x00b9\x00\x00\x00\x00\x00@\x04\x00\x00\x00\x00\x00\x00\x00NNONELLOWHHIGH\x00\x00expl" +
-	"oitCodeMaturity\x00\x00\x00\x00\x00 :\x00\x00\x00\x00\x00@\x01\x00\x00\x00\x00\x00\x00\x00!:\x00\x00\x00\x00\x00@\x0b\x00\x00\x00\x00\x00\x00\x00,:\x00\x00\x00\x00\x00@\x01\x00\x00\x00\x00\x00\x00\x00-:\x00\x00\x00\x00\x00@\x04\x00\x00\x00\x00\x00\x00\x001:\x00\x00\x00\x00\x00@\x01\x00\x00\x00\x00\x00\x00\x00" +
-	"2:\x00\x00\x00\x00\x00@\x0a\x00\x00\x00\x00\x00\x00\x00<:\x00\x00\x00\x00\x00@\x01\x00\x00\x00\x00\x00\x00\x00=:\x00\x00\x00\x00\x00@\x10\x00\x00\x00\x00\x00\x00\x00M:\x00\x00\x00\x00\x00@\x01\x00\x00\x00\x00\x00\x00\x00N:\x00\x00\x00\x00\x00@\x08\x00\x00\x00\x00\x00\x00\x00XNOT_DEFINEDHHIGHFFU" +
-	"NCTIONALPPROOF_OF_CONCEPTUUNPROVEN\x00\x00\xf8:\x00\x00\x00\x00\x00@\x01\x00\x00\x00\x00\x00\x00\x00\xf9:\x00\x00\x00\x00\x00@\x0b\x00\x00\x00\x00\x00\x00\x00\x04;\x00\x00\x00\x00\x00@\x01\x00\x00\x00\x00\x00\x00\x00\x05;\x00\x00\x00\x00\x00@\x0b\x00\x00\x00\x00\x00\x00\x00" +
-	"\x10;\x00\x00\x00\x00\x00@\x01\x00\x00\x00\x00\x00\x00\x00\x11;\x00\x00\x00\x00\x00@\x0a\x00\x00\x00\x00\x00\x00\x00\x1b;\x00\x00\x00\x00\x00@\x01\x00\x00\x00\x00\x00\x00\x00\x1c;\x00\x00\x00\x00\x00@\x0d\x00\x00\x00\x00\x00\x00\x00);\x00\x00\x00\x00\x00@\x01\x00\x00\x00\x00\x00\x00\x00*;\x00\x00\x00\x00\x00@\x0c\x00\x00\x00\x00\x00\x00\x00XNOT" +
-	"_DEFINEDUUNAVAILABLEWWORKAROUNDTTEMPORARY_FIXOOFFICIAL_FIX\x00\x00\xb8;\x00\x00\x00\x00\x00@\x01\x00\x00\x00\x00\x00\x00\x00\xb9;\x00\x00\x00\x00\x00@\x0b\x00\x00\x00\x00\x00\x00\x00\xc4;\x00\x00\x00\x00\x00@" +
-	"\x01\x00\x00\x00\x00\x00\x00\x00\xc5;\x00\x00\x00\x00\x00@\x09\x00\x00\x00\x00\x00\x00\x00\xce;\x00\x00\x00\x00\x00@\x01\x00\x00\x00\x00\x00\x00\x00\xcf;\x00\x00\x00\x00\x00@\x0a\x00\x00\x00\x00\x00\x00\x00\xd9;\x00\x00\x00\x00\x00@\x01\x00\x00\x00\x00\x00\x00\x00\xda;\x00\x00\x00\x00\x00@\x07\x00\x00\x00\x00\x00\x00\x00XNOT_DEFINED" +
-	"CCONFIRMEDRREASONABLEUUNKNOWN\x00\x00\x00\x00\x00\x00\x00h<\x00\x00\x00\x00\x00@\x01\x00\x00\x00\x00\x00\x00\x00i<\x00\x00\x00\x00\x00@\x0b\x00\x00\x00\x00\x00\x00\x00t<\x00\x00\x00\x00\x00@\x01\x00\x00\x00\x00\x00\x00\x00u<\x00\x00\x00\x00\x00@\x04\x00\x00\x00\x00\x00\x00\x00" +
-	"y<\x00\x00\x00\x00\x00@\x01\x00\x00\x00\x00\x00\x00\x00z<\x00\x00\x00\x00\x00@\x06\x00\x00\x00\x00\x00\x00\x00\x80<\x00\x00\x00\x00\x00@\x01\x00\x00\x00\x00\x00\x00\x00\x81<\x00\x00\x00\x00\x00@\x03\x00\x00\x00\x00\x00\x00\x00XNOT_DEFINEDHHIGHMMEDIUMLLOW\x00\x00\x00\x00modi" +
-	"fiedAttackVector\x00\x00\x00\x00@=\x00\x00\x00\x00\x00@\x01\x00\x00\x00\x00\x00\x00\x00A=\x00\x00\x00\x00\x00@\x0b\x00\x00\x00\x00\x00\x00\x00L=\x00\x00\x00\x00\x00@\x01\x00\x00\x00\x00\x00\x00\x00M=\x00\x00\x00\x00\x00@\x08\x00\x00\x00\x00\x00\x00\x00U=\x00\x00\x00\x00\x00@\x01\x00\x00\x00\x00\x00\x00\x00" +
-	"V=\x00\x00\x00\x00\x00@\x05\x00\x00\x00\x00\x00\x00\x00[=\x00\x00\x00\x00\x00@\x01\x00\x00\x00\x00\x00\x00\x00\x5c=\x00\x00\x00\x00\x00@\x10\x00\x00\x00\x00\x00\x00\x00l=\x00\x00\x00\x00\x00@\x01\x00\x00\x00\x00\x00\x00\x00m=\x00\x00\x00\x00\x00@\x07\x00\x00\x00\x00\x00\x00\x00XNOT_DEFINEDPPHYSICA" +
-	"LLLOCALAADJACENT_NETWORKNNETWORK\x00\x00\x00\x00modifiedAttackComplexity\xf0=\x00\x00\x00\x00\x00@\x01\x00\x00\x00\x00\x00\x00\x00\xf1=\x00\x00\x00\x00\x00@\x0b\x00\x00\x00\x00\x00\x00\x00\xfc=\x00\x00\x00\x00\x00@" +
-	"\x01\x00\x00\x00\x00\x00\x00\x00\xfd=\x00\x00\x00\x00\x00@\x04\x00\x00\x00\x00\x00\x00\x00\x01>\x00\x00\x00\x00\x00@\x01\x00\x00\x00\x00\x00\x00\x00\x02>\x00\x00\x00\x00\x00@\x03\x00\x00\x00\x00\x00\x00\x00XNOT_DEFINEDHHIGHLLOW\x00\x00\x00modifiedPrivilegesRe" +
-	"quired\x00\x00\x00\x00\x00\x00\xa8>\x00\x00\x00\x00\x00@\x01\x00\x00\x00\x00\x00\x00\x00\xa9>\x00\x00\x00\x00\x00@\x0b\x00\x00\x00\x00\x00\x00\x00\xb4>\x00\x00\x00\x00\x00@\x01\x00\x00\x00\x00\x00\x00\x00\xb5>\x00\x00\x00\x00\x00@\x04\x00\x00\x00\x00\x00\x00\x00\xb9>\x00\x00\x00\x00\x00@\x01\x00\x00\x00\x00\x00\x00\x00\xba>\x00\x00\x00\x00\x00@" +
-	"\x03\x00\x00\x00\x00\x00\x00\x00\xbd>\x00\x00\x00\x00\x00@\x01\x00\x00\x00\x00\x00\x00\x00\xbe>\x00\x00\x00\x00\x00@\x04\x00\x00\x00\x00\x00\x00\x00XNOT_DEFINEDHHIGHLLOWNNONE\x00\x00\x00\x00\x00\x00modifiedUserInteraction\x00@?\x00\x00" +
-	"\x00\x00\x00@\x01\x00\x00\x00\x00\x00\x00\x00A?\x00\x00\x00\x00\x00@\x0b\x00\x00\x00\x00\x00\x00\x00L?\x00\x00\x00\x00\x00@\x01\x00\x00\x00\x00\x00\x00\x00M?\x00\x00\x00\x00\x00@\x08\x00\x00\x00\x00\x00\x00\x00U?\x00\x00\x00\x00\x00@\x01\x00\x00\x00\x00\x00\x00\x00V?\x00\x00\x00\x00\x00@\x04\x00\x00\x00\x00\x00\x00\x00XNOT_DEF" +
-	"INEDRREQUIREDNNONE\x00\x00\x00\x00\x00\x00\xc0?\x00\x00\x00\x00\x00@\x01\x00\x00\x00\x00\x00\x00\x00\xc1?\x00\x00\x00\x00\x00@\x0b\x00\x00\x00\x00\x00\x00\x00\xcc?\x00\x00\x00\x00\x00@\x01\x00\x00\x00\x00\x00\x00\x00\xcd?\x00\x00\x00\x00\x00@\x09\x00\x00\x00\x00\x00\x00\x00\xd6?\x00\x00\x00\x00\x00@\x01\x00\x00\x00" +
-	"\x00\x00\x00\x00\xd7?\x00\x00\x00\x00\x00@\x07\x00\x00\x00\x00\x00\x00\x00XNOT_DEFINEDUUNCHANGEDCCHANGED\x00\x00modifiedConfidentialityImpact\x00\x00\x00\x80@\x00\x00\x00\x00\x00@\x01\x00\x00\x00\x00\x00\x00\x00" +
-	"\x81@\x00\x00\x00\x00\x00@\x0b\x00\x00\x00\x00\x00\x00\x00\x8c@\x00\x00\x00\x00\x00@\x01\x00\x00\x00\x00\x00\x00\x00\x8d@\x00\x00\x00\x00\x00@\x04\x00\x00\x00\x00\x00\x00\x00\x91@\x00\x00\x00\x00\x00@\x01\x00\x00\x00\x00\x00\x00\x00\x92@\x00\x00\x00\x00\x00@\x03\x00\x00\x00\x00\x00\x00\x00\x95@\x00\x00\x00\x00\x00@\x01\x00\x00\x00\x00\x00\x00\x00\x96@\x00\x00" +
-	"\x00\x00\x00@\x04\x00\x00\x00\x00\x00\x00\x00XNOT_DEFINEDNNONELLOWHHIGH\x00\x00\x00\x00\x00\x00modifiedIntegrityImpactmodifiedAvailabilityImpact\x00\x00\x00\x00\x00\x00\x00" +
-	"XA\x00\x00\x00\x00\x00@\x01\x00\x00\x00\x00\x00\x00\x00YA\x00\x00\x00\x00\x00@\x08\x00\x00\x00\x00\x00\x00\x00aA\x00\x00\x00\x00\x00@\x01\x00\x00\x00\x00\x00\x00\x00bA\x00\x00\x00\x00\x00@\x05\x00\x00\x00\x00\x00\x00\x00gA\x00\x00\x00\x00\x00@\x01\x00\x00\x00\x00\x00\x00\x00hA\x00\x00\x00\x00\x00@\x08\x00\x00\x00\x00\x00\x00\x00pA\x00\x00" +
-	"\x00\x00\x00@\x01\x00\x00\x00\x00\x00\x00\x00qA\x00\x00\x00\x00\x00@\x07\x00\x00\x00\x00\x00\x00\x00PPHYSICALLLOCALAADJACENTNNETWORKattackRequirements\x00\x00\x00\x00\x00\x00\xd0A\x00\x00\x00\x00\x00@\x01\x00\x00\x00\x00\x00\x00\x00" +
-	"\xd1A\x00\x00\x00\x00\x00@\x07\x00\x00\x00\x00\x00\x00\x00\xd8A\x00\x00\x00\x00\x00@\x01\x00\x00\x00\x00\x00\x00\x00\xd9A\x00\x00\x00\x00\x00@\x04\x00\x00\x00\x00\x00\x00\x00PPRESENTNNONE\x00\x00\x00@B\x00\x00\x00\x00\x00@\x01\x00\x00\x00\x00\x00\x00\x00AB\x00\x00\x00\x00\x00@\x06\x00\x00\x00\x00\x00\x00\x00GB\x00\x00" +
-	"\x00\x00\x00@\x01\x00\x00\x00\x00\x00\x00\x00HB\x00\x00\x00\x00\x00@\x07\x00\x00\x00\x00\x00\x00\x00OB\x00\x00\x00\x00\x00@\x01\x00\x00\x00\x00\x00\x00\x00PB\x00\x00\x00\x00\x00@\x04\x00\x00\x00\x00\x00\x00\x00AACTIVEPPASSIVENNONE\x00\x00\x00\x00vulnConfidential" +
-	"ityImpactvulnIntegrityImpactvulnAvailabilityImpactsubConfidentialityImpactsubIntegrityImpactsubAvail" +
-	"abilityImpactexploitMaturityhC\x00\x00\x00\x00\x00@\x01\x00\x00\x00\x00\x00\x00\x00iC\x00\x00\x00\x00\x00@\x0b\x00\x00\x00\x00\x00\x00\x00tC\x00\x00\x00\x00\x00@\x01\x00\x00\x00\x00\x00\x00\x00uC\x00\x00\x00\x00\x00@\x0a\x00\x00\x00\x00\x00\x00\x00\x7fC\x00\x00\x00\x00\x00@" +
-	"\x01\x00\x00\x00\x00\x00\x00\x00\x80C\x00\x00\x00\x00\x00@\x10\x00\x00\x00\x00\x00\x00\x00\x90C\x00\x00\x00\x00\x00@\x01\x00\x00\x00\x00\x00\x00\x00\x91C\x00\x00\x00\x00\x00@\x08\x00\x00\x00\x00\x00\x00\x00XNOT_DEFINEDUUNREPORTEDPPROOF_OF_CONCEPTAATT" +
-	"ACKED\x00\x00\x00\x00\x00\x00\x00 D\x00\x00\x00\x00\x00@\x01\x00\x00\x00\x00\x00\x00\x00!D\x00\x00\x00\x00\x00@\x0b\x00\x00\x00\x00\x00\x00\x00,D\x00\x00\x00\x00\x00@\x01\x00\x00\x00\x00\x00\x00\x00-D\x00\x00\x00\x00\x00@\x03\x00\x00\x00\x00\x00\x00\x000D\x00\x00\x00\x00\x00@\x01\x00\x00\x00\x00\x00\x00\x001D\x00\x00\x00\x00\x00@" +
-	"\x06\x00\x00\x00\x00\x00\x00\x007D\x00\x00\x00\x00\x00@\x01\x00\x00\x00\x00\x00\x00\x008D\x00\x00\x00\x00\x00@\x04\x00\x00\x00\x00\x00\x00\x00XNOT_DEFINEDLLOWMMEDIUMHHIGH\x00\x00\x00\x00\xe0D\x00\x00\x00\x00\x00@\x01\x00\x00\x00\x00\x00\x00\x00\xe1D\x00\x00\x00\x00\x00@\x08\x00\x00\x00" +
-	"\x00\x00\x00\x00\xe9D\x00\x00\x00\x00\x00@\x01\x00\x00\x00\x00\x00\x00\x00\xeaD\x00\x00\x00\x00\x00@\x05\x00\x00\x00\x00\x00\x00\x00\xefD\x00\x00\x00\x00\x00@\x01\x00\x00\x00\x00\x00\x00\x00\xf0D\x00\x00\x00\x00\x00@\x08\x00\x00\x00\x00\x00\x00\x00\xf8D\x00\x00\x00\x00\x00@\x01\x00\x00\x00\x00\x00\x00\x00\xf9D\x00\x00\x00\x00\x00@\x07\x00\x00\x00\x00\x00\x00\x00" +
-	"\x00E\x00\x00\x00\x00\x00@\x01\x00\x00\x00\x00\x00\x00\x00\x01E\x00\x00\x00\x00\x00@\x0b\x00\x00\x00\x00\x00\x00\x00PPHYSICALLLOCALAADJACENTNNETWORKXNOT_DEFINED\x00\x00\x00\x00modifiedAttackRequir" +
-	"ements\x00\x00\x00\x00\x00\x00\x90E\x00\x00\x00\x00\x00@\x01\x00\x00\x00\x00\x00\x00\x00\x91E\x00\x00\x00\x00\x00@\x0b\x00\x00\x00\x00\x00\x00\x00\x9cE\x00\x00\x00\x00\x00@\x01\x00\x00\x00\x00\x00\x00\x00\x9dE\x00\x00\x00\x00\x00@\x07\x00\x00\x00\x00\x00\x00\x00\xa4E\x00\x00\x00\x00\x00@\x01\x00\x00\x00\x00\x00\x00\x00\xa5E\x00\x00\x00\x00\x00@" +
-	"\x04\x00\x00\x00\x00\x00\x00\x00XNOT_DEFINEDPPRESENTNNONE\x00\x00\x00\x00\x00\x00\x000F\x00\x00\x00\x00\x00@\x01\x00\x00\x00\x00\x00\x00\x001F\x00\x00\x00\x00\x00@\x0b\x00\x00\x00\x00\x00\x00\x00<F\x00\x00\x00\x00\x00@\x01\x00\x00\x00\x00\x00\x00\x00=F\x00\x00\x00\x00\x00@\x06\x00\x00\x00" +
-	"\x00\x00\x00\x00CF\x00\x00\x00\x00\x00@\x01\x00\x00\x00\x00\x00\x00\x00DF\x00\x00\x00\x00\x00@\x07\x00\x00\x00\x00\x00\x00\x00KF\x00\x00\x00\x00\x00@\x01\x00\x00\x00\x00\x00\x00\x00LF\x00\x00\x00\x00\x00@\x04\x00\x00\x00\x00\x00\x00\x00XNOT_DEFINEDAACTIVEPPASSIVENNONE" +
-	"modifiedVulnConfidentialityImpactmodifiedVulnIntegrityImpactmodifiedVulnAvailabilityImpactmodifiedSu" +
-	"bConfidentialityImpact\x00\x00\x00\x00\x00\x00PG\x00\x00\x00\x00\x00@\x01\x00\x00\x00\x00\x00\x00\x00QG\x00\x00\x00\x00\x00@\x0b\x00\x00\x00\x00\x00\x00\x00\x5cG\x00\x00\x00\x00\x00@\x01\x00\x00\x00\x00\x00\x00\x00]G\x00\x00\x00\x00\x00@\x0a\x00\x00\x00\x00\x00\x00\x00gG\x00\x00\x00\x00\x00@" +
-	"\x01\x00\x00\x00\x00\x00\x00\x00hG\x00\x00\x00\x00\x00@\x03\x00\x00\x00\x00\x00\x00\x00kG\x00\x00\x00\x00\x00@\x01\x00\x00\x00\x00\x00\x00\x00lG\x00\x00\x00\x00\x00@\x04\x00\x00\x00\x00\x00\x00\x00XNOT_DEFINEDNNEGLIGIBLELLOWHHIGHmodifiedSubI" +
-	"ntegrityImpact\x00\x00\x00\x00\x00\x000H\x00\x00\x00\x00\x00@\x01\x00\x00\x00\x00\x00\x00\x001H\x00\x00\x00\x00\x00@\x0b\x00\x00\x00\x00\x00\x00\x00<H\x00\x00\x00\x00\x00@\x01\x00\x00\x00\x00\x00\x00\x00=H\x00\x00\x00\x00\x00@\x0a\x00\x00\x00\x00\x00\x00\x00GH\x00\x00\x00\x00\x00@\x01\x00\x00\x00\x00\x00\x00\x00" +
-	"HH\x00\x00\x00\x00\x00@\x03\x00\x00\x00\x00\x00\x00\x00KH\x00\x00\x00\x00\x00@\x01\x00\x00\x00\x00\x00\x00\x00LH\x00\x00\x00\x00\x00@\x04\x00\x00\x00\x00\x00\x00\x00PH\x00\x00\x00\x00\x00@\x01\x00\x00\x00\x00\x00\x00\x00QH\x00\x00\x00\x00\x00@\x06\x00\x00\x00\x00\x00\x00\x00XNOT_DEFINEDNNEGLIGI" +
-	"BLELLOWHHIGHSSAFETY\x00modifiedSubAvailabilityImpactSafety\x00\x00\x00\x00\x00\xe0H\x00\x00\x00\x00\x00@\x01\x00\x00\x00\x00\x00\x00\x00\xe1H\x00\x00\x00\x00\x00@\x0b\x00\x00\x00\x00\x00\x00\x00\xecH\x00\x00\x00\x00\x00@" +
-	"\x01\x00\x00\x00\x00\x00\x00\x00\xedH\x00\x00\x00\x00\x00@\x07\x00\x00\x00\x00\x00\x00\x00\xf4H\x00\x00\x00\x00\x00@\x01\x00\x00\x00\x00\x00\x00\x00\xf5H\x00\x00\x00\x00\x00@\x0a\x00\x00\x00\x00\x00\x00\x00XNOT_DEFINEDPPRESENTNNEGLIGIBLE\x00Automatable\x00" +
-	"\x00\x00\x00\x00pI\x00\x00\x00\x00\x00@\x01\x00\x00\x00\x00\x00\x00\x00qI\x00\x00\x00\x00\x00@\x0b\x00\x00\x00\x00\x00\x00\x00|I\x00\x00\x00\x00\x00@\x01\x00\x00\x00\x00\x00\x00\x00}I\x00\x00\x00\x00\x00@\x03\x00\x00\x00\x00\x00\x00\x00\x80I\x00\x00\x00\x00\x00@\x01\x00\x00\x00\x00\x00\x00\x00\x81I\x00\x00\x00\x00\x00@\x02\x00\x00\x00\x00\x00\x00\x00" +
-	"XNOT_DEFINEDYYESNNO\x00\x00\x00\x00\x00Recovery\x10J\x00\x00\x00\x00\x00@\x01\x00\x00\x00\x00\x00\x00\x00\x11J\x00\x00\x00\x00\x00@\x0b\x00\x00\x00\x00\x00\x00\x00\x1cJ\x00\x00\x00\x00\x00@\x01\x00\x00\x00\x00\x00\x00\x00\x1dJ\x00\x00\x00\x00\x00@\x09\x00\x00\x00\x00\x00\x00\x00&J\x00\x00" +
-	"\x00\x00\x00@\x01\x00\x00\x00\x00\x00\x00\x00'J\x00\x00\x00\x00\x00@\x04\x00\x00\x00\x00\x00\x00\x00+J\x00\x00\x00\x00\x00@\x01\x00\x00\x00\x00\x00\x00\x00,J\x00\x00\x00\x00\x00@\x0d\x00\x00\x00\x00\x00\x00\x00XNOT_DEFINEDAAUTOMATICUUSERIIRRECOVERABL" +
-	"E\x00\x00\x00\x00\x00\x00\x00valueDensity\x00\x00\x00\x00\xb0J\x00\x00\x00\x00\x00@\x01\x00\x00\x00\x00\x00\x00\x00\xb1J\x00\x00\x00\x00\x00@\x0b\x00\x00\x00\x00\x00\x00\x00\xbcJ\x00\x00\x00\x00\x00@\x01\x00\x00\x00\x00\x00\x00\x00\xbdJ\x00\x00\x00\x00\x00@\x07\x00\x00\x00\x00\x00\x00\x00\xc4J\x00\x00\x00\x00\x00@\x01\x00\x00\x00" +
-	"\x00\x00\x00\x00\xc5J\x00\x00\x00\x00\x00@\x0c\x00\x00\x00\x00\x00\x00\x00XNOT_DEFINEDDDIFFUSECCONCENTRATED\x00\x00\x00\x00\x00\x00\x00vulnerabilityResponseEffort\x00\x00\x00\x00\x00xK\x00\x00\x00\x00\x00@" +
-	"\x01\x00\x00\x00\x00\x00\x00\x00yK\x00\x00\x00\x00\x00@\x0b\x00\x00\x00\x00\x00\x00\x00\x84K\x00\x00\x00\x00\x00@\x01\x00\x00\x00\x00\x00\x00\x00\x85K\x00\x00\x00\x00\x00@\x03\x00\x00\x00\x00\x00\x00\x00\x88K\x00\x00\x00\x00\x00@\x01\x00\x00\x00\x00\x00\x00\x00\x89K\x00\x00\x00\x00\x00@\x08\x00\x00\x00\x00\x00\x00\x00\x91K\x00\x00\x00\x00\x00@\x01\x00\x00\x00" +
-	"\x00\x00\x00\x00\x92K\x00\x00\x00\x00\x00@\x04\x00\x00\x00\x00\x00\x00\x00XNOT_DEFINEDLLOWMMODERATEHHIGH\x00\x00providerUrgency\x00HL\x00\x00\x00\x00\x00@\x01\x00\x00\x00\x00\x00\x00\x00IL\x00\x00\x00\x00\x00@\x0b\x00\x00\x00\x00\x00\x00\x00" +
-	"TL\x00\x00\x00\x00\x00@\x03\x00\x00\x00\x00\x00\x00\x00WL\x00\x00\x00\x00\x00@\x03\x00\x00\x00\x00\x00\x00\x00ZL\x00\x00\x00\x00\x00@\x05\x00\x00\x00\x00\x00\x00\x00_L\x00\x00\x00\x00\x00@\x05\x00\x00\x00\x00\x00\x00\x00dL\x00\x00\x00\x00\x00@\x05\x00\x00\x00\x00\x00\x00\x00iL\x00\x00\x00\x00\x00@\x05\x00\x00\x00\x00\x00\x00\x00nL\x00\x00" +
-	"\x00\x00\x00@\x05\x00\x00\x00\x00\x00\x00\x00sL\x00\x00\x00\x00\x00@\x05\x00\x00\x00\x00\x00\x00\x00XNOT_DEFINEDRedREDAmberAMBERGreenGREENClearCLEARNONELOWMEDIUMHIGHCRITICA" +
-	"LbaseScoretemporalScoreenvironmentalScorebaseSeveritytemporalSeverityenvironmentalSeverityerror:  \x00\x00" +
-	"\x00\x00\x00\x00HS\x00\x00\x00\x00\x00@\x03\x00\x00\x00\x00\x00\x00\x00KS\x00\x00\x00\x00\x00@\x03\x00\x00\x00\x00\x00\x00\x00NS\x00\x00\x00\x00\x00@\x03\x00\x00\x00\x00\x00\x00\x00QS\x00\x00\x00\x00\x00@\x03\x00\x00\x00\x00\x00\x00\x00TS\x00\x00\x00\x00\x00@\x03\x00\x00\x00\x00\x00\x00\x00WS\x00\x00\x00\x00\x00@\x03\x00\x00\x00\x00\x00\x00\x00" +
-	"ZS\x00\x00\x00\x00\x00@\x03\x00\x00\x00\x00\x00\x00\x00]S\x00\x00\x00\x00\x00@\x03\x00\x00\x00\x00\x00\x00\x00`S\x00\x00\x00\x00\x00@\x03\x00\x00\x00\x00\x00\x00\x00cS\x00\x00\x00\x00\x00@\x03\x00\x00\x00\x00\x00\x00\x00fS\x00\x00\x00\x00\x00@\x03\x00\x00\x00\x00\x00\x00\x00iS\x00\x00\x00\x00\x00@\x03\x00\x00\x00\x00\x00\x00\x00lS\x00\x00" +
-	"\x00\x00\x00@\x03\x00\x00\x00\x00\x00\x00\x00oS\x00\x00\x00\x00\x00@\x03\x00\x00\x00\x00\x00\x00\x00rS\x00\x00\x00\x00\x00@\x03\x00\x00\x00\x00\x00\x00\x00uS\x00\x00\x00\x00\x00@\x03\x00\x00\x00\x00\x00\x00\x00xS\x00\x00\x00\x00\x00@\x03\x00\x00\x00\x00\x00\x00\x00{S\x00\x00\x00\x00\x00@\x03\x00\x00\x00\x00\x00\x00\x00~S\x00\x00\x00\x00\x00@" +
-	"\x03\x00\x00\x00\x00\x00\x00\x00\x81S\x00\x00\x00\x00\x00@\x03\x00\x00\x00\x00\x00\x00\x00\x84S\x00\x00\x00\x00\x00@\x03\x00\x00\x00\x00\x00\x00\x00\x87S\x00\x00\x00\x00\x00@\x03\x00\x00\x00\x00\x00\x00\x00\x8aS\x00\x00\x00\x00\x00@\x03\x00\x00\x00\x00\x00\x00\x00\x8dS\x00\x00\x00\x00\x00@\x03\x00\x00\x00\x00\x00\x00\x00\x90S\x00\x00\x00\x00\x00@\x03\x00\x00\x00" +
-	"\x00\x00\x00\x00\x93S\x00\x00\x00\x00\x00@\x03\x00\x00\x00\x00\x00\x00\x00\x96S\x00\x00\x00\x00\x00@\x03\x00\x00\x00\x00\x00\x00\x00\x99S\x00\x00\x00\x00\x00@\x03\x00\x00\x00\x00\x00\x00\x00\x9cS\x00\x00\x00\x00\x00@\x03\x00\x00\x00\x00\x00\x00\x00\x9fS\x00\x00\x00\x00\x00@\x03\x00\x00\x00\x00\x00\x00\x00\xa2S\x00\x00\x00\x00\x00@\x03\x00\x00\x00\x00\x00\x00\x00" +
-	"\xa5S\x00\x00\x00\x00\x00@\x03\x00\x00\x00\x00\x00\x00\x00\xa8S\x00\x00\x00\x00\x00@\x03\x00\x00\x00\x00\x00\x00\x00\xabS\x00\x00\x00\x00\x00@\x03\x00\x00\x00\x00\x00\x00\x00\xaeS\x00\x00\x00\x00\x00@\x03\x00\x00\x00\x00\x00\x00\x00\xb1S\x00\x00\x00\x00\x00@\x03\x00\x00\x00\x00\x00\x00\x00\xb4S\x00\x00\x00\x00\x00@\x03\x00\x00\x00\x00\x00\x00\x00\xb7S\x00\x00" +
-	"\x00\x00\x00@\x03\x00\x00\x00\x00\x00\x00\x00\xbaS\x00\x00\x00\x00\x00@\x03\x00\x00\x00\x00\x00\x00\x00\xbdS\x00\x00\x00\x00\x00@\x03\x00\x00\x00\x00\x00\x00\x00\xc0S\x00\x00\x00\x00\x00@\x03\x00\x00\x00\x00\x00\x00\x00\xc3S\x00\x00\x00\x00\x00@\x03\x00\x00\x00\x00\x00\x00\x00\xc6S\x00\x00\x00\x00\x00@\x03\x00\x00\x00\x00\x00\x00\x00\xc9S\x00\x00\x00\x00\x00@" +
-	"\x03\x00\x00\x00\x00\x00\x00\x00\xccS\x00\x00\x00\x00\x00@\x03\x00\x00\x00\x00\x00\x00\x00\xcfS\x00\x00\x00\x00\x00@\x03\x00\x00\x00\x00\x00\x00\x00\xd2S\x00\x00\x00\x00\x00@\x03\x00\x00\x00\x00\x00\x00\x00\xd5S\x00\x00\x00\x00\x00@\x03\x00\x00\x00\x00\x00\x00\x00\xd8S\x00\x00\x00\x00\x00@\x03\x00\x00\x00\x00\x00\x00\x00\xdbS\x00\x00\x00\x00\x00@\x03\x00\x00\x00" +
-	"\x00\x00\x00\x00\xdeS\x00\x00\x00\x00\x00@\x03\x00\x00\x00\x00\x00\x00\x00\xe1S\x00\x00\x00\x00\x00@\x03\x00\x00\x00\x00\x00\x00\x00\xe4S\x00\x00\x00\x00\x00@\x03\x00\x00\x00\x00\x00\x00\x00\xe7S\x00\x00\x00\x00\x00@\x03\x00\x00\x00\x00\x00\x00\x00\xeaS\x00\x00\x00\x00\x00@\x03\x00\x00\x00\x00\x00\x00\x00\xedS\x00\x00\x00\x00\x00@\x03\x00\x00\x00\x00\x00\x00\x00" +
-	"\xf0S\x00\x00\x00\x00\x00@\x03\x00\x00\x00\x00\x00\x00\x00\xf3S\x00\x00\x00\x00\x00@\x03\x00\x00\x00\x00\x00\x00\x00\xf6S\x00\x00\x00\x00\x00@\x03\x00\x00\x00\x00\x00\x00\x00\xf9S\x00\x00\x00\x00\x00@\x03\x00\x00\x00\x00\x00\x00\x00\xfcS\x00\x00\x00\x00\x00@\x03\x00\x00\x00\x00\x00\x00\x00\xffS\x00\x00\x00\x00\x00@\x03\x00\x00\x00\x00\x00\x00\x00\x02T\x00\x00" +
-	"\x00\x00\x00@\x03\x00\x00\x00\x00\x00\x00\x00\x05T\x00\x00\x00\x00\x00@\x03\x00\x00\x00\x00\x00\x00\x00\x08T\x00\x00\x00\x00\x00@\x03\x00\x00\x00\x00\x00\x00\x00\x0bT\x00\x00\x00\x00\x00@\x03\x00\x00\x00\x00\x00\x00\x00\x0eT\x00\x00\x00\x00\x00@\x03\x00\x00\x00\x00\x00\x00\x00\x11T\x00\x00\x00\x00\x00@\x03\x00\x00\x00\x00\x00\x00\x00\x14T\x00\x00\x00\x00\x00@" +
-	"\x03\x00\x00\x00\x00\x00\x00\x00\x17T\x00\x00\x00\x00\x00@\x03\x00\x00\x00\x00\x00\x00\x00\x1aT\x00\x00\x00\x00\x00@\x03\x00\x00\x00\x00\x00\x00\x00\x1dT\x00\x00\x00\x00\x00@\x03\x00\x00\x00\x00\x00\x00\x00 T\x00\x00\x00\x00\x00@\x03\x00\x00\x00\x00\x00\x00\x00#T\x00\x00\x00\x00\x00@\x03\x00\x00\x00\x00\x00\x00\x00&T\x00\x00\x00\x00\x00@\x03\x00\x00\x00" +
-	"\x00\x00\x00\x00)T\x00\x00\x00\x00\x00@\x03\x00\x00\x00\x00\x00\x00\x00,T\x00\x00\x00\x00\x00@\x03\x00\x00\x00\x00\x00\x00\x00/T\x00\x00\x00\x00\x00@\x03\x00\x00\x00\x00\x00\x00\x002T\x00\x00\x00\x00\x00@\x03\x00\x00\x00\x00\x00\x00\x005T\x00\x00\x00\x00\x00@\x03\x00\x00\x00\x00\x00\x00\x008T\x00\x00\x00\x00\x00@\x03\x00\x00\x00\x00\x00\x00\x00" +
-	";T\x00\x00\x00\x00\x00@\x03\x00\x00\x00\x00\x00\x00\x00>T\x00\x00\x00\x00\x00@\x03\x00\x00\x00\x00\x00\x00\x00AT\x00\x00\x00\x00\x00@\x03\x00\x00\x00\x00\x00\x00\x00DT\x00\x00\x00\x00\x00@\x03\x00\x00\x00\x00\x00\x00\x00GT\x00\x00\x00\x00\x00@\x03\x00\x00\x00\x00\x00\x00\x00JT\x00\x00\x00\x00\x00@\x03\x00\x00\x00\x00\x00\x00\x00MT\x00\x00" +
-	"\x00\x00\x00@\x03\x00\x00\x00\x00\x00\x00\x00PT\x00\x00\x00\x00\x00@\x03\x00\x00\x00\x00\x00\x00\x00ST\x00\x00\x00\x00\x00@\x03\x00\x00\x00\x00\x00\x00\x00VT\x00\x00\x00\x00\x00@\x03\x00\x00\x00\x00\x00\x00\x00YT\x00\x00\x00\x00\x00@\x03\x00\x00\x00\x00\x00\x00\x00\x5cT\x00\x00\x00\x00\x00@\x03\x00\x00\x00\x00\x00\x00\x00_T\x00\x00\x00\x00\x00@" +
-	"\x03\x00\x00\x00\x00\x00\x00\x00bT\x00\x00\x00\x00\x00@\x03\x00\x00\x00\x00\x00\x00\x00eT\x00\x00\x00\x00\x00@\x03\x00\x00\x00\x00\x00\x00\x00hT\x00\x00\x00\x00\x00@\x03\x00\x00\x00\x00\x00\x00\x00kT\x00\x00\x00\x00\x00@\x03\x00\x00\x00\x00\x00\x00\x00nT\x00\x00\x00\x00\x00@\x03\x00\x00\x00\x00\x00\x00\x00qT\x00\x00\x00\x00\x00@\x03\x00\x00\x00" +
-	"\x00\x00\x00\x00tT\x00\x00\x00\x00\x00@\x04\x00\x00\x00\x00\x00\x00\x000.00.10.20.30.40.50.60.70.80.91.01.11.21.31.41.51.61.71.81.92.02.12.22.32.42.52." +
-	"62.72.82.93.03.13.23.33.43.53.63.73.83.94.04.14.24.34.44.54.64.74.84.95.05.15.25.35.45.55.65.75.85.9" +
-	"6.06.16.26.36.46.56.66.76.86.97.07.17.27.37.47.57.67.77.87.98.08.18.28.38.48.58.68.78.88.99.09.19.29" +
-	".39.49.59.69.79.89.910.0\x0a\x00\x00\x04\x00\x06\x00\x00\x00\x05\x01\x00\x02\x03\x00\x00\x00\x00\x00\x03\x00\x02\x01\x00\x00\x00\x00\x00\x00\x00\x00\x00\xf0\x10\x00\x00\x00\x00\x00@\x18\x11\x00\x00\x00\x00\x00@\xa8\x10\x00\x00\x00\x00\x00@@\x11\x00\x00\x00\x00\x00@\xb0\x11\x00\x00\x00\x00\x00@\xb0\x11\x00\x00" +
-	"\x00\x00\x00@\xb0\x11\x00\x00\x00\x00\x00@x\x11\x00\x00\x00\x00\x00@\xb0\x11\x00\x00\x00\x00\x00@\xb0\x11\x00\x00\x00\x00\x00@\xb0\x11\x00\x00\x00\x00\x00@\xe8\x11\x00\x00\x00\x00\x00@0\x12\x00\x00\x00\x00\x00@0\x12\x00\x00\x00\x00\x00@0\x12\x00\x00\x00\x00\x00@\xd0\x12\x00\x00\x00\x00\x00@\x08\x13\x00\x00\x00\x00\x00@x\x12\x00\x00\x00\x00\x00@" +
-	"@\x13\x00\x00\x00\x00\x00@\x18\x14\x00\x00\x00\x00\x00@\xd0\x13\x00\x00\x00\x00\x00@\x18\x14\x00\x00\x00\x00\x00@\x88\x13\x00\x00\x00\x00\x00@\xd0\x13\x00\x00\x00\x00\x00@\xd0\x13\x00\x00\x00\x00\x00@\xd0\x13\x00\x00\x00\x00\x00@p\x14\x00\x00\x00\x00\x00@\xa8\x14\x00\x00\x00\x00\x00@0\x12\x00\x00\x00\x00\x00@\x08\x13\x00\x00\x00\x00\x00@(\x15\x00\x00" +
-	"\x00\x00\x00@\xf0\x14\x00\x00\x00\x00\x00@\x8b\x01\x00\x00\x00\x00\x00\x00\x86\x02\x00\x00\x00\x00\x00\x00\xe8\x03\x00\x00\x00\x00\x00\x00^\x01\x00\x00\x00\x00\x00\x00b\x02\x00\x00\x00\x00\x00\x00\xc6\x02\x00\x00\x00\x00\x00\x00\xc2\x01\x00\x00\x00\x00\x00\x000\x02\x00\x00\x00\x00\x00\x00\xc0\x02\x00\x00\x00\x00\x00\x00\x00\x00\x00\x00\x00\x00\x00\x00\x13\x01\x00\x00\x00\x00\x00\x00" +
-	"\x94\x02\x00\x00\x00\x00\x00\x00R\x03\x00\x00\x00\x00\x00\x00\x84\x03\x00\x00\x00\x00\x00\x00\xb6\x03\x00\x00\x00\x00\x00\x00\xe8\x03\x00\x00\x00\x00\x00\x00\xe8\x03\x00\x00\x00\x00\x00\x00f\x03\x00\x00\x00\x00\x00\x00\x84\x03\x00\x00\x00\x00\x00\x00\xb6\x03\x00\x00\x00\x00\x00\x00\xe8\x03\x00\x00\x00\x00\x00\x00\xe8\x03\x00\x00\x00\x00\x00\x00\x84\x03\x00\x00\x00\x00\x00\x00\xb6\x03\x00\x00" +
-	"\x00\x00\x00\x00\xe8\x03\x00\x00\x00\x00\x00\x00\xe8\x03\x00\x00\x00\x00\x00\x00\x00\x00\x00\x00\x00\x00\x00\x00d\x00\x00\x00\x00\x00\x00\x00,\x01\x00\x00\x00\x00\x00\x00\x90\x01\x00\x00\x00\x00\x00\x00\xf4\x01\x00\x00\x00\x00\x00\x00\x00\x00\x00\x00\x00\x00\x00\x00\x00\x00\x00\x00\x00\x00\x00\x00\xfa\x00\x00\x00\x00\x00\x00\x00\xee\x02\x00\x00\x00\x00\x00\x00\xe8\x03\x00\x00\x00\x00\x00\x00" +
-	"\xe8\x03\x00\x00\x00\x00\x00\x00\xf4\x01\x00\x00\x00\x00\x00\x00\xe8\x03\x00\x00\x00\x00\x00\x00\xe6\x05\x00\x00\x00\x00\x00\x00\xe8\x03\x00\x00\x00\x00\x00\x00\x1e\x00\x00\x00\x14\x00\x00\x00\x0f\x00\x00\x00\x00\x00\x00\x00d\x00\x00\x00\x00\x00\x00\x00d\x00\x00\x00\x00\x00\x00\x00a\x00\x00\x00\x00\x00\x00\x00^\x00\x00\x00\x00\x00\x00\x00[\x00\x00\x00\x00\x00\x00\x00d\x00\x00\x00" +
-	"\x00\x00\x00\x00d\x00\x00\x00\x00\x00\x00\x00a\x00\x00\x00\x00\x00\x00\x00`\x00\x00\x00\x00\x00\x00\x00_\x00\x00\x00\x00\x00\x00\x00d\x00\x00\x00\x00\x00\x00\x00d\x00\x00\x00\x00\x00\x00\x00`\x00\x00\x00\x00\x00\x00\x00\x5c\x00\x00\x00\x00\x00\x00\x00d\x00\x00\x00\x00\x00\x00\x00\x96\x00\x00\x00\x00\x00\x00\x00d\x00\x00\x00\x00\x00\x00\x002\x00\x00\x00\x00\x00\x00\x00" +
-	"\x14\x00\x00\x00\x00\x00\x00\x007\x00\x00\x00\x00\x00\x00\x00>\x00\x00\x00\x00\x00\x00\x00U\x00\x00\x00\x00\x00\x00\x00\x00\x00\x00\x00\x00\x00\x00\x00\x16\x00\x00\x00\x00\x00\x00\x008\x00\x00\x00\x00\x00\x00\x00\x03\x00\x00\x00\x00\x00\x00\x00\x06\x00\x00\x00\x00\x00\x00\x00\x0e\x00\x00\x00\x00\x00\x00\x00\x01\x00\x00\x00\x00\x00\x00\x00\x06\x00\x00\x00\x00\x00\x00\x00\x05\x00\x00\x00" +
-	"\x00\x00\x00\x00\x05\x00\x00\x00\x00\x00\x00\x00\x04\x00\x00\x00\x00\x00\x00\x00\x0e\x00\x00\x00\x00\x00\x00\x00\x16\x00\x00\x00\x00\x00\x00\x00\x0b\x00\x00\x00\x00\x00\x00\x00\x0a\x00\x00\x00\x00\x00\x00\x00\x0e\x00\x00\x00\x00\x00\x00\x00\x0c\x00\x00\x00\x00\x00\x00\x00\x10\x00\x00\x00\x00\x00\x00\x00\x05\x00\x00\x00\x00\x00\x00\x00\xe0)\x00\x00\x00\x00\x00@\xe3)\x00\x00\x00\x00\x00@" +
-	"\xe9)\x00\x00\x00\x00\x00@\xf7)\x00\x00\x00\x00\x00@\xf8)\x00\x00\x00\x00\x00@\x04)\x00\x00\x00\x00\x00@\x04)\x00\x00\x00\x00\x00@\xfe)\x00\x00\x00\x00\x00@\x02*\x00\x00\x00\x00\x00@\x10*\x00\x00\x00\x00\x00@&*\x00\x00\x00\x00\x00@1*\x00\x00\x00\x00\x00@;*\x00\x00\x00\x00\x00@I*\x00\x00\x00\x00\x00@U*\x00\x00" +
-	"\x00\x00\x00@\x04)\x00\x00\x00\x00\x00@\xb0E<\x00\x00\x00\x00\x00`\x92b\x00\x00\x00\x00\x00\x80\x96\x98\x00\x00\x00\x00\x00\xe0g5\x00\x00\x00\x00\x00 \x14]\x00\x00\x00\x00\x00`Vl\x00\x00\x00\x00\x00 \xaaD\x00\x00\x00\x00\x00\x00sU\x00\x00\x00\x00\x00\x00lk\x00\x00\x00\x00\x00\x00\x00\x00\x00\x00\x00\x00\x000\xf6)\x00\x00\x00\x00\x00" +
-	"@\xb5d\x00\x00\x00\x00\x00 \xb3\x81\x00\x00\x00\x00\x00@T\x89\x00\x00\x00\x00\x00`\xf5\x90\x00\x00\x00\x00\x00\x80\x96\x98\x00\x00\x00\x00\x00\x80\x96\x98\x00\x00\x00\x00\x00`\xc0\x84\x00\x00\x00\x00\x00@T\x89\x00\x00\x00\x00\x00`\xf5\x90\x00\x00\x00\x00\x00\x80\x96\x98\x00\x00\x00\x00\x00\x80\x96\x98\x00\x00\x00\x00\x00@T\x89\x00\x00\x00\x00\x00`\xf5\x90\x00" +
-	"\x00\x00\x00\x00\x80\x96\x98\x00\x00\x00\x00\x00\x80\x96\x98\x00\x00\x00\x00\x00\x00\x00\x00\x00\x00\x00\x00\x00@B\x0f\x00\x00\x00\x00\x00\xc0\xc6-\x00\x00\x00\x00\x00\x00\x09=\x00\x00\x00\x00\x00@KL\x00\x00\x00\x00\x00\x00\x00\x00\x00\x00\x00\x00\x00\x00\x00\x00\x00\x00\x00\x00\x00\xa0%&\x00\x00\x00\x00\x00\xe0pr\x00\x00\x00\x00\x00\x80\x96\x98\x00\x00\x00\x00\x00" +
-	"\x80\x96\x98\x00\x00\x00\x00\x00@KL\x00\x00\x00\x00\x00\x80\x96\x98\x00\x00\x00\x00\x00`h\xe6\x00\x00\x00\x00\x00\x80\x96\x98\x00\x00\x00\x00\x00b\x06\x00\x00\x00\x00\x00@`\x06\x00\x00\x00\x00\x00@\x0e\x00\x00\x00\x00\x00\x00@\x10\x00\x00\x00\x00\x00\x00@\x0f\x00\x00\x00\x00\x00\x00@c\x06\x00\x00\x00\x00\x00@e\x06\x00\x00\x00\x00\x00@\x0f\x00\x00\x00" +
-	"\x00\x00\x00@c\x06\x00\x00\x00\x00\x00@\x10\x00\x00\x00\x00\x00\x00@\xf0&\x00\x00\x00\x00\x00@e\x06\x00\x00\x00\x00\x00@c\x06\x00\x00\x00\x00\x00@\x0f\x00\x00\x00\x00\x00\x00@c\x06\x00\x00\x00\x00\x00@\x0e\x00\x00\x00\x00\x00\x00@\x0f\x00\x00\x00\x00\x00\x00@\x10\x00\x00\x00\x00\x00\x00@\xf0&\x00\x00\x00\x00\x00@\xf0&\x00\x00\x00\x00\x00@" +
-	"`\x06\x00\x00\x00\x00\x00@\x0e\x00\x00\x00\x00\x00\x00@\xf0&\x00\x00\x00\x00\x00@`\x06\x00\x00\x00\x00\x00@\x0e\x00\x00\x00\x00\x00\x00@\x10\x00\x00\x00\x00\x00\x00@\xf0&\x00\x00\x00\x00\x00@\x0f\x00\x00\x00\x00\x00\x00@c\x06\x00\x00\x00\x00\x00@\x10\x00\x00\x00\x00\x00\x00@\xf0&\x00\x00\x00\x00\x00@\x10\x00\x00\x00\x00\x00\x00@\x0e\x00\x00\x00" +
-	"\x00\x00\x00@`\x06\x00\x00\x00\x00\x00@\xf0&\x00\x00\x00\x00\x00@\x10\x00\x00\x00\x00\x00\x00@\x0e\x00\x00\x00\x00\x00\x00@`\x06\x00\x00\x00\x00\x00@b\x06\x00\x00\x00\x00\x00@\xf0&\x00\x00\x00\x00\x00@c\x06\x00\x00\x00\x00\x00@\x10\x00\x00\x00\x00\x00\x00@\xf0&\x00\x00\x00\x00\x00@\x9a)\x00\x00\x00\x00\x00@\x10\x00\x00\x00\x00\x00\x00@" +
-	"\xf0&\x00\x00\x00\x00\x00@\x0f\x00\x00\x00\x00\x00\x00@e\x06\x00\x00\x00\x00\x00@\x9b)\x00\x00\x00\x00\x00@\xf0&\x00\x00\x00\x00\x00@\x9c)\x00\x00\x00\x00\x00@d\x06\x00\x00\x00\x00\x00@\xf0&\x00\x00\x00\x00\x00@\x0e\x00\x00\x00\x00\x00\x00@a\x06\x00\x00\x00\x00\x00@`\x06\x00\x00\x00\x00\x00@\xf0&\x00\x00\x00\x00\x00@`\x06\x00\x00" +
-	"\x00\x00\x00@i\x06\x00\x00\x00\x00\x00@c\x06\x00\x00\x00\x00\x00@e\x06\x00\x00\x00\x00\x00@\xf0&\x00\x00\x00\x00\x00@e\x06\x00\x00\x00\x00\x00@p\x06\x00\x00\x00\x00\x00@I(\x00\x00\x00\x00\x00@J(\x00\x00\x00\x00\x00@\xf0&\x00\x00\x00\x00\x00@d\x06\x00\x00\x00\x00\x00@H(\x00\x00\x00\x00\x00@e\x06\x00\x00\x00\x00\x00@" +
-	"\xf0&\x00\x00\x00\x00\x00@`\x06\x00\x00\x00\x00\x00@a\x06\x00\x00\x00\x00\x00@\x0e\x00\x00\x00\x00\x00\x00@c\x06\x00\x00\x00\x00\x00@\x0e\x00\x00\x00\x00\x00\x00@\x0f\x00\x00\x00\x00\x00\x00@\x10\x00\x00\x00\x00\x00\x00@`\x06\x00\x00\x00\x00\x00@\x0e\x00\x00\x00\x00\x00\x00@\x10\x00\x00\x00\x00\x00\x00@\x10\x00\x00\x00\x00\x00\x00@\x0e\x00\x00\x00" +
-	"\x00\x00\x00@`\x06\x00\x00\x00\x00\x00@\x04\x00\x00\x00\x00\x03\x01\x00\x02\x00\x00\x00\x01\x02\x00\x00\x00\x00\x00\x01\x00\x01\x01\x00\x00\x00\x00\x00\x02\x00\x01\x00\x00\x00\x00\x00\x00\x00\x00\x00\x0e\x00\x00\x00\x00\x00\x00@\x0f\x00\x00\x00\x00\x00\x00@\x10\x00\x00\x00\x00\x00\x00@`\x06\x00\x00\x00\x00\x00@a\x06\x00\x00\x00\x00\x00@\x0e\x00\x00\x00\x00\x00\x00@" +
-	"a\x06\x00\x00\x00\x00\x00@b\x06\x00\x00\x00\x00\x00@\x10\x00\x00\x00\x00\x00\x00@\x10\x00\x00\x00\x00\x00\x00@c\x06\x00\x00\x00\x00\x00@d\x06\x00\x00\x00\x00\x00@e\x06\x00\x00\x00\x00\x00@f\x06\x00\x00\x00\x00\x00@i\x06\x00\x00\x00\x00\x00@`\x06\x00\x00\x00\x00\x00@j\x06\x00\x00\x00\x00\x00@\x01\x00\x00\x00\x00\x00\x00\x00\x03\x00\x00\x00" +
-	"\x00\x00\x00\x00\x01\x00\x00\x00\x00\x00\x00\x00\x01\x00\x00\x00\x00\x00\x00\x00\x02\x00\x00\x00\x00\x00\x00\x00l\x06\x00\x00\x00\x00\x00@n\x06\x00\x00\x00\x00\x00@p\x06\x00\x00\x00\x00\x00@e\x06\x00\x00\x00\x00\x00@j\x06\x00\x00\x00\x00\x00@\x02\x00\x00\x00\x00\x00\x00\x00\x02\x00\x00\x00\x00\x00\x00\x00\x01\x00\x00\x00\x00\x00\x00\x00\x01\x00\x00\x00\x00\x00\x00\x00" +
-	"\x02\x00\x00\x00\x00\x00\x00\x00q\x06\x00\x00\x00\x00\x00@s\x06\x00\x00\x00\x00\x00@d\x06\x00\x00\x00\x00\x00@j\x06\x00\x00\x00\x00\x00@\x02\x00\x00\x00\x00\x00\x00\x00\x02\x00\x00\x00\x00\x00\x00\x00\x01\x00\x00\x00\x00\x00\x00\x00\x02\x00\x00\x00\x00\x00\x00\x00\x10\x00\x00\x00\x00\x00\x00@\x0e\x00\x00\x00\x00\x00\x00@u\x06\x00\x00\x00\x00\x00@w\x06\x00\x00" +
-	"\x00\x00\x00@`\x06\x00\x00\x00\x00\x00@j\x06\x00\x00\x00\x00\x00@\x01\x00\x00\x00\x00\x00\x00\x00\x01\x00\x00\x00\x00\x00\x00\x00\x02\x00\x00\x00\x00\x00\x00\x00\x02\x00\x00\x00\x00\x00\x00\x00\x01\x00\x00\x00\x00\x00\x00\x00\x02\x00\x00\x00\x00\x00\x00\x00\x10\x00\x00\x00\x00\x00\x00@\x0e\x00\x00\x00\x00\x00\x00@a\x06\x00\x00\x00\x00\x00@`\x06\x00\x00\x00\x00\x00@" +
-	"j\x06\x00\x00\x00\x00\x00@\x01\x00\x00\x00\x00\x00\x00\x00\x01\x00\x00\x00\x00\x00\x00\x00\x01\x00\x00\x00\x00\x00\x00\x00\x01\x00\x00\x00\x00\x00\x00\x00\x02\x00\x00\x00\x00\x00\x00\x00\x0e\x00\x00\x00\x00\x00\x00@a\x06\x00\x00\x00\x00\x00@`\x06\x00\x00\x00\x00\x00@j\x06\x00\x00\x00\x00\x00@\x01\x00\x00\x00\x00\x00\x00\x00\x01\x00\x00\x00\x00\x00\x00\x00\x01\x00\x00\x00" +
-	"\x00\x00\x00\x00\x02\x00\x00\x00\x00\x00\x00\x00\x04\x00\x00\x00\x00\x00\x00\x00\x03\x00\x00\x00\x00\x00\x00\x00\x06\x00\x00\x00\x00\x00\x00\x00\x04\x00\x00\x00\x00\x00\x00\x00\x08\x00\x00\x00\x00\x00\x00\x00s)\x00\x00\x00\x00\x00@w)\x00\x00\x00\x00\x00@z)\x00\x00\x00\x00\x00@\x80)\x00\x00\x00\x00\x00@\x84)\x00\x00\x00\x00\x00@\x06\x00\x00\x00\x00\x00\x00\x00" +
-	"\x07\x00\x00\x00\x00\x00\x00\x00\x07\x00\x00\x00\x00\x00\x00\x00\x08\x00\x00\x00\x00\x00\x00\x00\xd5*\x00\x00\x00\x00\x00@\xdb*\x00\x00\x00\x00\x00@\xe2*\x00\x00\x00\x00\x00@\xe9*\x00\x00\x00\x00\x00@\x03\x00\x00\x00\x00\x00\x00\x00\x03\x00\x00\x00\x00\x00\x00\x00\x03\x00\x00\x00\x00\x00\x00\x00\x03\x00\x00\x00\x00\x00\x00\x00\x03\x00\x00\x00\x00\x00\x00\x00\x03\x00\x00\x00" +
-	"\x00\x00\x00\x00\x05\x00\x00\x00\x00\x00\x00\x00\x05\x00\x00\x00\x00\x00\x00\x00\x04\x00\x00\x00\x00\x00\x00\x00\x06\x00\x00\x00\x00\x00\x00\x00\x05\x00\x00\x00\x00\x00\x00\x00\x04\x00\x00\x00\x00\x00\x00\x00\x04\x00\x00\x00\x00\x00\x00\x00\x04\x00\x00\x00\x00\x00\x00\x00\x800\x00\x00\x00\x00\x00@p/\x00\x00\x00\x00\x00@\xe0.\x00\x00\x00\x00\x00@\xf0/\x00\x00\x00\x00\x00@" +
-	"\x800\x00\x00\x00\x00\x00@\x800\x00\x00\x00\x00\x00@ 1\x00\x00\x00\x00\x00@\x102\x00\x00\x00\x00\x00@\x083\x00\x00\x00\x00\x00@\xe03\x00\x00\x00\x00\x00@\xf04\x00\x00\x00\x00\x00@\xd85\x00\x00\x00\x00\x00@\xd85\x00\x00\x00\x00\x00@\xd85\x00\x00\x00\x00\x00@\x03\x00\x00\x00\x00\x00\x00\x00\x02\x00\x00\x00\x00\x00\x00\x00\x04\x00\x00\x00" +
-	"\x00\x00\x00\x00\x03\x00\x00\x00\x00\x00\x00\x00\x03\x00\x00\x00\x00\x00\x00\x00\x03\x00\x00\x00\x00\x00\x00\x00\x02\x00\x00\x00\x00\x00\x00\x00\x02\x00\x00\x00\x00\x00\x00\x00\x05\x00\x00\x00\x00\x00\x00\x00\x05\x00\x00\x00\x00\x00\x00\x00\x04\x00\x00\x00\x00\x00\x00\x00\x04\x00\x00\x00\x00\x00\x00\x00\x04\x00\x00\x00\x00\x00\x00\x00\x04\x00\x00\x00\x00\x00\x00\x00\x05\x00\x00\x00\x00\x00\x00\x00" +
-	"\x03\x00\x00\x00\x00\x00\x00\x00\x04\x00\x00\x00\x00\x00\x00\x00\x03\x00\x00\x00\x00\x00\x00\x00\x03\x00\x00\x00\x00\x00\x00\x00\x04\x00\x00\x00\x00\x00\x00\x00\x04\x00\x00\x00\x00\x00\x00\x00\x04\x00\x00\x00\x00\x00\x00\x00\xf88\x00\x00\x00\x00\x00@h7\x00\x00\x00\x00\x00@\xb06\x00\x00\x00\x00\x00@\xf88\x00\x00\x00\x00\x00@\xf88\x00\x00\x00\x00\x00@\xd07\x00\x00" +
-	"\x00\x00\x00@\xa08\x00\x00\x00\x00\x00@P8\x00\x00\x00\x00\x00@\x809\x00\x00\x00\x00\x00@X:\x00\x00\x00\x00\x00@8;\x00\x00\x00\x00\x00@\xe8;\x00\x00\x00\x00\x00@\xe8;\x00\x00\x00\x00\x00@\xe8;\x00\x00\x00\x00\x00@\xa0<\x00\x00\x00\x00\x00@\x90=\x00\x00\x00\x00\x00@(>\x00\x00\x00\x00\x00@\xe0>\x00\x00\x00\x00\x00@" +
-	"`?\x00\x00\x00\x00\x00@\x00@\x00\x00\x00\x00\x00@\x00@\x00\x00\x00\x00\x00@\x00@\x00\x00\x00\x00\x00@\x02\x00\x00\x00\x00\x00\x00\x00\x02\x00\x00\x00\x00\x00\x00\x00\x04\x00\x00\x00\x00\x00\x00\x00\x03\x00\x00\x00\x00\x00\x00\x00\x03\x00\x00\x00\x00\x00\x00\x00\x03\x00\x00\x00\x00\x00\x00\x00\x03\x00\x00\x00\x00\x00\x00\x00\x03\x00\x00\x00\x00\x00\x00\x00\x03\x00\x00\x00" +
-	"\x00\x00\x00\x00\x03\x00\x00\x00\x00\x00\x00\x00\x03\x00\x00\x00\x00\x00\x00\x00\x04\x00\x00\x00\x00\x00\x00\x00\x04\x00\x00\x00\x00\x00\x00\x00\x04\x00\x00\x00\x00\x00\x00\x00\x04\x00\x00\x00\x00\x00\x00\x00\x03\x00\x00\x00\x00\x00\x00\x00\x03\x00\x00\x00\x00\x00\x00\x00\x05\x00\x00\x00\x00\x00\x00\x00\x04\x00\x00\x00\x00\x00\x00\x00\x05\x00\x00\x00\x00\x00\x00\x00\x04\x00\x00\x00\x00\x00\x00\x00" +
-	"\x05\x00\x00\x00\x00\x00\x00\x00\x04\x00\x00\x00\x00\x00\x00\x00\x04\x00\x00\x00\x00\x00\x00\x00\x04\x00\x00\x00\x00\x00\x00\x00\x04\x00\x00\x00\x00\x00\x00\x00\x03\x00\x00\x00\x00\x00\x00\x00\x04\x00\x00\x00\x00\x00\x00\x00\x04\x00\x00\x00\x00\x00\x00\x00\x03\x00\x00\x00\x00\x00\x00\x00\x05\x00\x00\x00\x00\x00\x00\x00\x03\x00\x00\x00\x00\x00\x00\x00h7\x00\x00\x00\x00\x00@\x90A\x00\x00" +
-	"\x00\x00\x00@\xd8@\x00\x00\x00\x00\x00@\xd07\x00\x00\x00\x00\x00@\xf88\x00\x00\x00\x00\x00@\xf88\x00\x00\x00\x00\x00@\xf88\x00\x00\x00\x00\x00@\xe0A\x00\x00\x00\x00\x00@\xf88\x00\x00\x00\x00\x00@\xf88\x00\x00\x00\x00\x00@\xf88\x00\x00\x00\x00\x00@\xe8B\x00\x00\x00\x00\x00@\xa0C\x00\x00\x00\x00\x00@\xa0C\x00\x00\x00\x00\x00@" +
-	"\xa0C\x00\x00\x00\x00\x00@\x90=\x00\x00\x00\x00\x00@0E\x00\x00\x00\x00\x00@@D\x00\x00\x00\x00\x00@(>\x00\x00\x00\x00\x00@\x90G\x00\x00\x00\x00\x00@\xd0F\x00\x00\x00\x00\x00@\x90G\x00\x00\x00\x00\x00@\xb0E\x00\x00\x00\x00\x00@\x00@\x00\x00\x00\x00\x00@\x00@\x00\x00\x00\x00\x00@\x00@\x00\x00\x00\x00\x00@\x10I\x00\x00" +
-	"\x00\x00\x00@\x90I\x00\x00\x00\x00\x00@\xf8J\x00\x00\x00\x00\x00@\x80H\x00\x00\x00\x00\x00@\xa8K\x00\x00\x00\x00\x00@PJ\x00\x00\x00\x00\x00@\x06\x00\x00\x00\x00\x00\x00\x00\x04\x00\x00\x00\x00\x00\x00\x00\x08\x00\x00\x00\x00\x00\x00\x00\x7fL\x00\x00\x00\x00\x00@\x85L\x00\x00\x00\x00\x00@\x89L\x00\x00\x00\x00\x00@\x9d)\x00\x00\x00\x00\x00@" +
-	"\x0b\x00\x00\x00\x00\x00\x00@\x05\x00\x00\x00\x00\x00\x00@\x08\x00\x00\x00\x00\x00\x00@\x14\x00\x00\x00\x1e\x00\x00\x00\x1f\x00\x00\x00(\x00\x00\x00"
+	"scoreseveritytemporal\x00\x00\x00\x00\x00\x00\x00\x00\x00\x00\x00\x00\x00\x00\x00\x00\x00\x00\x00\x00\x00\x00\x00\x00\x00\x00\x00\x00\x00\x00\x00\x01\x00\x00\x00\x00\x00\x00\x00vectorversionweights{},\x22\x22:\x00\x01\x0d\x02\x03\x04\x09\x0b\x06\x05\x0c\x08\x07\x0a" +
+	"\x00\x0c\x01\x02\x0d\x0b\x0e\x03\x04\x05\x06\x07\x08\x09\x0anonelowmediumhighcriticalCVSS:4.CVSS:3.YID2.0null-\x00\x00\x00\x00\x00\x00\x00@B\x0f\x00\x00\x00\x00\x00\xa0\x86\x01\x00\x00\x00\x00\x00\x10'\x00\x00\x00\x00\x00\x00\xe8\x03\x00\x00" +
+	"\x00\x00\x00\x00d\x00\x00\x00\x00\x00\x00\x00\x0a\x00\x00\x00\x00\x00\x00\x00\x01\x00\x00\x00\x00\x00\x00\x00issimpactexploitabilityfnumbermissmodifiedImpactmodifiedExploitabilityfi" +
+	"rstNumberfirstScoreadjustedImpactadjustedBaseadjustedTemporal[][EQ1EQ2EQ3+EQ6EQ4EQ5]classdepthdistan" +
+	"cegapgroupnextnextValueshareeffectivegroupsmacroVectormeannomenclaturevalueCVSS-BCVSS-BECVSS-BTCVSS-" +
+	"BTE\x00\x00\x00\x00\x00\x00\x00\x00\x00\x00\x00\x00\x00\x02\x00\x00\x00\x00\x00\x00\x00\x00\x00\x00\x00\x00\x00\x00\x00\x01\x00\x00\x00\x00\x00\x00\x00\x00\x00\x00\x00\x00\x00\x00\x00\x00\x00\x00\x00\x00\x00\x00\x00\x00\x00\x00\x00\x00\x00\x00\x00\x03\x00\x00\x00\x00\x00\x00\x00\x00\x00\x00\x00\x00\x00\x00\x00\x04\x00\x00\x00\x00\x00\x00\x00\x01\x00\x00\x00\x00\x00\x00\x00\x04\x00\x00\x00" +
+	"\x00\x00\x00\x00\x00\x00\x00\x00\x00\x00\x00\x00\x03\x00\x00\x00\x00\x00\x00\x00\x00\x00\x00\x00\x00\x00\x00\x00\x04\x00\x00\x00\x00\x00\x00\x00\x00\x00\x00\x00\x00\x00\x00\x00\x00\x00\x00\x00\x00\x00\x00\x00\x00\x00\x00\x00\x00\x00\x00\x00\x02\x00\x00\x00\x00\x00\x00\x00\x00\x00\x00\x00\x00\x00\x00\x00\x01\x00\x00\x00\x00\x00\x00\x00\x00\x00\x00\x00\x00\x00\x00\x00\x05\x00\x00\x00\x00\x00\x00\x00" +
+	"\x00\x00\x00\x00\x00\x00\x00\x00\x06\x00\x00\x00\x00\x00\x00\x00\x01\x00\x00\x00\x00\x00\x00\x00\x06\x00\x00\x00\x00\x00\x00\x00modifiedScopescope\x00\x00\x00\x00\x00\x00\x00\x00\x00\x00\x00\x00\x00\x00\x00\x00\x00\x00\x00\x00\x00\x00\x00\x00\x00\x00\x00\x00\x00\x00\x01\x00\x00\x00\x00\x00\x00\x00\x01\x00\x00\x00\x00\x00\x00\x00\x01\x00\x00\x00" +
+	"\x00\x00\x00\x00ACARAVCREIRMAMACMAVMCMIMPRMUIPRRCRLUIunsupported CVSS versionnot UTF-8invalid CVSS metric group " +
+	"component: ``invalid CVSS string prefix: `unsupported CVSS version: unknown CVSS metric name: `inval" +
+	"id : `duplicate missing mandatory \x01\x01\x01\x01\x01\x01\x01\x01\x01\x01\x01\x01\x01\x01\x01\x01\x01\x01\x01\x01\x01\x01\x01\x01\x01\x01\x01\x01\x01\x01\x01\x01\x01\x01\x01\x01\x01\x00\x01\x01\x01\x01\x01\x01\x01\x01\x00\x00\x00\x00\x00\x00\x00\x00\x00\x00\x00\x00\x00\x01\x01\x01\x01\x01\x01\x00" +
+	"\x00\x01\x00\x00\x00\x00\x00\x00\x00\x00\x00\x00\x00\x00\x00\x00\x00\x00\x00\x00\x00\x00\x00\x00\x00\x01\x01\x01\x01\x01\x01\x00\x00\x01\x00\x00\x00\x00\x00\x00\x00\x00\x00\x00\x00\x00\x00\x00\x00\x00\x00\x00\x00\x00\x00\x00\x00\x01\x01\x01\x01\x01\x01\x01\x01\x01\x01\x01\x01\x01\x01\x01\x01\x01\x01\x01\x01\x01\x01\x01\x01\x01\x01\x01\x01\x01\x01\x01\x01\x01\x01\x01\x01\x01\x01\x01\x01\x01\x01\x01" +
+	"\x01\x01\x01\x01\x01\x01\x01\x01\x01\x01\x01\x01\x01\x01\x01\x01\x01\x01\x01\x01\x01\x01\x01\x01\x01\x01\x01\x01\x01\x01\x01\x01\x01\x01\x01\x01\x01\x01\x01\x01\x01\x01\x01\x01\x01\x01\x01\x01\x01\x01\x01\x01\x01\x01\x01\x01\x01\x01\x01\x01\x01\x01\x01\x01\x01\x01\x01\x01\x01\x01\x01\x01\x01\x01\x01\x01\x01\x01\x01\x01\x01\x01\x01\x01\x01\x01\x01\x01\x01\x01CVSS%3A0.0" +
+	"%2FAV%3A/\x00\x01\x00\x02\x00\x03\x00\x00\x00\x0d\x03\x00\x00\x09\x00\x04\x00\x0b\x03\x02\x00\x06\x00\x05\x00\x0c\x00\x07\x00\x08\x00\x0a\x03\x01\x05\x00\x06\x00\x02\x1a\x02\x1b\x02\x1d\x02\x00\x02\x01\x02\x02\x02\x0c\x03\x00\x04\x00\x02\x0d\x02\x0b\x02\x0e\x02\x0f\x02\x10\x02\x11\x02\x12\x02\x13\x02\x14\x02\x15\x02\x16\x02\x17\x02\x18\x02\x19\x02\x03\x02\x1e\x02\x04\x02" +
+	"\x05\x02\x06\x02\x07\x02\x1f\x05\x00\x06\x00\x02\x08\x02\x09\x02\x0a\x02\x1c\x01\x01\x01\x02\x01\x00\x01\x0d\x03\x00\x04\x00\x01\x03\x01\x0b\x03\x02\x04\x02\x01\x08\x01\x04\x01\x0c\x01\x0f\x01\x0e\x01\x15\x01\x13\x01\x14\x01\x10\x01\x12\x01\x11\x01\x05\x01\x09\x01\x0a\x01\x06\x03\x01\x04\x01\x01\x07\x05\x00\x06\x00vectorStringaccessVec" +
+	"tor\x00\x00\x00\x00\x00H/\x00\x00\x00\x00\x00@\x01\x00\x00\x00\x00\x00\x00\x00I/\x00\x00\x00\x00\x00@\x05\x00\x00\x00\x00\x00\x00\x00N/\x00\x00\x00\x00\x00@\x01\x00\x00\x00\x00\x00\x00\x00O/\x00\x00\x00\x00\x00@\x10\x00\x00\x00\x00\x00\x00\x00_/\x00\x00\x00\x00\x00@\x01\x00\x00\x00\x00\x00\x00\x00`/\x00\x00\x00\x00\x00@\x07\x00\x00\x00" +
+	"\x00\x00\x00\x00LLOCALAADJACENT_NETWORKNNETWORK\x00accessComplexity\xd8/\x00\x00\x00\x00\x00@\x01\x00\x00\x00\x00\x00\x00\x00\xd9/\x00\x00\x00\x00\x00@\x04\x00\x00\x00\x00\x00\x00\x00\xdd/\x00\x00\x00\x00\x00@\x01\x00\x00\x00\x00\x00\x00\x00" +
+	"\xde/\x00\x00\x00\x00\x00@\x06\x00\x00\x00\x00\x00\x00\x00\xe4/\x00\x00\x00\x00\x00@\x01\x00\x00\x00\x00\x00\x00\x00\xe5/\x00\x00\x00\x00\x00@\x03\x00\x00\x00\x00\x00\x00\x00HHIGHMMEDIUMLLOWauthentication\x00\x00X0\x00\x00\x00\x00\x00@\x01\x00\x00\x00\x00\x00\x00\x00Y0\x00\x00" +
+	"\x00\x00\x00@\x08\x00\x00\x00\x00\x00\x00\x00a0\x00\x00\x00\x00\x00@\x01\x00\x00\x00\x00\x00\x00\x00b0\x00\x00\x00\x00\x00@\x06\x00\x00\x00\x00\x00\x00\x00h0\x00\x00\x00\x00\x00@\x01\x00\x00\x00\x00\x00\x00\x00i0\x00\x00\x00\x00\x00@\x04\x00\x00\x00\x00\x00\x00\x00MMULTIPLESSINGLENNONE\x00\x00\x00" +
+	"confidentialityImpact\x00\x00\x00\xe80\x00\x00\x00\x00\x00@\x01\x00\x00\x00\x00\x00\x00\x00\xe90\x00\x00\x00\x00\x00@\x04\x00\x00\x00\x00\x00\x00\x00\xed0\x00\x00\x00\x00\x00@\x01\x00\x00\x00\x00\x00\x00\x00\xee0\x00\x00\x00\x00\x00@\x07\x00\x00\x00\x00\x00\x00\x00\xf50\x00\x00\x00\x00\x00@\x01\x00\x00\x00" +
+	"\x00\x00\x00\x00\xf60\x00\x00\x00\x00\x00@\x08\x00\x00\x00\x00\x00\x00\x00NNONEPPARTIALCCOMPLETE\x00\x00integrityImpactavailabilityImpact\x00\x00\x00\x00\x00\x00\x00\xc81\x00\x00\x00\x00\x00@\x01\x00\x00\x00\x00\x00\x00\x00" +
+	"\xc91\x00\x00\x00\x00\x00@\x08\x00\x00\x00\x00\x00\x00\x00\xd11\x00\x00\x00\x00\x00@\x03\x00\x00\x00\x00\x00\x00\x00\xd41\x00\x00\x00\x00\x00@\x10\x00\x00\x00\x00\x00\x00\x00\xe41\x00\x00\x00\x00\x00@\x01\x00\x00\x00\x00\x00\x00\x00\xe51\x00\x00\x00\x00\x00@\x0a\x00\x00\x00\x00\x00\x00\x00\xef1\x00\x00\x00\x00\x00@\x01\x00\x00\x00\x00\x00\x00\x00\xf01\x00\x00" +
+	"\x00\x00\x00@\x04\x00\x00\x00\x00\x00\x00\x00\xf41\x00\x00\x00\x00\x00@\x02\x00\x00\x00\x00\x00\x00\x00\xf61\x00\x00\x00\x00\x00@\x0b\x00\x00\x00\x00\x00\x00\x00UUNPROVENPOCPROOF_OF_CONCEPTFFUNCTIONALHHIGHNDNOT_DEFINE" +
+	"D\x00\x00\x00\x00\x00\x00\x00remediationLevel\xb82\x00\x00\x00\x00\x00@\x02\x00\x00\x00\x00\x00\x00\x00\xba2\x00\x00\x00\x00\x00@\x0c\x00\x00\x00\x00\x00\x00\x00\xc62\x00\x00\x00\x00\x00@\x02\x00\x00\x00\x00\x00\x00\x00\xc82\x00\x00\x00\x00\x00@\x0d\x00\x00\x00\x00\x00\x00\x00\xd52\x00\x00\x00\x00\x00@\x01\x00\x00\x00" +
+	"\x00\x00\x00\x00\xd62\x00\x00\x00\x00\x00@\x0a\x00\x00\x00\x00\x00\x00\x00\xe02\x00\x00\x00\x00\x00@\x01\x00\x00\x00\x00\x00\x00\x00\xe12\x00\x00\x00\x00\x00@\x0b\x00\x00\x00\x00\x00\x00\x00\xec2\x00\x00\x00\x00\x00@\x02\x00\x00\x00\x00\x00\x00\x00\xee2\x00\x00\x00\x00\x00@\x0b\x00\x00\x00\x00\x00\x00\x00OFOFFICIAL_FIXTF" +
+	"TEMPORARY_FIXWWORKAROUNDUUNAVAILABLENDNOT_DEFINED\x00\x00\x00\x00\x00\x00\x00reportConfidence\x903\x00\x00\x00\x00\x00@\x02\x00\x00\x00\x00\x00\x00\x00\x923\x00\x00\x00\x00\x00@\x0b\x00\x00\x00" +
+	"\x00\x00\x00\x00\x9d3\x00\x00\x00\x00\x00@\x02\x00\x00\x00\x00\x00\x00\x00\x9f3\x00\x00\x00\x00\x00@\x0e\x00\x00\x00\x00\x00\x00\x00\xad3\x00\x00\x00\x00\x00@\x01\x00\x00\x00\x00\x00\x00\x00\xae3\x00\x00\x00\x00\x00@\x09\x00\x00\x00\x00\x00\x00\x00\xb73\x00\x00\x00\x00\x00@\x02\x00\x00\x00\x00\x00\x00\x00\xb93\x00\x00\x00\x00\x00@\x0b\x00\x00\x00\x00\x00\x00\x00" +
+	"UCUNCONFIRMEDURUNCORROBORATEDCCONFIRMEDNDNOT_DEFINED\x00\x00\x00\x00collateralDamagePotential\x00\x00\x00\x00\x00\x00\x00\xa84\x00\x00\x00\x00\x00@\x01\x00\x00\x00" +
+	"\x00\x00\x00\x00\xa94\x00\x00\x00\x00\x00@\x04\x00\x00\x00\x00\x00\x00\x00\xad4\x00\x00\x00\x00\x00@\x01\x00\x00\x00\x00\x00\x00\x00\xae4\x00\x00\x00\x00\x00@\x03\x00\x00\x00\x00\x00\x00\x00\xb14\x00\x00\x00\x00\x00@\x02\x00\x00\x00\x00\x00\x00\x00\xb34\x00\x00\x00\x00\x00@\x0a\x00\x00\x00\x00\x00\x00\x00\xbd4\x00\x00\x00\x00\x00@\x02\x00\x00\x00\x00\x00\x00\x00" +
+	"\xbf4\x00\x00\x00\x00\x00@\x0b\x00\x00\x00\x00\x00\x00\x00\xca4\x00\x00\x00\x00\x00@\x01\x00\x00\x00\x00\x00\x00\x00\xcb4\x00\x00\x00\x00\x00@\x04\x00\x00\x00\x00\x00\x00\x00\xcf4\x00\x00\x00\x00\x00@\x02\x00\x00\x00\x00\x00\x00\x00\xd14\x00\x00\x00\x00\x00@\x0b\x00\x00\x00\x00\x00\x00\x00NNONELLOWLMLOW_MEDIU" +
+	"MMHMEDIUM_HIGHHHIGHNDNOT_DEFINED\x00\x00\x00\x00targetDistribution\x00\x00\x00\x00\x00\x00\x985\x00\x00\x00\x00\x00@\x01\x00\x00\x00\x00\x00\x00\x00\x995\x00\x00\x00\x00\x00@\x04\x00\x00\x00\x00\x00\x00\x00\x9d5\x00\x00\x00\x00\x00@" +
+	"\x01\x00\x00\x00\x00\x00\x00\x00\x9e5\x00\x00\x00\x00\x00@\x03\x00\x00\x00\x00\x00\x00\x00\xa15\x00\x00\x00\x00\x00@\x01\x00\x00\x00\x00\x00\x00\x00\xa25\x00\x00\x00\x00\x00@\x06\x00\x00\x00\x00\x00\x00\x00\xa85\x00\x00\x00\x00\x00@\x01\x00\x00\x00\x00\x00\x00\x00\xa95\x00\x00\x00\x00\x00@\x04\x00\x00\x00\x00\x00\x00\x00\xad5\x00\x00\x00\x00\x00@\x02\x00\x00\x00" +
+	"\x00\x00\x00\x00\xaf5\x00\x00\x00\x00\x00@\x0b\x00\x00\x00\x00\x00\x00\x00NNONELLOWMMEDIUMHHIGHNDNOT_DEFINED\x00\x00\x00\x00\x00\x00confidentialityRequirement\x00\x00\x00\x00\x00\x00`6\x00\x00\x00\x00\x00@" +
+	"\x01\x00\x00\x00\x00\x00\x00\x00a6\x00\x00\x00\x00\x00@\x03\x00\x00\x00\x00\x00\x00\x00d6\x00\x00\x00\x00\x00@\x01\x00\x00\x00\x00\x00\x00\x00e6\x00\x00\x00\x00\x00@\x06\x00\x00\x00\x00\x00\x00\x00k6\x00\x00\x00\x00\x00@\x01\x00\x00\x00\x00\x00\x00\x00l6\x00\x00\x00\x00\x00@\x04\x00\x00\x00\x00\x00\x00\x00p6\x00\x00\x00\x00\x00@\x02\x00\x00\x00" +
+	"\x00\x00\x00\x00r6\x00\x00\x00\x00\x00@\x0b\x00\x00\x00\x00\x00\x00\x00LLOWMMEDIUMHHIGHNDNOT_DEFINED\x00\x00\x00integrityRequirementavailabilityRequirementattac" +
+	"kVector\x0087\x00\x00\x00\x00\x00@\x01\x00\x00\x00\x00\x00\x00\x0097\x00\x00\x00\x00\x00@\x08\x00\x00\x00\x00\x00\x00\x00A7\x00\x00\x00\x00\x00@\x01\x00\x00\x00\x00\x00\x00\x00B7\x00\x00\x00\x00\x00@\x05\x00\x00\x00\x00\x00\x00\x00G7\x00\x00\x00\x00\x00@\x01\x00\x00\x00\x00\x00\x00\x00H7\x00\x00\x00\x00\x00@\x10\x00\x00\x00" +
+	"\x00\x00\x00\x00X7\x00\x00\x00\x00\x00@\x01\x00\x00\x00\x00\x00\x00\x00Y7\x00\x00\x00\x00\x00@\x07\x00\x00\x00\x00\x00\x00\x00PPHYSICALLLOCALAADJACENT_NETWORKNNETWORKattackComplexity\xb07\x00\x00\x00\x00\x00@" +
+	"\x01\x00\x00\x00\x00\x00\x00\x00\xb17\x00\x00\x00\x00\x00@\x04\x00\x00\x00\x00\x00\x00\x00\xb57\x00\x00\x00\x00\x00@\x01\x00\x00\x00\x00\x00\x00\x00\xb67\x00\x00\x00\x00\x00@\x03\x00\x00\x00\x00\x00\x00\x00HHIGHLLOW\x00\x00\x00\x00\x00\x00\x00privilegesRequired\x00\x00\x00\x00\x00\x0088\x00\x00" +
+	"\x00\x00\x00@\x01\x00\x00\x00\x00\x00\x00\x0098\x00\x00\x00\x00\x00@\x04\x00\x00\x00\x00\x00\x00\x00=8\x00\x00\x00\x00\x00@\x01\x00\x00\x00\x00\x00\x00\x00>8\x00\x00\x00\x00\x00@\x03\x00\x00\x00\x00\x00\x00\x00A8\x00\x00\x00\x00\x00@\x01\x00\x00\x00\x00\x00\x00\x00B8\x00\x00\x00\x00\x00@\x04\x00\x00\x00\x00\x00\x00\x00HHIGHLLO" +
+	"WNNONE\x00\x00userInteraction\x00\x988\x00\x00\x00\x00\x00@\x01\x00\x00\x00\x00\x00\x00\x00\x998\x00\x00\x00\x00\x00@\x08\x00\x00\x00\x00\x00\x00\x00\xa18\x00\x00\x00\x00\x00@\x01\x00\x00\x00\x00\x00\x00\x00\xa28\x00\x00\x00\x00\x00@\x04\x00\x00\x00\x00\x00\x00\x00RREQUIREDNNO" +
+	"NE\x00\x00\xe88\x00\x00\x00\x00\x00@\x01\x00\x00\x00\x00\x00\x00\x00\xe98\x00\x00\x00\x00\x00@\x09\x00\x00\x00\x00\x00\x00\x00\xf28\x00\x00\x00\x00\x00@\x01\x00\x00\x00\x00\x00\x00\x00\xf38\x00\x00\x00\x00\x00@\x07\x00\x00\x00\x00\x00\x00\x00UUNCHANGEDCCHANGED\x00\x00\x00\x00\x00\x00`9\x00\x00\x00\x00\x00@" +
+	"\x01\x00\x00\x00\x00\x00\x00\x00a9\x00\x00\x00\x00\x00@\x04\x00\x00\x00\x00\x00\x00\x00e9\x00\x00\x00\x00\x00@\x01\x00\x00\x00\x00\x00\x00\x00f9\x00\x00\x00\x00\x00@\x03\x00\x00\x00\x00\x00\x00\x00i9\x00\x00\x00\x00\x00@\x01\x00\x00\x00\x00\x00\x00\x00j9\x00\x00\x00\x00\x00@\x04\x00\x00\x00\x00\x00\x00\x00NNONELLOWHHI" +
+	"GH\x00\x00exploitCodeMaturity\x00\x00\x00\x00\x00(:\x00\x00\x00\x00\x00@\x01\x00\x00\x00\x00\x00\x00\x00):\x00\x00\x00\x00\x00@\x0b\x00\x00\x00\x00\x00\x00\x004:\x00\x00\x00\x00\x00@\x01\x00\x00\x00\x00\x00\x00\x005:\x00\x00\x00\x00\x00@\x04\x00\x00\x00\x00\x00\x00\x009:\x00\x00\x00\x00\x00@" +
+	"\x01\x00\x00\x00\x00\x00\x00\x00::\x00\x00\x00\x00\x00@\x0a\x00\x00\x00\x00\x00\x00\x00D:\x00\x00\x00\x00\x00@\x01\x00\x00\x00\x00\x00\x00\x00E:\x00\x00\x00\x00\x00@\x10\x00\x00\x00\x00\x00\x00\x00U:\x00\x00\x00\x00\x00@\x01\x00\x00\x00\x00\x00\x00\x00V:\x00\x00\x00\x00\x00@\x08\x00\x00\x00\x00\x00\x00\x00XNOT_DEFINED" +
+	"HHIGHFFUNCTIONALPPROOF_OF_CONCEPTUUNPROVEN\x00\x00\x00;\x00\x00\x00\x00\x00@\x01\x00\x00\x00\x00\x00\x00\x00\x01;\x00\x00\x00\x00\x00@\x0b\x00\x00\x00\x00\x00\x00\x00\x0c;\x00\x00\x00\x00\x00@\x01\x00\x00\x00\x00\x00\x00\x00\x0d;\x00\x00\x00\x00\x00@" +
+	"\x0b\x00\x00\x00\x00\x00\x00\x00\x18;\x00\x00\x00\x00\x00@\x01\x00\x00\x00\x00\x00\x00\x00\x19;\x00\x00\x00\x00\x00@\x0a\x00\x00\x00\x00\x00\x00\x00#;\x00\x00\x00\x00\x00@\x01\x00\x00\x00\x00\x00\x00\x00$;\x00\x00\x00\x00\x00@\x0d\x00\x00\x00\x00\x00\x00\x001;\x00\x00\x00\x00\x00@\x01\x00\x00\x00\x00\x00\x00\x002;\x00\x00\x00\x00\x00@\x0c\x00\x00\x00" +
+	"\x00\x00\x00\x00XNOT_DEFINEDUUNAVAILABLEWWORKAROUNDTTEMPORARY_FIXOOFFICIAL_FIX\x00\x00\xc0;\x00\x00\x00\x00\x00@\x01\x00\x00\x00\x00\x00\x00\x00\xc1;\x00\x00\x00\x00\x00@\x0b\x00\x00\x00\x00\x00\x00\x00" +
+	"\xcc;\x00\x00\x00\x00\x00@\x01\x00\x00\x00\x00\x00\x00\x00\xcd;\x00\x00\x00\x00\x00@\x09\x00\x00\x00\x00\x00\x00\x00\xd6;\x00\x00\x00\x00\x00@\x01\x00\x00\x00\x00\x00\x00\x00\xd7;\x00\x00\x00\x00\x00@\x0a\x00\x00\x00\x00\x00\x00\x00\xe1;\x00\x00\x00\x00\x00@\x01\x00\x00\x00\x00\x00\x00\x00\xe2;\x00\x00\x00\x00\x00@\x07\x00\x00\x00\x00\x00\x00\x00XNOT" +
+	"_DEFINEDCCONFIRMEDRREASONABLEUUNKNOWN\x00\x00\x00\x00\x00\x00\x00p<\x00\x00\x00\x00\x00@\x01\x00\x00\x00\x00\x00\x00\x00q<\x00\x00\x00\x00\x00@\x0b\x00\x00\x00\x00\x00\x00\x00|<\x00\x00\x00\x00\x00@\x01\x00\x00\x00\x00\x00\x00\x00}<\x00\x00\x00\x00\x00@" +
+	"\x04\x00\x00\x00\x00\x00\x00\x00\x81<\x00\x00\x00\x00\x00@\x01\x00\x00\x00\x00\x00\x00\x00\x82<\x00\x00\x00\x00\x00@\x06\x00\x00\x00\x00\x00\x00\x00\x88<\x00\x00\x00\x00\x00@\x01\x00\x00\x00\x00\x00\x00\x00\x89<\x00\x00\x00\x00\x00@\x03\x00\x00\x00\x00\x00\x00\x00XNOT_DEFINEDHHIGHMMEDIUMLLOW" +
+	"\x00\x00\x00\x00modifiedAttackVector\x00\x00\x00\x00H=\x00\x00\x00\x00\x00@\x01\x00\x00\x00\x00\x00\x00\x00I=\x00\x00\x00\x00\x00@\x0b\x00\x00\x00\x00\x00\x00\x00T=\x00\x00\x00\x00\x00@\x01\x00\x00\x00\x00\x00\x00\x00U=\x00\x00\x00\x00\x00@\x08\x00\x00\x00\x00\x00\x00\x00]=\x00\x00\x00\x00\x00@" +
+	"\x01\x00\x00\x00\x00\x00\x00\x00^=\x00\x00\x00\x00\x00@\x05\x00\x00\x00\x00\x00\x00\x00c=\x00\x00\x00\x00\x00@\x01\x00\x00\x00\x00\x00\x00\x00d=\x00\x00\x00\x00\x00@\x10\x00\x00\x00\x00\x00\x00\x00t=\x00\x00\x00\x00\x00@\x01\x00\x00\x00\x00\x00\x00\x00u=\x00\x00\x00\x00\x00@\x07\x00\x00\x00\x00\x00\x00\x00XNOT_DEFINED" +
+	"PPHYSICALLLOCALAADJACENT_NETWORKNNETWORK\x00\x00\x00\x00modifiedAttackComplexity\xf8=\x00\x00\x00\x00\x00@\x01\x00\x00\x00\x00\x00\x00\x00\xf9=\x00\x00\x00\x00\x00@\x0b\x00\x00\x00\x00\x00\x00\x00" +
+	"\x04>\x00\x00\x00\x00\x00@\x01\x00\x00\x00\x00\x00\x00\x00\x05>\x00\x00\x00\x00\x00@\x04\x00\x00\x00\x00\x00\x00\x00\x09>\x00\x00\x00\x00\x00@\x01\x00\x00\x00\x00\x00\x00\x00\x0a>\x00\x00\x00\x00\x00@\x03\x00\x00\x00\x00\x00\x00\x00XNOT_DEFINEDHHIGHLLOW\x00\x00\x00modifiedPriv" +
+	"ilegesRequired\x00\x00\x00\x00\x00\x00\xb0>\x00\x00\x00\x00\x00@\x01\x00\x00\x00\x00\x00\x00\x00\xb1>\x00\x00\x00\x00\x00@\x0b\x00\x00\x00\x00\x00\x00\x00\xbc>\x00\x00\x00\x00\x00@\x01\x00\x00\x00\x00\x00\x00\x00\xbd>\x00\x00\x00\x00\x00@\x04\x00\x00\x00\x00\x00\x00\x00\xc1>\x00\x00\x00\x00\x00@\x01\x00\x00\x00\x00\x00\x00\x00" +
+	"\xc2>\x00\x00\x00\x00\x00@\x03\x00\x00\x00\x00\x00\x00\x00\xc5>\x00\x00\x00\x00\x00@\x01\x00\x00\x00\x00\x00\x00\x00\xc6>\x00\x00\x00\x00\x00@\x04\x00\x00\x00\x00\x00\x00\x00XNOT_DEFINEDHHIGHLLOWNNONE\x00\x00\x00\x00\x00\x00modifiedUserInteract" +
+	"ion\x00H?\x00\x00\x00\x00\x00@\x01\x00\x00\x00\x00\x00\x00\x00I?\x00\x00\x00\x00\x00@\x0b\x00\x00\x00\x00\x00\x00\x00T?\x00\x00\x00\x00\x00@\x01\x00\x00\x00\x00\x00\x00\x00U?\x00\x00\x00\x00\x00@\x08\x00\x00\x00\x00\x00\x00\x00]?\x00\x00\x00\x00\x00@\x01\x00\x00\x00\x00\x00\x00\x00^?\x00\x00\x00\x00\x00@\x04\x00\x00\x00\x00\x00\x00\x00" +
+	"XNOT_DEFINEDRREQUIREDNNONE\x00\x00\x00\x00\x00\x00\xc8?\x00\x00\x00\x00\x00@\x01\x00\x00\x00\x00\x00\x00\x00\xc9?\x00\x00\x00\x00\x00@\x0b\x00\x00\x00\x00\x00\x00\x00\xd4?\x00\x00\x00\x00\x00@\x01\x00\x00\x00\x00\x00\x00\x00\xd5?\x00\x00\x00\x00\x00@\x09\x00\x00\x00\x00\x00\x00\x00\xde?\x00\x00" +
+	"\x00\x00\x00@\x01\x00\x00\x00\x00\x00\x00\x00\xdf?\x00\x00\x00\x00\x00@\x07\x00\x00\x00\x00\x00\x00\x00XNOT_DEFINEDUUNCHANGEDCCHANGED\x00\x00modifiedConfidentialityImpact\x00\x00\x00\x88@\x00\x00\x00\x00\x00@" +
+	"\x01\x00\x00\x00\x00\x00\x00\x00\x89@\x00\x00\x00\x00\x00@\x0b\x00\x00\x00\x00\x00\x00\x00\x94@\x00\x00\x00\x00\x00@\x01\x00\x00\x00\x00\x00\x00\x00\x95@\x00\x00\x00\x00\x00@\x04\x00\x00\x00\x00\x00\x00\x00\x99@\x00\x00\x00\x00\x00@\x01\x00\x00\x00\x00\x00\x00\x00\x9a@\x00\x00\x00\x00\x00@\x03\x00\x00\x00\x00\x00\x00\x00\x9d@\x00\x00\x00\x00\x00@\x01\x00\x00\x00" +
+	"\x00\x00\x00\x00\x9e@\x00\x00\x00\x00\x00@\x04\x00\x00\x00\x00\x00\x00\x00XNOT_DEFINEDNNONELLOWHHIGH\x00\x00\x00\x00\x00\x00modifiedIntegrityImpactmodifiedAvailabilityImpac" +
+	"t\x00\x00\x00\x00\x00\x00\x00`A\x00\x00\x00\x00\x00@\x01\x00\x00\x00\x00\x00\x00\x00aA\x00\x00\x00\x00\x00@\x08\x00\x00\x00\x00\x00\x00\x00iA\x00\x00\x00\x00\x00@\x01\x00\x00\x00\x00\x00\x00\x00jA\x00\x00\x00\x00\x00@\x05\x00\x00\x00\x00\x00\x00\x00oA\x00\x00\x00\x00\x00@\x01\x00\x00\x00\x00\x00\x00\x00pA\x00\x00\x00\x00\x00@\x08\x00\x00\x00" +
+	"\x00\x00\x00\x00xA\x00\x00\x00\x00\x00@\x01\x00\x00\x00\x00\x00\x00\x00yA\x00\x00\x00\x00\x00@\x07\x00\x00\x00\x00\x00\x00\x00PPHYSICALLLOCALAADJACENTNNETWORKattackRequirements\x00\x00\x00\x00\x00\x00\xd8A\x00\x00\x00\x00\x00@" +
+	"\x01\x00\x00\x00\x00\x00\x00\x00\xd9A\x00\x00\x00\x00\x00@\x07\x00\x00\x00\x00\x00\x00\x00\xe0A\x00\x00\x00\x00\x00@\x01\x00\x00\x00\x00\x00\x00\x00\xe1A\x00\x00\x00\x00\x00@\x04\x00\x00\x00\x00\x00\x00\x00PPRESENTNNONE\x00\x00\x00HB\x00\x00\x00\x00\x00@\x01\x00\x00\x00\x00\x00\x00\x00IB\x00\x00\x00\x00\x00@\x06\x00\x00\x00" +
+	"\x00\x00\x00\x00OB\x00\x00\x00\x00\x00@\x01\x00\x00\x00\x00\x00\x00\x00PB\x00\x00\x00\x00\x00@\x07\x00\x00\x00\x00\x00\x00\x00WB\x00\x00\x00\x00\x00@\x01\x00\x00\x00\x00\x00\x00\x00XB\x00\x00\x00\x00\x00@\x04\x00\x00\x00\x00\x00\x00\x00AACTIVEPPASSIVENNONE\x00\x00\x00\x00vulnConf" +
+	"identialityImpactvulnIntegrityImpactvulnAvailabilityImpactsubConfidentialityImpactsubIntegrityImpact" +
+	"subAvailabilityImpactexploitMaturitypC\x00\x00\x00\x00\x00@\x01\x00\x00\x00\x00\x00\x00\x00qC\x00\x00\x00\x00\x00@\x0b\x00\x00\x00\x00\x00\x00\x00|C\x00\x00\x00\x00\x00@\x01\x00\x00\x00\x00\x00\x00\x00}C\x00\x00\x00\x00\x00@\x0a\x00\x00\x00\x00\x00\x00\x00" +
+	"\x87C\x00\x00\x00\x00\x00@\x01\x00\x00\x00\x00\x00\x00\x00\x88C\x00\x00\x00\x00\x00@\x10\x00\x00\x00\x00\x00\x00\x00\x98C\x00\x00\x00\x00\x00@\x01\x00\x00\x00\x00\x00\x00\x00\x99C\x00\x00\x00\x00\x00@\x08\x00\x00\x00\x00\x00\x00\x00XNOT_DEFINEDUUNREPORTEDPPROOF_OF_CON" +
+	"CEPTAATTACKED\x00\x00\x00\x00\x00\x00\x00(D\x00\x00\x00\x00\x00@\x01\x00\x00\x00\x00\x00\x00\x00)D\x00\x00\x00\x00\x00@\x0b\x00\x00\x00\x00\x00\x00\x004D\x00\x00\x00\x00\x00@\x01\x00\x00\x00\x00\x00\x00\x005D\x00\x00\x00\x00\x00@\x03\x00\x00\x00\x00\x00\x00\x008D\x00\x00\x00\x00\x00@\x01\x00\x00\x00\x00\x00\x00\x00" +
+	"9D\x00\x00\x00\x00\x00@\x06\x00\x00\x00\x00\x00\x00\x00?D\x00\x00\x00\x00\x00@\x01\x00\x00\x00\x00\x00\x00\x00@D\x00\x00\x00\x00\x00@\x04\x00\x00\x00\x00\x00\x00\x00XNOT_DEFINEDLLOWMMEDIUMHHIGH\x00\x00\x00\x00\xe8D\x00\x00\x00\x00\x00@\x01\x00\x00\x00\x00\x00\x00\x00\xe9D\x00\x00" +
+	"\x00\x00\x00@\x08\x00\x00\x00\x00\x00\x00\x00\xf1D\x00\x00\x00\x00\x00@\x01\x00\x00\x00\x00\x00\x00\x00\xf2D\x00\x00\x00\x00\x00@\x05\x00\x00\x00\x00\x00\x00\x00\xf7D\x00\x00\x00\x00\x00@\x01\x00\x00\x00\x00\x00\x00\x00\xf8D\x00\x00\x00\x00\x00@\x08\x00\x00\x00\x00\x00\x00\x00\x00E\x00\x00\x00\x00\x00@\x01\x00\x00\x00\x00\x00\x00\x00\x01E\x00\x00\x00\x00\x00@" +
+	"\x07\x00\x00\x00\x00\x00\x00\x00\x08E\x00\x00\x00\x00\x00@\x01\x00\x00\x00\x00\x00\x00\x00\x09E\x00\x00\x00\x00\x00@\x0b\x00\x00\x00\x00\x00\x00\x00PPHYSICALLLOCALAADJACENTNNETWORKXNOT_DEFINED\x00\x00\x00\x00modifiedAtta" +
+	"ckRequirements\x00\x00\x00\x00\x00\x00\x98E\x00\x00\x00\x00\x00@\x01\x00\x00\x00\x00\x00\x00\x00\x99E\x00\x00\x00\x00\x00@\x0b\x00\x00\x00\x00\x00\x00\x00\xa4E\x00\x00\x00\x00\x00@\x01\x00\x00\x00\x00\x00\x00\x00\xa5E\x00\x00\x00\x00\x00@\x07\x00\x00\x00\x00\x00\x00\x00\xacE\x00\x00\x00\x00\x00@\x01\x00\x00\x00\x00\x00\x00\x00" +
+	"\xadE\x00\x00\x00\x00\x00@\x04\x00\x00\x00\x00\x00\x00\x00XNOT_DEFINEDPPRESENTNNONE\x00\x00\x00\x00\x00\x00\x008F\x00\x00\x00\x00\x00@\x01\x00\x00\x00\x00\x00\x00\x009F\x00\x00\x00\x00\x00@\x0b\x00\x00\x00\x00\x00\x00\x00DF\x00\x00\x00\x00\x00@\x01\x00\x00\x00\x00\x00\x00\x00EF\x00\x00" +
+	"\x00\x00\x00@\x06\x00\x00\x00\x00\x00\x00\x00KF\x00\x00\x00\x00\x00@\x01\x00\x00\x00\x00\x00\x00\x00LF\x00\x00\x00\x00\x00@\x07\x00\x00\x00\x00\x00\x00\x00SF\x00\x00\x00\x00\x00@\x01\x00\x00\x00\x00\x00\x00\x00TF\x00\x00\x00\x00\x00@\x04\x00\x00\x00\x00\x00\x00\x00XNOT_DEFINEDAACTIVEPPASS" +
+	"IVENNONEmodifiedVulnConfidentialityImpactmodifiedVulnIntegrityImpactmodifiedVulnAvailabilityImpactmo" +
+	"difiedSubConfidentialityImpact\x00\x00\x00\x00\x00\x00XG\x00\x00\x00\x00\x00@\x01\x00\x00\x00\x00\x00\x00\x00YG\x00\x00\x00\x00\x00@\x0b\x00\x00\x00\x00\x00\x00\x00dG\x00\x00\x00\x00\x00@\x01\x00\x00\x00\x00\x00\x00\x00eG\x00\x00\x00\x00\x00@\x0a\x00\x00\x00\x00\x00\x00\x00" +
+	"oG\x00\x00\x00\x00\x00@\x01\x00\x00\x00\x00\x00\x00\x00pG\x00\x00\x00\x00\x00@\x03\x00\x00\x00\x00\x00\x00\x00sG\x00\x00\x00\x00\x00@\x01\x00\x00\x00\x00\x00\x00\x00tG\x00\x00\x00\x00\x00@\x04\x00\x00\x00\x00\x00\x00\x00XNOT_DEFINEDNNEGLIGIBLELLOWHHIGHmodi" +
+	"fiedSubIntegrityImpact\x00\x00\x00\x00\x00\x008H\x00\x00\x00\x00\x00@\x01\x00\x00\x00\x00\x00\x00\x009H\x00\x00\x00\x00\x00@\x0b\x00\x00\x00\x00\x00\x00\x00DH\x00\x00\x00\x00\x00@\x01\x00\x00\x00\x00\x00\x00\x00EH\x00\x00\x00\x00\x00@\x0a\x00\x00\x00\x00\x00\x00\x00OH\x00\x00\x00\x00\x00@" +
+	"\x01\x00\x00\x00\x00\x00\x00\x00PH\x00\x00\x00\x00\x00@\x03\x00\x00\x00\x00\x00\x00\x00SH\x00\x00\x00\x00\x00@\x01\x00\x00\x00\x00\x00\x00\x00TH\x00\x00\x00\x00\x00@\x04\x00\x00\x00\x00\x00\x00\x00XH\x00\x00\x00\x00\x00@\x01\x00\x00\x00\x00\x00\x00\x00YH\x00\x00\x00\x00\x00@\x06\x00\x00\x00\x00\x00\x00\x00XNOT_DEFINED" +
+	"NNEGLIGIBLELLOWHHIGHSSAFETY\x00modifiedSubAvailabilityImpactSafety\x00\x00\x00\x00\x00\xe8H\x00\x00\x00\x00\x00@\x01\x00\x00\x00\x00\x00\x00\x00\xe9H\x00\x00\x00\x00\x00@\x0b\x00\x00\x00\x00\x00\x00\x00" +
+	"\xf4H\x00\x00\x00\x00\x00@\x01\x00\x00\x00\x00\x00\x00\x00\xf5H\x00\x00\x00\x00\x00@\x07\x00\x00\x00\x00\x00\x00\x00\xfcH\x00\x00\x00\x00\x00@\x01\x00\x00\x00\x00\x00\x00\x00\xfdH\x00\x00\x00\x00\x00@\x0a\x00\x00\x00\x00\x00\x00\x00XNOT_DEFINEDPPRESENTNNEGLIGIBLE\x00Auto" +
+	"matable\x00\x00\x00\x00\x00xI\x00\x00\x00\x00\x00@\x01\x00\x00\x00\x00\x00\x00\x00yI\x00\x00\x00\x00\x00@\x0b\x00\x00\x00\x00\x00\x00\x00\x84I\x00\x00\x00\x00\x00@\x01\x00\x00\x00\x00\x00\x00\x00\x85I\x00\x00\x00\x00\x00@\x03\x00\x00\x00\x00\x00\x00\x00\x88I\x00\x00\x00\x00\x00@\x01\x00\x00\x00\x00\x00\x00\x00\x89I\x00\x00\x00\x00\x00@" +
+	"\x02\x00\x00\x00\x00\x00\x00\x00XNOT_DEFINEDYYESNNO\x00\x00\x00\x00\x00Recovery\x18J\x00\x00\x00\x00\x00@\x01\x00\x00\x00\x00\x00\x00\x00\x19J\x00\x00\x00\x00\x00@\x0b\x00\x00\x00\x00\x00\x00\x00$J\x00\x00\x00\x00\x00@\x01\x00\x00\x00\x00\x00\x00\x00%J\x00\x00\x00\x00\x00@\x09\x00\x00\x00" +
+	"\x00\x00\x00\x00.J\x00\x00\x00\x00\x00@\x01\x00\x00\x00\x00\x00\x00\x00/J\x00\x00\x00\x00\x00@\x04\x00\x00\x00\x00\x00\x00\x003J\x00\x00\x00\x00\x00@\x01\x00\x00\x00\x00\x00\x00\x004J\x00\x00\x00\x00\x00@\x0d\x00\x00\x00\x00\x00\x00\x00XNOT_DEFINEDAAUTOMATICUUSERIIRRE" +
+	"COVERABLE\x00\x00\x00\x00\x00\x00\x00valueDensity\x00\x00\x00\x00\xb8J\x00\x00\x00\x00\x00@\x01\x00\x00\x00\x00\x00\x00\x00\xb9J\x00\x00\x00\x00\x00@\x0b\x00\x00\x00\x00\x00\x00\x00\xc4J\x00\x00\x00\x00\x00@\x01\x00\x00\x00\x00\x00\x00\x00\xc5J\x00\x00\x00\x00\x00@\x07\x00\x00\x00\x00\x00\x00\x00\xccJ\x00\x00" +
+	"\x00\x00\x00@\x01\x00\x00\x00\x00\x00\x00\x00\xcdJ\x00\x00\x00\x00\x00@\x0c\x00\x00\x00\x00\x00\x00\x00XNOT_DEFINEDDDIFFUSECCONCENTRATED\x00\x00\x00\x00\x00\x00\x00vulnerabilityResponseEffort\x00\x00\x00\x00\x00" +
+	"\x80K\x00\x00\x00\x00\x00@\x01\x00\x00\x00\x00\x00\x00\x00\x81K\x00\x00\x00\x00\x00@\x0b\x00\x00\x00\x00\x00\x00\x00\x8cK\x00\x00\x00\x00\x00@\x01\x00\x00\x00\x00\x00\x00\x00\x8dK\x00\x00\x00\x00\x00@\x03\x00\x00\x00\x00\x00\x00\x00\x90K\x00\x00\x00\x00\x00@\x01\x00\x00\x00\x00\x00\x00\x00\x91K\x00\x00\x00\x00\x00@\x08\x00\x00\x00\x00\x00\x00\x00\x99K\x00\x00" +
+	"\x00\x00\x00@\x01\x00\x00\x00\x00\x00\x00\x00\x9aK\x00\x00\x00\x00\x00@\x04\x00\x00\x00\x00\x00\x00\x00XNOT_DEFINEDLLOWMMODERATEHHIGH\x00\x00providerUrgency\x00PL\x00\x00\x00\x00\x00@\x01\x00\x00\x00\x00\x00\x00\x00QL\x00\x00\x00\x00\x00@" +
+	"\x0b\x00\x00\x00\x00\x00\x00\x00\x5cL\x00\x00\x00\x00\x00@\x03\x00\x00\x00\x00\x00\x00\x00_L\x00\x00\x00\x00\x00@\x03\x00\x00\x00\x00\x00\x00\x00bL\x00\x00\x00\x00\x00@\x05\x00\x00\x00\x00\x00\x00\x00gL\x00\x00\x00\x00\x00@\x05\x00\x00\x00\x00\x00\x00\x00lL\x00\x00\x00\x00\x00@\x05\x00\x00\x00\x00\x00\x00\x00qL\x00\x00\x00\x00\x00@\x05\x00\x00\x00" +
+	"\x00\x00\x00\x00vL\x00\x00\x00\x00\x00@\x05\x00\x00\x00\x00\x00\x00\x00{L\x00\x00\x00\x00\x00@\x05\x00\x00\x00\x00\x00\x00\x00XNOT_DEFINEDRedREDAmberAMBERGreenGREENClearCLEARNONELOWMEDIUMHIG" +
+	"HCRITICALbaseScoretemporalScoreenvironmentalScorebaseSeveritytemporalSeverityenvironmentalSeverityer" +
+	"ror:  \x00\x00\x00\x00\x00\x00PS\x00\x00\x00\x00\x00@\x03\x00\x00\x00\x00\x00\x00\x00SS\x00\x00\x00\x00\x00@\x03\x00\x00\x00\x00\x00\x00\x00VS\x00\x00\x00\x00\x00@\x03\x00\x00\x00\x00\x00\x00\x00YS\x00\x00\x00\x00\x00@\x03\x00\x00\x00\x00\x00\x00\x00\x5cS\x00\x00\x00\x00\x00@\x03\x00\x00\x00\x00\x00\x00\x00_S\x00\x00\x00\x00\x00@" +
+	"\x03\x00\x00\x00\x00\x00\x00\x00bS\x00\x00\x00\x00\x00@\x03\x00\x00\x00\x00\x00\x00\x00eS\x00\x00\x00\x00\x00@\x03\x00\x00\x00\x00\x00\x00\x00hS\x00\x00\x00\x00\x00@\x03\x00\x00\x00\x00\x00\x00\x00kS\x00\x00\x00\x00\x00@\x03\x00\x00\x00\x00\x00\x00\x00nS\x00\x00\x00\x00\x00@\x03\x00\x00\x00\x00\x00\x00\x00qS\x00\x00\x00\x00\x00@\x03\x00\x00\x00" +
+	"\x00\x00\x00\x00tS\x00\x00\x00\x00\x00@\x03\x00\x00\x00\x00\x00\x00\x00wS\x00\x00\x00\x00\x00@\x03\x00\x00\x00\x00\x00\x00\x00zS\x00\x00\x00\x00\x00@\x03\x00\x00\x00\x00\x00\x00\x00}S\x00\x00\x00\x00\x00@\x03\x00\x00\x00\x00\x00\x00\x00\x80S\x00\x00\x00\x00\x00@\x03\x00\x00\x00\x00\x00\x00\x00\x83S\x00\x00\x00\x00\x00@\x03\x00\x00\x00\x00\x00\x00\x00" +
+	"\x86S\x00\x00\x00\x00\x00@\x03\x00\x00\x00\x00\x00\x00\x00\x89S\x00\x00\x00\x00\x00@\x03\x00\x00\x00\x00\x00\x00\x00\x8cS\x00\x00\x00\x00\x00@\x03\x00\x00\x00\x00\x00\x00\x00\x8fS\x00\x00\x00\x00\x00@\x03\x00\x00\x00\x00\x00\x00\x00\x92S\x00\x00\x00\x00\x00@\x03\x00\x00\x00\x00\x00\x00\x00\x95S\x00\x00\x00\x00\x00@\x03\x00\x00\x00\x00\x00\x00\x00\x98S\x00\x00" +
+	"\x00\x00\x00@\x03\x00\x00\x00\x00\x00\x00\x00\x9bS\x00\x00\x00\x00\x00@\x03\x00\x00\x00\x00\x00\x00\x00\x9eS\x00\x00\x00\x00\x00@\x03\x00\x00\x00\x00\x00\x00\x00\xa1S\x00\x00\x00\x00\x00@\x03\x00\x00\x00\x00\x00\x00\x00\xa4S\x00\x00\x00\x00\x00@\x03\x00\x00\x00\x00\x00\x00\x00\xa7S\x00\x00\x00\x00\x00@\x03\x00\x00\x00\x00\x00\x00\x00\xaaS\x00\x00\x00\x00\x00@" +
+	"\x03\x00\x00\x00\x00\x00\x00\x00\xadS\x00\x00\x00\x00\x00@\x03\x00\x00\x00\x00\x00\x00\x00\xb0S\x00\x00\x00\x00\x00@\x03\x00\x00\x00\x00\x00\x00\x00\xb3S\x00\x00\x00\x00\x00@\x03\x00\x00\x00\x00\x00\x00\x00\xb6S\x00\x00\x00\x00\x00@\x03\x00\x00\x00\x00\x00\x00\x00\xb9S\x00\x00\x00\x00\x00@\x03\x00\x00\x00\x00\x00\x00\x00\xbcS\x00\x00\x00\x00\x00@\x03\x00\x00\x00" +
+	"\x00\x00\x00\x00\xbfS\x00\x00\x00\x00\x00@\x03\x00\x00\x00\x00\x00\x00\x00\xc2S\x00\x00\x00\x00\x00@\x03\x00\x00\x00\x00\x00\x00\x00\xc5S\x00\x00\x00\x00\x00@\x03\x00\x00\x00\x00\x00\x00\x00\xc8S\x00\x00\x00\x00\x00@\x03\x00\x00\x00\x00\x00\x00\x00\xcbS\x00\x00\x00\x00\x00@\x03\x00\x00\x00\x00\x00\x00\x00\xceS\x00\x00\x00\x00\x00@\x03\x00\x00\x00\x00\x00\x00\x00" +
+	"\xd1S\x00\x00\x00\x00\x00@\x03\x00\x00\x00\x00\x00\x00\x00\xd4S\x00\x00\x00\x00\x00@\x03\x00\x00\x00\x00\x00\x00\x00\xd7S\x00\x00\x00\x00\x00@\x03\x00\x00\x00\x00\x00\x00\x00\xdaS\x00\x00\x00\x00\x00@\x03\x00\x00\x00\x00\x00\x00\x00\xddS\x00\x00\x00\x00\x00@\x03\x00\x00\x00\x00\x00\x00\x00\xe0S\x00\x00\x00\x00\x00@\x03\x00\x00\x00\x00\x00\x00\x00\xe3S\x00\x00" +
+	"\x00\x00\x00@\x03\x00\x00\x00\x00\x00\x00\x00\xe6S\x00\x00\x00\x00\x00@\x03\x00\x00\x00\x00\x00\x00\x00\xe9S\x00\x00\x00\x00\x00@\x03\x00\x00\x00\x00\x00\x00\x00\xecS\x00\x00\x00\x00\x00@\x03\x00\x00\x00\x00\x00\x00\x00\xefS\x00\x00\x00\x00\x00@\x03\x00\x00\x00\x00\x00\x00\x00\xf2S\x00\x00\x00\x00\x00@\x03\x00\x00\x00\x00\x00\x00\x00\xf5S\x00\x00\x00\x00\x00@" +
+	"\x03\x00\x00\x00\x00\x00\x00\x00\xf8S\x00\x00\x00\x00\x00@\x03\x00\x00\x00\x00\x00\x00\x00\xfbS\x00\x00\x00\x00\x00@\x03\x00\x00\x00\x00\x00\x00\x00\xfeS\x00\x00\x00\x00\x00@\x03\x00\x00\x00\x00\x00\x00\x00\x01T\x00\x00\x00\x00\x00@\x03\x00\x00\x00\x00\x00\x00\x00\x04T\x00\x00\x00\x00\x00@\x03\x00\x00\x00\x00\x00\x00\x00\x07T\x00\x00\x00\x00\x00@\x03\x00\x00\x00" +
+	"\x00\x00\x00\x00\x0aT\x00\x00\x00\x00\x00@\x03\x00\x00\x00\x00\x00\x00\x00\x0dT\x00\x00\x00\x00\x00@\x03\x00\x00\x00\x00\x00\x00\x00\x10T\x00\x00\x00\x00\x00@\x03\x00\x00\x00\x00\x00\x00\x00\x13T\x00\x00\x00\x00\x00@\x03\x00\x00\x00\x00\x00\x00\x00\x16T\x00\x00\x00\x00\x00@\x03\x00\x00\x00\x00\x00\x00\x00\x19T\x00\x00\x00\x00\x00@\x03\x00\x00\x00\x00\x00\x00\x00" +
+	"\x1cT\x00\x00\x00\x00\x00@\x03\x00\x00\x00\x00\x00\x00\x00\x1fT\x00\x00\x00\x00\x00@\x03\x00\x00\x00\x00\x00\x00\x00\x22T\x00\x00\x00\x00\x00@\x03\x00\x00\x00\x00\x00\x00\x00%T\x00\x00\x00\x00\x00@\x03\x00\x00\x00\x00\x00\x00\x00(T\x00\x00\x00\x00\x00@\x03\x00\x00\x00\x00\x00\x00\x00+T\x00\x00\x00\x00\x00@\x03\x00\x00\x00\x00\x00\x00\x00.T\x00\x00" +
+	"\x00\x00\x00@\x03\x00\x00\x00\x00\x00\x00\x001T\x00\x00\x00\x00\x00@\x03\x00\x00\x00\x00\x00\x00\x004T\x00\x00\x00\x00\x00@\x03\x00\x00\x00\x00\x00\x00\x007T\x00\x00\x00\x00\x00@\x03\x00\x00\x00\x00\x00\x00\x00:T\x00\x00\x00\x00\x00@\x03\x00\x00\x00\x00\x00\x00\x00=T\x00\x00\x00\x00\x00@\x03\x00\x00\x00\x00\x00\x00\x00@T\x00\x00\x00\x00\x00@" +
+	"\x03\x00\x00\x00\x00\x00\x00\x00CT\x00\x00\x00\x00\x00@\x03\x00\x00\x00\x00\x00\x00\x00FT\x00\x00\x00\x00\x00@\x03\x00\x00\x00\x00\x00\x00\x00IT\x00\x00\x00\x00\x00@\x03\x00\x00\x00\x00\x00\x00\x00LT\x00\x00\x00\x00\x00@\x03\x00\x00\x00\x00\x00\x00\x00OT\x00\x00\x00\x00\x00@\x03\x00\x00\x00\x00\x00\x00\x00RT\x00\x00\x00\x00\x00@\x03\x00\x00\x00" +
+	"\x00\x00\x00\x00UT\x00\x00\x00\x00\x00@\x03\x00\x00\x00\x00\x00\x00\x00XT\x00\x00\x00\x00\x00@\x03\x00\x00\x00\x00\x00\x00\x00[T\x00\x00\x00\x00\x00@\x03\x00\x00\x00\x00\x00\x00\x00^T\x00\x00\x00\x00\x00@\x03\x00\x00\x00\x00\x00\x00\x00aT\x00\x00\x00\x00\x00@\x03\x00\x00\x00\x00\x00\x00\x00dT\x00\x00\x00\x00\x00@\x03\x00\x00\x00\x00\x00\x00\x00" +
+	"gT\x00\x00\x00\x00\x00@\x03\x00\x00\x00\x00\x00\x00\x00jT\x00\x00\x00\x00\x00@\x03\x00\x00\x00\x00\x00\x00\x00mT\x00\x00\x00\x00\x00@\x03\x00\x00\x00\x00\x00\x00\x00pT\x00\x00\x00\x00\x00@\x03\x00\x00\x00\x00\x00\x00\x00sT\x00\x00\x00\x00\x00@\x03\x00\x00\x00\x00\x00\x00\x00vT\x00\x00\x00\x00\x00@\x03\x00\x00\x00\x00\x00\x00\x00yT\x00\x00" +
+	"\x00\x00\x00@\x03\x00\x00\x00\x00\x00\x00\x00|T\x00\x00\x00\x00\x00@\x04\x00\x00\x00\x00\x00\x00\x000.00.10.20.30.40.50.60.70.80.91.01.11.21.31.41.51.61.71.81.92.02.12.22.3" +
+	"2.42.52.62.72.82.93.03.13.23.33.43.53.63.73.83.94.04.14.24.34.44.54.64.74.84.95.05.15.25.35.45.55.65" +
+	".75.85.96.06.16.26.36.46.56.66.76.86.97.07.17.27.37.47.57.67.77.87.98.08.18.28.38.48.58.68.78.88.99." +
+	"09.19.29.39.49.59.69.79.89.910.0\x0a\x00\x00\x04\x00\x06\x00\x00\x00\x05\x01\x00\x02\x03\x00\x00\x00\x00\x00\x03\x00\x02\x01\x00\x00\x00\x00\x00\x00\x00\x00\x00\xf0\x10\x00\x00\x00\x00\x00@\x18\x11\x00\x00\x00\x00\x00@\xa8\x10\x00\x00\x00\x00\x00@@\x11\x00\x00\x00\x00\x00@\xb0\x11\x00\x00" +
+	"\x00\x00\x00@\xb0\x11\x00\x00\x00\x00\x00@\xb0\x11\x00\x00\x00\x00\x00@x\x11\x00\x00\x00\x00\x00@\xb0\x11\x00\x00\x00\x00\x00@\xb0\x11\x00\x00\x00\x00\x00@\xb0\x11\x00\x00\x00\x00\x00@\xe8\x11\x00\x00\x00\x00\x00@0\x12\x00\x00\x00\x00\x00@0\x12\x00\x00\x00\x00\x00@0\x12\x00\x00\x00\x00\x00@\xd0\x12\x00\x00\x00\x00\x00@\x08\x13\x00\x00\x00\x00\x00@" +
+	"x\x12\x00\x00\x00\x00\x00@@\x13\x00\x00\x00\x00\x00@\x18\x14\x00\x00\x00\x00\x00@\xd0\x13\x00\x00\x00\x00\x00@\x18\x14\x00\x00\x00\x00\x00@\x88\x13\x00\x00\x00\x00\x00@\xd0\x13\x00\x00\x00\x00\x00@\xd0\x13\x00\x00\x00\x00\x00@\xd0\x13\x00\x00\x00\x00\x00@p\x14\x00\x00\x00\x00\x00@\xa8\x14\x00\x00\x00\x00\x00@0\x12\x00\x00\x00\x00\x00@\x08\x13\x00\x00" +
+	"\x00\x00\x00@(\x15\x00\x00\x00\x00\x00@\xf0\x14\x00\x00\x00\x00\x00@\x8b\x01\x00\x00\x00\x00\x00\x00\x86\x02\x00\x00\x00\x00\x00\x00\xe8\x03\x00\x00\x00\x00\x00\x00^\x01\x00\x00\x00\x00\x00\x00b\x02\x00\x00\x00\x00\x00\x00\xc6\x02\x00\x00\x00\x00\x00\x00\xc2\x01\x00\x00\x00\x00\x00\x000\x02\x00\x00\x00\x00\x00\x00\xc0\x02\x00\x00\x00\x00\x00\x00\x00\x00\x00\x00\x00\x00\x00\x00" +
+	"\x13\x01\x00\x00\x00\x00\x00\x00\x94\x02\x00\x00\x00\x00\x00\x00R\x03\x00\x00\x00\x00\x00\x00\x84\x03\x00\x00\x00\x00\x00\x00\xb6\x03\x00\x00\x00\x00\x00\x00\xe8\x03\x00\x00\x00\x00\x00\x00\xe8\x03\x00\x00\x00\x00\x00\x00f\x03\x00\x00\x00\x00\x00\x00\x84\x03\x00\x00\x00\x00\x00\x00\xb6\x03\x00\x00\x00\x00\x00\x00\xe8\x03\x00\x00\x00\x00\x00\x00\xe8\x03\x00\x00\x00\x00\x00\x00\x84\x03\x00\x00" +
+	"\x00\x00\x00\x00\xb6\x03\x00\x00\x00\x00\x00\x00\xe8\x03\x00\x00\x00\x00\x00\x00\xe8\x03\x00\x00\x00\x00\x00\x00\x00\x00\x00\x00\x00\x00\x00\x00d\x00\x00\x00\x00\x00\x00\x00,\x01\x00\x00\x00\x00\x00\x00\x90\x01\x00\x00\x00\x00\x00\x00\xf4\x01\x00\x00\x00\x00\x00\x00\x00\x00\x00\x00\x00\x00\x00\x00\x00\x00\x00\x00\x00\x00\x00\x00\xfa\x00\x00\x00\x00\x00\x00\x00\xee\x02\x00\x00\x00\x00\x00\x00" +
+	"\xe8\x03\x00\x00\x00\x00\x00\x00\xe8\x03\x00\x00\x00\x00\x00\x00\xf4\x01\x00\x00\x00\x00\x00\x00\xe8\x03\x00\x00\x00\x00\x00\x00\xe6\x05\x00\x00\x00\x00\x00\x00\xe8\x03\x00\x00\x00\x00\x00\x00\x1e\x00\x00\x00\x14\x00\x00\x00\x0f\x00\x00\x00\x00\x00\x00\x00d\x00\x00\x00\x00\x00\x00\x00d\x00\x00\x00\x00\x00\x00\x00a\x00\x00\x00\x00\x00\x00\x00^\x00\x00\x00\x00\x00\x00\x00[\x00\x00\x00" +
+	"\x00\x00\x00\x00d\x00\x00\x00\x00\x00\x00\x00d\x00\x00\x00\x00\x00\x00\x00a\x00\x00\x00\x00\x00\x00\x00`\x00\x00\x00\x00\x00\x00\x00_\x00\x00\x00\x00\x00\x00\x00d\x00\x00\x00\x00\x00\x00\x00d\x00\x00\x00\x00\x00\x00\x00`\x00\x00\x00\x00\x00\x00\x00\x5c\x00\x00\x00\x00\x00\x00\x00d\x00\x00\x00\x00\x00\x00\x00\x96\x00\x00\x00\x00\x00\x00\x00d\x00\x00\x00\x00\x00\x00\x00" +
+	"2\x00\x00\x00\x00\x00\x00\x00\x14\x00\x00\x00\x00\x00\x00\x007\x00\x00\x00\x00\x00\x00\x00>\x00\x00\x00\x00\x00\x00\x00U\x00\x00\x00\x00\x00\x00\x00\x00\x00\x00\x00\x00\x00\x00\x00\x16\x00\x00\x00\x00\x00\x00\x008\x00\x00\x00\x00\x00\x00\x00\x03\x00\x00\x00\x00\x00\x00\x00\x06\x00\x00\x00\x00\x00\x00\x00\x0e\x00\x00\x00\x00\x00\x00\x00\x01\x00\x00\x00\x00\x00\x00\x00\x06\x00\x00\x00" +
+	"\x00\x00\x00\x00\x05\x00\x00\x00\x00\x00\x00\x00\x05\x00\x00\x00\x00\x00\x00\x00\x04\x00\x00\x00\x00\x00\x00\x00\x0e\x00\x00\x00\x00\x00\x00\x00\x16\x00\x00\x00\x00\x00\x00\x00\x0b\x00\x00\x00\x00\x00\x00\x00\x0a\x00\x00\x00\x00\x00\x00\x00\x0e\x00\x00\x00\x00\x00\x00\x00\x0c\x00\x00\x00\x00\x00\x00\x00\x10\x00\x00\x00\x00\x00\x00\x00\x05\x00\x00\x00\x00\x00\x00\x00\xe8)\x00\x00\x00\x00\x00@" +
+	"\xeb)\x00\x00\x00\x00\x00@\xf1)\x00\x00\x00\x00\x00@\xff)\x00\x00\x00\x00\x00@\x00*\x00\x00\x00\x00\x00@\x04)\x00\x00\x00\x00\x00@\x04)\x00\x00\x00\x00\x00@\x06*\x00\x00\x00\x00\x00@\x0a*\x00\x00\x00\x00\x00@\x18*\x00\x00\x00\x00\x00@.*\x00\x00\x00\x00\x00@9*\x00\x00\x00\x00\x00@C*\x00\x00\x00\x00\x00@Q*\x00\x00" +
+	"\x00\x00\x00@]*\x00\x00\x00\x00\x00@\x04)\x00\x00\x00\x00\x00@\xb0E<\x00\x00\x00\x00\x00`\x92b\x00\x00\x00\x00\x00\x80\x96\x98\x00\x00\x00\x00\x00\xe0g5\x00\x00\x00\x00\x00 \x14]\x00\x00\x00\x00\x00`Vl\x00\x00\x00\x00\x00 \xaaD\x00\x00\x00\x00\x00\x00sU\x00\x00\x00\x00\x00\x00lk\x00\x00\x00\x00\x00\x00\x00\x00\x00\x00\x00\x00\x00" +
+	"0\xf6)\x00\x00\x00\x00\x00@\xb5d\x00\x00\x00\x00\x00 \xb3\x81\x00\x00\x00\x00\x00@T\x89\x00\x00\x00\x00\x00`\xf5\x90\x00\x00\x00\x00\x00\x80\x96\x98\x00\x00\x00\x00\x00\x80\x96\x98\x00\x00\x00\x00\x00`\xc0\x84\x00\x00\x00\x00\x00@T\x89\x00\x00\x00\x00\x00`\xf5\x90\x00\x00\x00\x00\x00\x80\x96\x98\x00\x00\x00\x00\x00\x80\x96\x98\x00\x00\x00\x00\x00@T\x89\x00" +
+	"\x00\x00\x00\x00`\xf5\x90\x00\x00\x00\x00\x00\x80\x96\x98\x00\x00\x00\x00\x00\x80\x96\x98\x00\x00\x00\x00\x00\x00\x00\x00\x00\x00\x00\x00\x00@B\x0f\x00\x00\x00\x00\x00\xc0\xc6-\x00\x00\x00\x00\x00\x00\x09=\x00\x00\x00\x00\x00@KL\x00\x00\x00\x00\x00\x00\x00\x00\x00\x00\x00\x00\x00\x00\x00\x00\x00\x00\x00\x00\x00\xa0%&\x00\x00\x00\x00\x00\xe0pr\x00\x00\x00\x00\x00" +
+	"\x80\x96\x98\x00\x00\x00\x00\x00\x80\x96\x98\x00\x00\x00\x00\x00@KL\x00\x00\x00\x00\x00\x80\x96\x98\x00\x00\x00\x00\x00`h\xe6\x00\x00\x00\x00\x00\x80\x96\x98\x00\x00\x00\x00\x00b\x06\x00\x00\x00\x00\x00@`\x06\x00\x00\x00\x00\x00@\x0e\x00\x00\x00\x00\x00\x00@\x10\x00\x00\x00\x00\x00\x00@\x0f\x00\x00\x00\x00\x00\x00@c\x06\x00\x00\x00\x00\x00@e\x06\x00\x00" +
+	"\x00\x00\x00@\x0f\x00\x00\x00\x00\x00\x00@c\x06\x00\x00\x00\x00\x00@\x10\x00\x00\x00\x00\x00\x00@\xf0&\x00\x00\x00\x00\x00@e\x06\x00\x00\x00\x00\x00@c\x06\x00\x00\x00\x00\x00@\x0f\x00\x00\x00\x00\x00\x00@c\x06\x00\x00\x00\x00\x00@\x0e\x00\x00\x00\x00\x00\x00@\x0f\x00\x00\x00\x00\x00\x00@\x10\x00\x00\x00\x00\x00\x00@\xf0&\x00\x00\x00\x00\x00@" +
+	"\xf0&\x00\x00\x00\x00\x00@`\x06\x00\x00\x00\x00\x00@\x0e\x00\x00\x00\x00\x00\x00@\xf0&\x00\x00\x00\x00\x00@`\x06\x00\x00\x00\x00\x00@\x0e\x00\x00\x00\x00\x00\x00@\x10\x00\x00\x00\x00\x00\x00@\xf0&\x00\x00\x00\x00\x00@\x0f\x00\x00\x00\x00\x00\x00@c\x06\x00\x00\x00\x00\x00@\x10\x00\x00\x00\x00\x00\x00@\xf0&\x00\x00\x00\x00\x00@\x10\x00\x00\x00" +
+	"\x00\x00\x00@\x0e\x00\x00\x00\x00\x00\x00@`\x06\x00\x00\x00\x00\x00@\xf0&\x00\x00\x00\x00\x00@\x10\x00\x00\x00\x00\x00\x00@\x0e\x00\x00\x00\x00\x00\x00@`\x06\x00\x00\x00\x00\x00@b\x06\x00\x00\x00\x00\x00@\xf0&\x00\x00\x00\x00\x00@c\x06\x00\x00\x00\x00\x00@\x10\x00\x00\x00\x00\x00\x00@\xf0&\x00\x00\x00\x00\x00@\x9e)\x00\x00\x00\x00\x00@" +
+	"\x10\x00\x00\x00\x00\x00\x00@\xf0&\x00\x00\x00\x00\x00@\x0f\x00\x00\x00\x00\x00\x00@e\x06\x00\x00\x00\x00\x00@\x9f)\x00\x00\x00\x00\x00@\xf0&\x00\x00\x00\x00\x00@\xa0)\x00\x00\x00\x00\x00@d\x06\x00\x00\x00\x00\x00@\xf0&\x00\x00\x00\x00\x00@\x0e\x00\x00\x00\x00\x00\x00@a\x06\x00\x00\x00\x00\x00@`\x06\x00\x00\x00\x00\x00@\xf0&\x00\x00" +
+	"\x00\x00\x00@`\x06\x00\x00\x00\x00\x00@i\x06\x00\x00\x00\x00\x00@c\x06\x00\x00\x00\x00\x00@e\x06\x00\x00\x00\x00\x00@\xf0&\x00\x00\x00\x00\x00@e\x06\x00\x00\x00\x00\x00@p\x06\x00\x00\x00\x00\x00@I(\x00\x00\x00\x00\x00@J(\x00\x00\x00\x00\x00@\xf0&\x00\x00\x00\x00\x00@d\x06\x00\x00\x00\x00\x00@H(\x00\x00\x00\x00\x00@" +
+	"e\x06\x00\x00\x00\x00\x00@\xf0&\x00\x00\x00\x00\x00@`\x06\x00\x00\x00\x00\x00@a\x06\x00\x00\x00\x00\x00@\x0e\x00\x00\x00\x00\x00\x00@c\x06\x00\x00\x00\x00\x00@\x0e\x00\x00\x00\x00\x00\x00@\x0f\x00\x00\x00\x00\x00\x00@\x10\x00\x00\x00\x00\x00\x00@`\x06\x00\x00\x00\x00\x00@\x0e\x00\x00\x00\x00\x00\x00@\x10\x00\x00\x00\x00\x00\x00@\x10\x00\x00\x00" +
+	"\x00\x00\x00@\x0e\x00\x00\x00\x00\x00\x00@`\x06\x00\x00\x00\x00\x00@\x04\x00\x00\x00\x00\x03\x01\x00\x02\x00\x00\x00\x01\x02\x00\x00\x00\x00\x00\x01\x00\x01\x01\x00\x00\x00\x00\x00\x02\x00\x01\x00\x00\x00\x00\x00\x00\x00\x00\x00\x0e\x00\x00\x00\x00\x00\x00@\x0f\x00\x00\x00\x00\x00\x00@\x10\x00\x00\x00\x00\x00\x00@`\x06\x00\x00\x00\x00\x00@a\x06\x00\x00\x00\x00\x00@" +
+	"\x0e\x00\x00\x00\x00\x00\x00@a\x06\x00\x00\x00\x00\x00@b\x06\x00\x00\x00\x00\x00@\x10\x00\x00\x00\x00\x00\x00@\x10\x00\x00\x00\x00\x00\x00@c\x06\x00\x00\x00\x00\x00@d\x06\x00\x00\x00\x00\x00@e\x06\x00\x00\x00\x00\x00@f\x06\x00\x00\x00\x00\x00@i\x06\x00\x00\x00\x00\x00@`\x06\x00\x00\x00\x00\x00@j\x06\x00\x00\x00\x00\x00@\x01\x00\x00\x00" +
+	"\x00\x00\x00\x00\x03\x00\x00\x00\x00\x00\x00\x00\x01\x00\x00\x00\x00\x00\x00\x00\x01\x00\x00\x00\x00\x00\x00\x00\x02\x00\x00\x00\x00\x00\x00\x00l\x06\x00\x00\x00\x00\x00@n\x06\x00\x00\x00\x00\x00@p\x06\x00\x00\x00\x00\x00@e\x06\x00\x00\x00\x00\x00@j\x06\x00\x00\x00\x00\x00@\x02\x00\x00\x00\x00\x00\x00\x00\x02\x00\x00\x00\x00\x00\x00\x00\x01\x00\x00\x00\x00\x00\x00\x00" +
+	"\x01\x00\x00\x00\x00\x00\x00\x00\x02\x00\x00\x00\x00\x00\x00\x00q\x06\x00\x00\x00\x00\x00@s\x06\x00\x00\x00\x00\x00@d\x06\x00\x00\x00\x00\x00@j\x06\x00\x00\x00\x00\x00@\x02\x00\x00\x00\x00\x00\x00\x00\x02\x00\x00\x00\x00\x00\x00\x00\x01\x00\x00\x00\x00\x00\x00\x00\x02\x00\x00\x00\x00\x00\x00\x00\x10\x00\x00\x00\x00\x00\x00@\x0e\x00\x00\x00\x00\x00\x00@u\x06\x00\x00" +
+	"\x00\x00\x00@w\x06\x00\x00\x00\x00\x00@`\x06\x00\x00\x00\x00\x00@j\x06\x00\x00\x00\x00\x00@\x01\x00\x00\x00\x00\x00\x00\x00\x01\x00\x00\x00\x00\x00\x00\x00\x02\x00\x00\x00\x00\x00\x00\x00\x02\x00\x00\x00\x00\x00\x00\x00\x01\x00\x00\x00\x00\x00\x00\x00\x02\x00\x00\x00\x00\x00\x00\x00\x10\x00\x00\x00\x00\x00\x00@\x0e\x00\x00\x00\x00\x00\x00@a\x06\x00\x00\x00\x00\x00@" +
+	"`\x06\x00\x00\x00\x00\x00@j\x06\x00\x00\x00\x00\x00@\x01\x00\x00\x00\x00\x00\x00\x00\x01\x00\x00\x00\x00\x00\x00\x00\x01\x00\x00\x00\x00\x00\x00\x00\x01\x00\x00\x00\x00\x00\x00\x00\x02\x00\x00\x00\x00\x00\x00\x00\x0e\x00\x00\x00\x00\x00\x00@a\x06\x00\x00\x00\x00\x00@`\x06\x00\x00\x00\x00\x00@j\x06\x00\x00\x00\x00\x00@\x01\x00\x00\x00\x00\x00\x00\x00\x01\x00\x00\x00" +
+	"\x00\x00\x00\x00\x01\x00\x00\x00\x00\x00\x00\x00\x02\x00\x00\x00\x00\x00\x00\x00\x04\x00\x00\x00\x00\x00\x00\x00\x03\x00\x00\x00\x00\x00\x00\x00\x06\x00\x00\x00\x00\x00\x00\x00\x04\x00\x00\x00\x00\x00\x00\x00\x08\x00\x00\x00\x00\x00\x00\x00w)\x00\x00\x00\x00\x00@{)\x00\x00\x00\x00\x00@~)\x00\x00\x00\x00\x00@\x84)\x00\x00\x00\x00\x00@\x88)\x00\x00\x00\x00\x00@" +
+	"\x06\x00\x00\x00\x00\x00\x00\x00\x07\x00\x00\x00\x00\x00\x00\x00\x07\x00\x00\x00\x00\x00\x00\x00\x08\x00\x00\x00\x00\x00\x00\x00\xdf*\x00\x00\x00\x00\x00@\xe5*\x00\x00\x00\x00\x00@\xec*\x00\x00\x00\x00\x00@\xf3*\x00\x00\x00\x00\x00@\x03\x00\x00\x00\x00\x00\x00\x00\x03\x00\x00\x00\x00\x00\x00\x00\x03\x00\x00\x00\x00\x00\x00\x00\x03\x00\x00\x00\x00\x00\x00\x00\x03\x00\x00\x00" +
+	"\x00\x00\x00\x00\x03\x00\x00\x00\x00\x00\x00\x00\x05\x00\x00\x00\x00\x00\x00\x00\x05\x00\x00\x00\x00\x00\x00\x00\x04\x00\x00\x00\x00\x00\x00\x00\x06\x00\x00\x00\x00\x00\x00\x00\x05\x00\x00\x00\x00\x00\x00\x00\x04\x00\x00\x00\x00\x00\x00\x00\x04\x00\x00\x00\x00\x00\x00\x00\x04\x00\x00\x00\x00\x00\x00\x00\x880\x00\x00\x00\x00\x00@x/\x00\x00\x00\x00\x00@\xe8.\x00\x00\x00\x00\x00@" +
+	"\xf8/\x00\x00\x00\x00\x00@\x880\x00\x00\x00\x00\x00@\x880\x00\x00\x00\x00\x00@(1\x00\x00\x00\x00\x00@\x182\x00\x00\x00\x00\x00@\x103\x00\x00\x00\x00\x00@\xe83\x00\x00\x00\x00\x00@\xf84\x00\x00\x00\x00\x00@\xe05\x00\x00\x00\x00\x00@\xe05\x00\x00\x00\x00\x00@\xe05\x00\x00\x00\x00\x00@\x03\x00\x00\x00\x00\x00\x00\x00\x02\x00\x00\x00" +
+	"\x00\x00\x00\x00\x04\x00\x00\x00\x00\x00\x00\x00\x03\x00\x00\x00\x00\x00\x00\x00\x03\x00\x00\x00\x00\x00\x00\x00\x03\x00\x00\x00\x00\x00\x00\x00\x02\x00\x00\x00\x00\x00\x00\x00\x02\x00\x00\x00\x00\x00\x00\x00\x05\x00\x00\x00\x00\x00\x00\x00\x05\x00\x00\x00\x00\x00\x00\x00\x04\x00\x00\x00\x00\x00\x00\x00\x04\x00\x00\x00\x00\x00\x00\x00\x04\x00\x00\x00\x00\x00\x00\x00\x04\x00\x00\x00\x00\x00\x00\x00" +
+	"\x05\x00\x00\x00\x00\x00\x00\x00\x03\x00\x00\x00\x00\x00\x00\x00\x04\x00\x00\x00\x00\x00\x00\x00\x03\x00\x00\x00\x00\x00\x00\x00\x03\x00\x00\x00\x00\x00\x00\x00\x04\x00\x00\x00\x00\x00\x00\x00\x04\x00\x00\x00\x00\x00\x00\x00\x04\x00\x00\x00\x00\x00\x00\x00\x009\x00\x00\x00\x00\x00@p7\x00\x00\x00\x00\x00@\xb86\x00\x00\x00\x00\x00@\x009\x00\x00\x00\x00\x00@\x009\x00\x00" +
+	"\x00\x00\x00@\xd87\x00\x00\x00\x00\x00@\xa88\x00\x00\x00\x00\x00@X8\x00\x00\x00\x00\x00@\x889\x00\x00\x00\x00\x00@`:\x00\x00\x00\x00\x00@@;\x00\x00\x00\x00\x00@\xf0;\x00\x00\x00\x00\x00@\xf0;\x00\x00\x00\x00\x00@\xf0;\x00\x00\x00\x00\x00@\xa8<\x00\x00\x00\x00\x00@\x98=\x00\x00\x00\x00\x00@0>\x00\x00\x00\x00\x00@" +
+	"\xe8>\x00\x00\x00\x00\x00@h?\x00\x00\x00\x00\x00@\x08@\x00\x00\x00\x00\x00@\x08@\x00\x00\x00\x00\x00@\x08@\x00\x00\x00\x00\x00@\x02\x00\x00\x00\x00\x00\x00\x00\x02\x00\x00\x00\x00\x00\x00\x00\x04\x00\x00\x00\x00\x00\x00\x00\x03\x00\x00\x00\x00\x00\x00\x00\x03\x00\x00\x00\x00\x00\x00\x00\x03\x00\x00\x00\x00\x00\x00\x00\x03\x00\x00\x00\x00\x00\x00\x00\x03\x00\x00\x00" +
+	"\x00\x00\x00\x00\x03\x00\x00\x00\x00\x00\x00\x00\x03\x00\x00\x00\x00\x00\x00\x00\x03\x00\x00\x00\x00\x00\x00\x00\x04\x00\x00\x00\x00\x00\x00\x00\x04\x00\x00\x00\x00\x00\x00\x00\x04\x00\x00\x00\x00\x00\x00\x00\x04\x00\x00\x00\x00\x00\x00\x00\x03\x00\x00\x00\x00\x00\x00\x00\x03\x00\x00\x00\x00\x00\x00\x00\x05\x00\x00\x00\x00\x00\x00\x00\x04\x00\x00\x00\x00\x00\x00\x00\x05\x00\x00\x00\x00\x00\x00\x00" +
+	"\x04\x00\x00\x00\x00\x00\x00\x00\x05\x00\x00\x00\x00\x00\x00\x00\x04\x00\x00\x00\x00\x00\x00\x00\x04\x00\x00\x00\x00\x00\x00\x00\x04\x00\x00\x00\x00\x00\x00\x00\x04\x00\x00\x00\x00\x00\x00\x00\x03\x00\x00\x00\x00\x00\x00\x00\x04\x00\x00\x00\x00\x00\x00\x00\x04\x00\x00\x00\x00\x00\x00\x00\x03\x00\x00\x00\x00\x00\x00\x00\x05\x00\x00\x00\x00\x00\x00\x00\x03\x00\x00\x00\x00\x00\x00\x00p7\x00\x00" +
+	"\x00\x00\x00@\x98A\x00\x00\x00\x00\x00@\xe0@\x00\x00\x00\x00\x00@\xd87\x00\x00\x00\x00\x00@\x009\x00\x00\x00\x00\x00@\x009\x00\x00\x00\x00\x00@\x009\x00\x00\x00\x00\x00@\xe8A\x00\x00\x00\x00\x00@\x009\x00\x00\x00\x00\x00@\x009\x00\x00\x00\x00\x00@\x009\x00\x00\x00\x00\x00@\xf0B\x00\x00\x00\x00\x00@\xa8C\x00\x00\x00\x00\x00@" +
+	"\xa8C\x00\x00\x00\x00\x00@\xa8C\x00\x00\x00\x00\x00@\x98=\x00\x00\x00\x00\x00@8E\x00\x00\x00\x00\x00@HD\x00\x00\x00\x00\x00@0>\x00\x00\x00\x00\x00@\x98G\x00\x00\x00\x00\x00@\xd8F\x00\x00\x00\x00\x00@\x98G\x00\x00\x00\x00\x00@\xb8E\x00\x00\x00\x00\x00@\x08@\x00\x00\x00\x00\x00@\x08@\x00\x00\x00\x00\x00@\x08@\x00\x00" +
+	"\x00\x00\x00@\x18I\x00\x00\x00\x00\x00@\x98I\x00\x00\x00\x00\x00@\x00K\x00\x00\x00\x00\x00@\x88H\x00\x00\x00\x00\x00@\xb0K\x00\x00\x00\x00\x00@XJ\x00\x00\x00\x00\x00@\x06\x00\x00\x00\x00\x00\x00\x00\x04\x00\x00\x00\x00\x00\x00\x00\x08\x00\x00\x00\x00\x00\x00\x00\x87L\x00\x00\x00\x00\x00@\x8dL\x00\x00\x00\x00\x00@\x91L\x00\x00\x00\x00\x00@" +
+	"\xa1)\x00\x00\x00\x00\x00@\x0b\x00\x00\x00\x00\x00\x00@\x05\x00\x00\x00\x00\x00\x00@\x08\x00\x00\x00\x00\x00\x00@\x14\x00\x00\x00\x1e\x00\x00\x00\x1f\x00\x00\x00(\x00\x00\x00"
 
 func (m *memory) i32_load(a uint64) uint32     { return binary.LittleEndian.Uint32(m.read(a)) }
 func (m *memory) i32_load16_u(a uint64) uint32 { return uint32(binary.LittleEndian.Uint16(m.read(a))) }
@@ -4307,7 +4307,7 @@ B4:
 						goto B331
 					}
 					m.i32_store8(l3+44, 1)
-					m.i32_store8(l3+45, m.i32_load8_u((uint64(l21)&255)+4611686018427409538))
+					m.i32_store8(l3+45, m.i32_load8_u((uint64(l21)&255)+4611686018427409546))
 					l4 = l4 + 6
 					p1 = p1 - 6
 					if p1 < 4 {
@@ -4428,7 +4428,7 @@ B4:
 					goto B384
 				}
 				m.i32_store8(l3+48, 1)
-				m.i32_store8(l3+49, m.i32_load8_u((uint64(l21)&255)+4611686018427409547))
+				m.i32_store8(l3+49, m.i32_load8_u((uint64(l21)&255)+4611686018427409555))
 				l4 = l4 + 6
 				p1 = p1 - 6
 				if p1 < 4 {
@@ -4459,7 +4459,7 @@ B4:
 					goto B386
 				}
 				m.i32_store8(l3+50, 1)
-				m.i32_store8(l3+51, m.i32_load8_u((uint64(l21)&255)+4611686018427409547))
+				m.i32_store8(l3+51, m.i32_load8_u((uint64(l21)&255)+4611686018427409555))
 				l4 = l4 + 6
 				p1 = p1 - 6
 				if p1 < 4 {
@@ -4490,7 +4490,7 @@ B4:
 					goto B388
 				}
 				m.i32_store8(l3+52, 1)
-				m.i32_store8(l3+53, m.i32_load8_u((uint64(l21)&255)+4611686018427409547))
+				m.i32_store8(l3+53, m.i32_load8_u((uint64(l21)&255)+4611686018427409555))
 				l4 = l4 + 6
 				p1 = p1 - 6
 				if p1 < 4 {
@@ -4521,7 +4521,7 @@ B4:
 					goto B390
 				}
 				m.i32_store8(l3+54, 1)
-				m.i32_store8(l3+55, m.i32_load8_u((uint64(l21)&255)+4611686018427409547))
+				m.i32_store8(l3+55, m.i32_load8_u((uint64(l21)&255)+4611686018427409555))
 				l4 = l4 + 6
 				p1 = p1 - 6
 				if p1 < 4 {
@@ -7402,7 +7402,7 @@ func (m *memory) f27(p0 uint64, p1 uint64, p2 uint64, p3 uint64) {
 						goto B57
 					}
 					m.i32_store8(l4+26, 1)
-					m.i32_store8(l4+27, m.i32_load8_u((uint64(l21)&255)+4611686018427411616))
+					m.i32_store8(l4+27, m.i32_load8_u((uint64(l21)&255)+4611686018427411624))
 					p2 = p2 + 5
 					p1 = p1 - 5
 					if p1 < 4 {
@@ -7891,8 +7891,8 @@ func (m *memory) f27(p0 uint64, p1 uint64, p2 uint64, p3 uint64) {
 				}
 				m.i32_store8(l4+42, 1)
 				l8 = uint64(l20) & 255
-				m.i32_store8(l4+44, m.i32_load8_u(l8+4611686018427411626))
-				m.i32_store8(l4+43, m.i32_load8_u(l8+4611686018427411635))
+				m.i32_store8(l4+44, m.i32_load8_u(l8+4611686018427411634))
+				m.i32_store8(l4+43, m.i32_load8_u(l8+4611686018427411643))
 				p2 = p2 + 6
 				p1 = p1 - 6
 				if p1 < 4 {
@@ -8060,8 +8060,8 @@ func (m *memory) f27(p0 uint64, p1 uint64, p2 uint64, p3 uint64) {
 				}
 				m.i32_store8(l4+51, 1)
 				l8 = uint64(l21) & 255
-				m.i32_store8(l4+53, m.i32_load8_u(l8+4611686018427411644))
-				m.i32_store8(l4+52, m.i32_load8_u(l8+4611686018427411635))
+				m.i32_store8(l4+53, m.i32_load8_u(l8+4611686018427411652))
+				m.i32_store8(l4+52, m.i32_load8_u(l8+4611686018427411643))
 				p2 = p2 + 5
 				p1 = p1 - 5
 				if p1 < 4 {
@@ -8089,8 +8089,8 @@ func (m *memory) f27(p0 uint64, p1 uint64, p2 uint64, p3 uint64) {
 				}
 				m.i32_store8(l4+54, 1)
 				l8 = uint64(l21) & 255
-				m.i32_store8(l4+56, m.i32_load8_u(l8+4611686018427411644))
-				m.i32_store8(l4+55, m.i32_load8_u(l8+4611686018427411635))
+				m.i32_store8(l4+56, m.i32_load8_u(l8+4611686018427411652))
+				m.i32_store8(l4+55, m.i32_load8_u(l8+4611686018427411643))
 				l4 = l4 + 57
 				p2 = p2 + 5
 				l20 = 0
@@ -8127,9 +8127,9 @@ func (m *memory) f27(p0 uint64, p1 uint64, p2 uint64, p3 uint64) {
 				p2 = p2 + 5
 				p1 = p1 - 5
 				l8 = uint64(l22) & 255
-				l22 = m.i32_load8_u(l8 + 4611686018427411644)
+				l22 = m.i32_load8_u(l8 + 4611686018427411652)
 				l20 = 1
-				i0 = m.i32_load8_u(l8 + 4611686018427411635)
+				i0 = m.i32_load8_u(l8 + 4611686018427411643)
 				goto B44
 			B55:
 				m.i32_store16(l4+33, 0)
@@ -8895,7 +8895,7 @@ func (m *memory) f27(p0 uint64, p1 uint64, p2 uint64, p3 uint64) {
 				goto B4
 			}
 			m.i32_store8(l4, 1)
-			m.i32_store8(l6+27, m.i32_load8_u((uint64(l23)&255)+4611686018427411616))
+			m.i32_store8(l6+27, m.i32_load8_u((uint64(l23)&255)+4611686018427411624))
 			goto B145
 		B157:
 			p1 = 1
@@ -9360,8 +9360,8 @@ func (m *memory) f27(p0 uint64, p1 uint64, p2 uint64, p3 uint64) {
 			}
 			m.i32_store8(l4, 1)
 			l4 = uint64(l23) & 255
-			m.i32_store8(l6+44, m.i32_load8_u(l4+4611686018427411626))
-			m.i32_store8(l6+43, m.i32_load8_u(l4+4611686018427411635))
+			m.i32_store8(l6+44, m.i32_load8_u(l4+4611686018427411634))
+			m.i32_store8(l6+43, m.i32_load8_u(l4+4611686018427411643))
 			goto B145
 		B150:
 			p1 = 1
@@ -9523,8 +9523,8 @@ func (m *memory) f27(p0 uint64, p1 uint64, p2 uint64, p3 uint64) {
 			}
 			m.i32_store8(l4, 1)
 			l4 = uint64(l23) & 255
-			m.i32_store8(l6+53, m.i32_load8_u(l4+4611686018427411644))
-			m.i32_store8(l6+52, m.i32_load8_u(l4+4611686018427411635))
+			m.i32_store8(l6+53, m.i32_load8_u(l4+4611686018427411652))
+			m.i32_store8(l6+52, m.i32_load8_u(l4+4611686018427411643))
 			goto B145
 		B147:
 			p1 = 1
@@ -9555,8 +9555,8 @@ func (m *memory) f27(p0 uint64, p1 uint64, p2 uint64, p3 uint64) {
 			}
 			m.i32_store8(l4, 1)
 			l4 = uint64(l23) & 255
-			m.i32_store8(l6+56, m.i32_load8_u(l4+4611686018427411644))
-			m.i32_store8(l6+55, m.i32_load8_u(l4+4611686018427411635))
+			m.i32_store8(l6+56, m.i32_load8_u(l4+4611686018427411652))
+			m.i32_store8(l6+55, m.i32_load8_u(l4+4611686018427411643))
 			goto B145
 		B146:
 			p1 = 1
@@ -9584,8 +9584,8 @@ func (m *memory) f27(p0 uint64, p1 uint64, p2 uint64, p3 uint64) {
 			}
 			m.i32_store8(l4, 1)
 			l4 = uint64(l23) & 255
-			m.i32_store8(l6+59, m.i32_load8_u(l4+4611686018427411644))
-			m.i32_store8(l6+58, m.i32_load8_u(l4+4611686018427411635))
+			m.i32_store8(l6+59, m.i32_load8_u(l4+4611686018427411652))
+			m.i32_store8(l6+58, m.i32_load8_u(l4+4611686018427411643))
 		B145:
 			l13 = l10
 			l12 = l8
@@ -9949,7 +9949,7 @@ B2:
 		goto B0
 	}
 	p2 = p2 - 2
-	l3 = m.i32_load8_u((uint64(l3) & 255) + 4611686018427409529)
+	l3 = m.i32_load8_u((uint64(l3) & 255) + 4611686018427409537)
 	j0 = p1 + 2
 B1:
 	p1 = j0
@@ -10100,7 +10100,7 @@ func (m *memory) f29(p0 uint64, p1 uint64, p2 uint64) {
 		if ((uint32(277) >> (l3 & 31)) & 1) == 0 {
 			goto B3
 		}
-		l3 = m.i32_load8_u((uint64(l4) & 255) + 4611686018427409529)
+		l3 = m.i32_load8_u((uint64(l4) & 255) + 4611686018427409537)
 		i0 = l3
 		goto B4
 	B17:
@@ -12103,8 +12103,8 @@ func (m *memory) f36(p0 uint64, p1 uint32, p2 uint64, p3 uint64) {
 	_, _, _, _, _, _, _ = i0, l4, l5, l6, l7, l8, l9
 	if int64(m.stackPointer) >= 16 {
 		l4 = (uint64(p1) & 255) << 3
-		l5 = m.i64_load(l4 + 4611686018427409560)
-		l6 = m.i64_load(l4 + 4611686018427412936)
+		l5 = m.i64_load(l4 + 4611686018427409568)
+		l6 = m.i64_load(l4 + 4611686018427412944)
 		if p3 <= 1 {
 			if uint32(p3) == 1 {
 				goto B3
@@ -12731,67 +12731,67 @@ func (m *memory) f40(p0 uint64, p1 uint64) {
 	_, _, _, _, _, _, _, _, _, _, _, _, _, _, _, _ = l2, l3, l4, l5, l6, l7, l8, l9, l10, l11, l12, l13, l14, l15, j0, j1
 	if int64(m.stackPointer) >= 16 {
 		if m.i32_load8_u(p1) == 1 {
-			l3 = m.i64_load((m.i64_load8_u(p1+1) << 3) + 4611686018427409816)
+			l3 = m.i64_load((m.i64_load8_u(p1+1) << 3) + 4611686018427409824)
 			j0 = l3
 		}
 		if m.i32_load8_u(p1+2) == 1 {
-			l2 = m.i64_load((m.i64_load8_u(p1+3) << 3) + 4611686018427409840)
+			l2 = m.i64_load((m.i64_load8_u(p1+3) << 3) + 4611686018427409848)
 			j0 = l2
 		}
 		if m.i32_load8_u(p1+4) == 1 {
-			l5 = m.i64_load((m.i64_load8_u(p1+5) << 3) + 4611686018427409864)
+			l5 = m.i64_load((m.i64_load8_u(p1+5) << 3) + 4611686018427409872)
 			j0 = l5
 		}
 		if m.i32_load8_u(p1+6) == 1 {
-			l4 = m.i64_load((m.i64_load8_u(p1+7) << 3) + 4611686018427409888)
+			l4 = m.i64_load((m.i64_load8_u(p1+7) << 3) + 4611686018427409896)
 			j0 = l4
 		}
 		if m.i32_load8_u(p1+8) == 1 {
-			l7 = m.i64_load((m.i64_load8_u(p1+9) << 3) + 4611686018427409888)
+			l7 = m.i64_load((m.i64_load8_u(p1+9) << 3) + 4611686018427409896)
 			j0 = l7
 		}
 		if m.i32_load8_u(p1+10) == 1 {
-			l6 = m.i64_load((m.i64_load8_u(p1+11) << 3) + 4611686018427409888)
+			l6 = m.i64_load((m.i64_load8_u(p1+11) << 3) + 4611686018427409896)
 			j0 = l6
 		}
 		l8 = 1000
 		l9 = 1000
 		if m.i32_load8_u(p1+12) == 1 {
-			l9 = m.i64_load((m.i64_load8_u(p1+13) << 3) + 4611686018427409912)
+			l9 = m.i64_load((m.i64_load8_u(p1+13) << 3) + 4611686018427409920)
 			j0 = l9
 		}
 		if m.i32_load8_u(p1+14) == 1 {
-			l8 = m.i64_load((m.i64_load8_u(p1+15) << 3) + 4611686018427409952)
+			l8 = m.i64_load((m.i64_load8_u(p1+15) << 3) + 4611686018427409960)
 			j0 = l8
 		}
 		l10 = 1000
 		if m.i32_load8_u(p1+16) == 1 {
-			l10 = m.i64_load((m.i64_load8_u(p1+17) << 3) + 4611686018427409992)
+			l10 = m.i64_load((m.i64_load8_u(p1+17) << 3) + 4611686018427410000)
 			j0 = l10
 		}
 		if m.i32_load8_u(p1+18) == 1 {
-			l11 = m.i64_load((m.i64_load8_u(p1+19) << 3) + 4611686018427410024)
+			l11 = m.i64_load((m.i64_load8_u(p1+19) << 3) + 4611686018427410032)
 			j0 = l11
 		}
 		l12 = 1000
 		l13 = 1000
 		if m.i32_load8_u(p1+20) == 1 {
-			l13 = m.i64_load((m.i64_load8_u(p1+21) << 3) + 4611686018427410072)
+			l13 = m.i64_load((m.i64_load8_u(p1+21) << 3) + 4611686018427410080)
 			j0 = l13
 		}
 		if m.i32_load8_u(p1+22) == 1 {
-			l12 = m.i64_load((m.i64_load8_u(p1+23) << 3) + 4611686018427410112)
+			l12 = m.i64_load((m.i64_load8_u(p1+23) << 3) + 4611686018427410120)
 			j0 = l12
 		}
 		l15 = 1000
 		l14 = 1000
 		if m.i32_load8_u(p1+24) == 1 {
-			l14 = m.i64_load((m.i64_load8_u(p1+25) << 3) + 4611686018427410112)
+			l14 = m.i64_load((m.i64_load8_u(p1+25) << 3) + 4611686018427410120)
 			j0 = l14
 		}
 		j0 = p0 + 104
 		if m.i32_load8_u(p1+26) == 1 {
-			j1 = m.i64_load((m.i64_load8_u(p1+27) << 3) + 4611686018427410112)
+			j1 = m.i64_load((m.i64_load8_u(p1+27) << 3) + 4611686018427410120)
 		} else {
 			j1 = l15
 		}
@@ -13370,7 +13370,7 @@ func (m *memory) f43(p0 uint64) uint32 {
 			i0 = select32(b32(l1 < 2), 60, 12)
 			goto B6
 		}
-		i0 = m.i32_load((uint64(l4) << 2) + 4611686018427410144)
+		i0 = m.i32_load((uint64(l4) << 2) + 4611686018427410152)
 	B6:
 		l1 = i0
 		m.stackPointer = l13 + 16
@@ -13430,8 +13430,8 @@ func (m *memory) f45(p0 uint64) uint32 {
 			goto B2
 		}
 		l1 = m.i64_load8_u(p0+19) << 3
-		l2 = m.i64_load(l1 + 4611686018427411976)
-		l1 = m.i64_load(l1 + 4611686018427412024)
+		l2 = m.i64_load(l1 + 4611686018427411984)
+		l1 = m.i64_load(l1 + 4611686018427412032)
 		i0 = m.f49(l2, l1, 4611686018427397872, 1)
 		if i0 != 0 {
 			goto B2
@@ -13448,8 +13448,8 @@ func (m *memory) f45(p0 uint64) uint32 {
 			goto B3
 		}
 		l1 = m.i64_load8_u(p0+21) << 3
-		l2 = m.i64_load(l1 + 4611686018427412072)
-		l1 = m.i64_load(l1 + 4611686018427412112)
+		l2 = m.i64_load(l1 + 4611686018427412080)
+		l1 = m.i64_load(l1 + 4611686018427412120)
 		i0 = m.f49(l2, l1, 4611686018427397872, 1)
 		if i0 != 0 {
 			goto B3
@@ -13466,8 +13466,8 @@ func (m *memory) f45(p0 uint64) uint32 {
 			goto B4
 		}
 		l1 = m.i64_load8_u(p0+23) << 3
-		l2 = m.i64_load(l1 + 4611686018427412152)
-		l1 = m.i64_load(l1 + 4611686018427412184)
+		l2 = m.i64_load(l1 + 4611686018427412160)
+		l1 = m.i64_load(l1 + 4611686018427412192)
 		i0 = m.f49(l2, l1, 4611686018427397872, 1)
 		if i0 != 0 {
 			goto B4
@@ -13484,8 +13484,8 @@ func (m *memory) f45(p0 uint64) uint32 {
 			goto B5
 		}
 		l1 = m.i64_load8_u(p0+25) << 3
-		l2 = m.i64_load(l1 + 4611686018427412152)
-		l1 = m.i64_load(l1 + 4611686018427412184)
+		l2 = m.i64_load(l1 + 4611686018427412160)
+		l1 = m.i64_load(l1 + 4611686018427412192)
 		i0 = m.f49(l2, l1, 4611686018427397872, 1)
 		if i0 != 0 {
 			goto B5
@@ -13502,8 +13502,8 @@ func (m *memory) f45(p0 uint64) uint32 {
 			goto B1
 		}
 		l1 = m.i64_load8_u(p0+27) << 3
-		l2 = m.i64_load(l1 + 4611686018427412152)
-		l1 = m.i64_load(l1 + 4611686018427412184)
+		l2 = m.i64_load(l1 + 4611686018427412160)
+		l1 = m.i64_load(l1 + 4611686018427412192)
 		i0 = m.f49(l2, l1, 4611686018427397872, 1)
 		if i0 != 0 {
 			goto B1
@@ -13516,8 +13516,8 @@ func (m *memory) f45(p0 uint64) uint32 {
 			goto B7
 		}
 		l1 = m.i64_load8_u(p0+13) << 3
-		l2 = m.i64_load(l1 + 4611686018427411752)
-		l1 = m.i64_load(l1 + 4611686018427411792)
+		l2 = m.i64_load(l1 + 4611686018427411760)
+		l1 = m.i64_load(l1 + 4611686018427411800)
 		i0 = m.f49(l2, l1, 4611686018427397872, 1)
 		if i0 != 0 {
 			goto B7
@@ -13534,8 +13534,8 @@ func (m *memory) f45(p0 uint64) uint32 {
 			goto B8
 		}
 		l1 = m.i64_load8_u(p0+15) << 3
-		l2 = m.i64_load(l1 + 4611686018427411832)
-		l1 = m.i64_load(l1 + 4611686018427411872)
+		l2 = m.i64_load(l1 + 4611686018427411840)
+		l1 = m.i64_load(l1 + 4611686018427411880)
 		i0 = m.f49(l2, l1, 4611686018427397872, 1)
 		if i0 != 0 {
 			goto B8
@@ -13552,8 +13552,8 @@ func (m *memory) f45(p0 uint64) uint32 {
 			goto B6
 		}
 		p0 = m.i64_load8_u(p0+17) << 3
-		l1 = m.i64_load(p0 + 4611686018427411912)
-		p0 = m.i64_load(p0 + 4611686018427411944)
+		l1 = m.i64_load(p0 + 4611686018427411920)
+		p0 = m.i64_load(p0 + 4611686018427411952)
 		i0 = m.f49(l1, p0, 4611686018427397872, 1)
 		if i0 != 0 {
 			goto B6
@@ -14104,7 +14104,7 @@ func (m *memory) f55(p0 uint64) uint32 {
 	if int64(m.stackPointer) >= 16 {
 		l2 = 1
 		if m.i32_load8_u(p0+33) == 1 {
-			l1 = m.i64_load8_u(m.i64_load((m.i64_load8_u(p0+34) << 3) + 4611686018427411504))
+			l1 = m.i64_load8_u(m.i64_load((m.i64_load8_u(p0+34) << 3) + 4611686018427411512))
 			if (((l1 << 8) | (l1 << 16)) | l1) != 5789784 {
 				goto B1
 			}
@@ -14112,14 +14112,14 @@ func (m *memory) f55(p0 uint64) uint32 {
 		if m.i32_load8_u(p0+35) != 1 {
 			goto B3
 		}
-		l1 = m.i64_load8_u(m.i64_load((m.i64_load8_u(p0+36) << 3) + 4611686018427411504))
+		l1 = m.i64_load8_u(m.i64_load((m.i64_load8_u(p0+36) << 3) + 4611686018427411512))
 		if (((l1 << 8) | (l1 << 16)) | l1) == 5789784 {
 			goto B3
 		}
 		goto B1
 	B3:
 		if m.i32_load8_u(p0+37) == 1 {
-			l1 = m.i64_load8_u(m.i64_load((m.i64_load8_u(p0+38) << 3) + 4611686018427411504))
+			l1 = m.i64_load8_u(m.i64_load((m.i64_load8_u(p0+38) << 3) + 4611686018427411512))
 			if (((l1 << 8) | (l1 << 16)) | l1) != 5789784 {
 				goto B1
 			}
@@ -14128,7 +14128,7 @@ func (m *memory) f55(p0 uint64) uint32 {
 			goto B5
 		}
 		if m.i32_load8_u(p0+31) != 0 {
-			j0 = m.i64_load((m.i64_load8_u(p0+32) << 3) + 4611686018427411536)
+			j0 = m.i64_load((m.i64_load8_u(p0+32) << 3) + 4611686018427411544)
 		} else {
 			j0 = 4611686018427397872
 		}
@@ -14147,7 +14147,7 @@ func (m *memory) f55(p0 uint64) uint32 {
 			goto B8
 		}
 		if m.i32_load8_u(p0+43) != 0 {
-			j0 = m.i64_load((m.i64_load8_u(p0+44) << 3) + 4611686018427411568)
+			j0 = m.i64_load((m.i64_load8_u(p0+44) << 3) + 4611686018427411576)
 		} else {
 			j0 = 4611686018427397872
 		}
@@ -14174,7 +14174,7 @@ func (m *memory) f55(p0 uint64) uint32 {
 			goto B12
 		}
 		if m.i32_load8_u(p0+52) != 0 {
-			j0 = m.i64_load((m.i64_load8_u(p0+53) << 3) + 4611686018427411592)
+			j0 = m.i64_load((m.i64_load8_u(p0+53) << 3) + 4611686018427411600)
 		} else {
 			j0 = 4611686018427397872
 		}
@@ -14188,7 +14188,7 @@ func (m *memory) f55(p0 uint64) uint32 {
 			goto B14
 		}
 		if m.i32_load8_u(p0+55) != 0 {
-			j0 = m.i64_load((m.i64_load8_u(p0+56) << 3) + 4611686018427411592)
+			j0 = m.i64_load((m.i64_load8_u(p0+56) << 3) + 4611686018427411600)
 		} else {
 			j0 = 4611686018427397872
 		}
@@ -14204,7 +14204,7 @@ func (m *memory) f55(p0 uint64) uint32 {
 			goto B1
 		}
 		if m.i32_load8_u(p0+58) != 0 {
-			j0 = m.i64_load((m.i64_load8_u(p0+59) << 3) + 4611686018427411592)
+			j0 = m.i64_load((m.i64_load8_u(p0+59) << 3) + 4611686018427411600)
 		} else {
 			j0 = 4611686018427397872
 		}
@@ -14214,7 +14214,7 @@ func (m *memory) f55(p0 uint64) uint32 {
 	B1:
 		l3 = 1
 		if m.i32_load8_u(p0+24) == 1 {
-			l1 = m.i64_load8_u(m.i64_load((m.i64_load8_u(p0+25) << 3) + 4611686018427411392))
+			l1 = m.i64_load8_u(m.i64_load((m.i64_load8_u(p0+25) << 3) + 4611686018427411400))
 			if (((l1 << 8) | (l1 << 16)) | l1) != 5789784 {
 				goto B18
 			}
@@ -14222,7 +14222,7 @@ func (m *memory) f55(p0 uint64) uint32 {
 		if m.i32_load8_u(p0+26) != 1 {
 			goto B20
 		}
-		l1 = m.i64_load8_u(m.i64_load((m.i64_load8_u(p0+27) << 3) + 4611686018427411432))
+		l1 = m.i64_load8_u(m.i64_load((m.i64_load8_u(p0+27) << 3) + 4611686018427411440))
 		if (((l1 << 8) | (l1 << 16)) | l1) == 5789784 {
 			goto B20
 		}
@@ -14233,7 +14233,7 @@ func (m *memory) f55(p0 uint64) uint32 {
 			i0 = l3
 			goto B18
 		}
-		p0 = m.i64_load8_u(m.i64_load((m.i64_load8_u(p0+29) << 3) + 4611686018427411472))
+		p0 = m.i64_load8_u(m.i64_load((m.i64_load8_u(p0+29) << 3) + 4611686018427411480))
 		l3 = b32((((p0 << 8) | (p0 << 16)) | p0) != 5789784)
 		i0 = l3
 	B18:
@@ -14301,7 +14301,7 @@ func (m *memory) f59(p0 uint64, p1 uint64) {
 		l6 = m.i32_load8_u(p1 + 9)
 		l3 = m.i32_load8_u(p1 + 8)
 		if l3 == 1 {
-			l22 = m.i64_load(((uint64(l6) & 255) << 3) + 4611686018427410304)
+			l22 = m.i64_load(((uint64(l6) & 255) << 3) + 4611686018427410312)
 		}
 		l14 = l2 & l4
 		l8 = m.i32_load8_u(p1 + 13)
@@ -14337,46 +14337,46 @@ func (m *memory) f59(p0 uint64, p1 uint64) {
 		l9 = m.i32_load8_u(p1 + 19)
 		l4 = m.i32_load8_u(p1 + 18)
 		if l4 == 1 {
-			l24 = m.i64_load(((uint64(l9) & 255) << 3) + 4611686018427410336)
+			l24 = m.i64_load(((uint64(l9) & 255) << 3) + 4611686018427410344)
 		}
 		l10 = m.i32_load8_u(p1 + 21)
 		l5 = m.i32_load8_u(p1 + 20)
 		if l5 == 1 {
-			l23 = m.i64_load(((uint64(l10) & 255) << 3) + 4611686018427410336)
+			l23 = m.i64_load(((uint64(l10) & 255) << 3) + 4611686018427410344)
 		}
 		l15 = m.i32_load8_u(p1 + 23)
 		l7 = m.i32_load8_u(p1 + 22)
 		if l7 == 1 {
-			l25 = m.i64_load(((uint64(l15) & 255) << 3) + 4611686018427410336)
+			l25 = m.i64_load(((uint64(l15) & 255) << 3) + 4611686018427410344)
 		}
 		l26 = 100
 		l27 = 100
 		if m.i32_load8_u(p1+24) == 1 {
-			l27 = m.i64_load((m.i64_load8_u(p1+25) << 3) + 4611686018427410160)
+			l27 = m.i64_load((m.i64_load8_u(p1+25) << 3) + 4611686018427410168)
 		}
 		if m.i32_load8_u(p1+26) == 1 {
-			l26 = m.i64_load((m.i64_load8_u(p1+27) << 3) + 4611686018427410200)
+			l26 = m.i64_load((m.i64_load8_u(p1+27) << 3) + 4611686018427410208)
 		}
 		l28 = 100
 		l29 = 100
 		if m.i32_load8_u(p1+28) == 1 {
-			l29 = m.i64_load((m.i64_load8_u(p1+29) << 3) + 4611686018427410240)
+			l29 = m.i64_load((m.i64_load8_u(p1+29) << 3) + 4611686018427410248)
 		}
 		if m.i32_load8_u(p1+33) == 1 {
-			l28 = m.i64_load((m.i64_load8_u(p1+34) << 3) + 4611686018427410272)
+			l28 = m.i64_load((m.i64_load8_u(p1+34) << 3) + 4611686018427410280)
 		}
 		l30 = 100
 		l31 = 100
 		if m.i32_load8_u(p1+35) == 1 {
-			l31 = m.i64_load((m.i64_load8_u(p1+36) << 3) + 4611686018427410272)
+			l31 = m.i64_load((m.i64_load8_u(p1+36) << 3) + 4611686018427410280)
 		}
 		if m.i32_load8_u(p1+37) == 1 {
-			l30 = m.i64_load((m.i64_load8_u(p1+38) << 3) + 4611686018427410272)
+			l30 = m.i64_load((m.i64_load8_u(p1+38) << 3) + 4611686018427410280)
 		}
 		l11 = m.i32_load8_u(p1 + 31)
 		l16 = m.i32_load8_u(p1 + 30)
 		if select32(b32(l16 == 1), select32(l11, 1, l3), l3) == 1 {
-			l32 = m.i64_load(((uint64(select32(b32(l16 == 1), select32(l11, m.i32_load8_u(p1+32), l6), l6)) & 255) << 3) + 4611686018427410304)
+			l32 = m.i64_load(((uint64(select32(b32(l16 == 1), select32(l11, m.i32_load8_u(p1+32), l6), l6)) & 255) << 3) + 4611686018427410312)
 		}
 		l6 = b32(m.i32_load8_u(p1+48) == 1) & b32((m.i32_load8_u(p1+49)&255) == 1)
 		l13 = select32(l6, m.i32_load8_u(p1+50), l13)
@@ -14414,13 +14414,13 @@ func (m *memory) f59(p0 uint64, p1 uint64) {
 		l3 = m.i32_load8_u(p1 + 52)
 		l2 = m.i32_load8_u(p1 + 51)
 		if select32(b32(l2 == 1), select32(l3, 1, l4), l4) == 1 {
-			l34 = m.i64_load(((uint64(select32(b32(l2 == 1), select32(l3, m.i32_load8_u(p1+53), l9), l9)) & 255) << 3) + 4611686018427410336)
+			l34 = m.i64_load(((uint64(select32(b32(l2 == 1), select32(l3, m.i32_load8_u(p1+53), l9), l9)) & 255) << 3) + 4611686018427410344)
 		}
 		l21 = p1 + 11
 		l3 = m.i32_load8_u(p1 + 55)
 		l2 = b32(m.i32_load8_u(p1+54) == 1)
 		if select32(l2, select32(l3, 1, l5), l5) == 1 {
-			l33 = m.i64_load(((uint64(select32(l2, select32(l3, m.i32_load8_u(p1+56), l10), l10)) & 255) << 3) + 4611686018427410336)
+			l33 = m.i64_load(((uint64(select32(l2, select32(l3, m.i32_load8_u(p1+56), l10), l10)) & 255) << 3) + 4611686018427410344)
 		}
 		l3 = m.i32_load8_u(l21)
 		l2 = m.i32_load8_u(p1 + 10)
@@ -14438,7 +14438,7 @@ func (m *memory) f59(p0 uint64, p1 uint64) {
 		i1 = l7
 		l7 = m.i32_load8_u(p1 + 57)
 		if select32(b32(l7 == 1), i0, i1) == 1 {
-			l21 = m.i64_load(((uint64(select32(b32(l7 == 1), select32(l18, m.i32_load8_u(p1+59), l15), l15)) & 255) << 3) + 4611686018427410336)
+			l21 = m.i64_load(((uint64(select32(b32(l7 == 1), select32(l18, m.i32_load8_u(p1+59), l15), l15)) & 255) << 3) + 4611686018427410344)
 		}
 		m.i32_store(p0+33, 0)
 		m.i32_store8(p0+32, l14)
@@ -14622,776 +14622,625 @@ B0:
 }
 
 func (m *memory) f63(p0 uint64, p1 uint64, p2 uint64, p3 uint64) {
-	var l35, l36, l37, l38, l39, l40, l41, l42, l43, l44, i1 uint32
-	var l4, l5, l6, l7, l8, l9, l10, l11, l12, l13, l14, l15, l16, l17, l18, l19, l20, l21, l22, l23, l24, l25, l26, l27, l28, l29, l30, l31, l32, l33, l34, j0, j1 uint64
-	_, _, _, _, _, _, _, _, _, _, _, _, _, _, _, _, _, _, _, _, _, _, _, _, _, _, _, _, _, _, _, _, _, _, _, _, _, _, _, _, _, _, _, _ = l35, l36, l37, l38, l39, l40, l41, l42, l43, l44, i1, l4, l5, l6, l7, l8, l9, l10, l11, l12, l13, l14, l15, l16, l17, l18, l19, l20, l21, l22, l23, l24, l25, l26, l27, l28, l29, l30, l31, l32, l33, l34, j0, j1
-	l5 = m.stackPointer - 160
-	m.stackPointer = l5
-	if int64(l5) >= 16 {
-		l4 = p0 + 4096
-		l6 = m.i64_load(l4)
-		m.i32_store8(p0+l6, 123)
-		m.i64_store(l4, l6+1)
+	var l33, l34, l35, l36, l37, l38, l39, l40, l41, l42, i0, i1 uint32
+	var l4, l5, l6, l7, l8, l9, l10, l11, l12, l13, l14, l15, l16, l17, l18, l19, l20, l21, l22, l23, l24, l25, l26, l27, l28, l29, l30, l31, l32, j0 uint64
+	_, _, _, _, _, _, _, _, _, _, _, _, _, _, _, _, _, _, _, _, _, _, _, _, _, _, _, _, _, _, _, _, _, _, _, _, _, _, _, _, _, _ = l33, l34, l35, l36, l37, l38, l39, l40, l41, l42, i0, i1, l4, l5, l6, l7, l8, l9, l10, l11, l12, l13, l14, l15, l16, l17, l18, l19, l20, l21, l22, l23, l24, l25, l26, l27, l28, l29, l30, l31, l32, j0
+	l4 = m.stackPointer - 160
+	m.stackPointer = l4
+	if int64(l4) >= 16 {
+		m.f64(p0, 4611686018427398484, 1)
 	L1:
-		l4 = p2 + (l30 * 56)
-		l8 = m.i64_load16_u(l4 + 29)
-		l7 = m.i64_load8_u(l4 + 31)
-		l11 = m.i64_load32_u(l4 + 25)
-		l35 = m.i32_load8_u(l4 + 24)
-		l42 = m.i32_load8_u(l4 + 23)
-		l36 = m.i32_load8_u(l4 + 22)
-		l39 = m.i32_load8_u(l4 + 20)
-		l40 = m.i32_load8_u(l4 + 19)
-		l37 = m.i32_load8_u(l4 + 18)
-		l38 = m.i32_load8_u(l4 + 17)
-		l13 = m.i64_load(l4 + 8)
-		l10 = m.i64_load(l4)
-		l9 = m.i64_load(l4 + 48)
-		l6 = m.i64_load(l4 + 40)
-		l12 = m.i64_load(l4 + 32)
-		l41 = m.i32_load8_u(l4 + 21)
-		l44 = m.i32_load8_u(l4 + 16)
-		if select32(l35&255, 0, b32(l44 == 2)) == 0 {
-			l8 = (l7 << 48) | (l8 << 32)
-			l7 = p0 + 4096
-			l4 = m.i64_load(l7)
-			l14 = uint64(l36)
-			l15 = uint64(l37)
-			l8 = l8 | l11
-			l16 = uint64(l35) & 255
-			if l43 != 0 {
-				m.i32_store8(p0+l4, 44)
-				l4 = l4 + 1
-				j0 = l4
-			}
-			m.i32_store8(p0+l4, 34)
-			m.i64_store(l7, l4+1)
-			m.f64(p0, l10, l13)
-			l4 = m.i64_load(l7)
-			l7 = p0 + l4
-			if (l7 - 4611686018427398484) <= 1 {
-				m.i32_store16(l7, 14882)
-				goto B4
-			}
-			m.i32_store16(l7, 14882)
-		B4:
-			l14 = l14 & 255
-			l15 = l15 & 255
-			l13 = p0 + 4096
-			l10 = l4 + 2
-			m.i64_store(l13, l10)
-			l17 = 0
-			m.i64_store(l5+104, 0)
-			m.i64_store(l5+112, 0)
-			m.i64_store(l5+120, 0)
-			m.i32_store(l5+96, 0)
-			m.i32_store16(l5+100, 0)
-			m.i64_store(l5+72, 0)
-			m.i64_store(l5+80, 0)
-			m.i64_store(l5+88, 0)
-			m.i64_store(l5+48, 0)
-			m.i64_store(l5+56, 0)
-			m.i64_store(l5-18446744073709551552, 0)
-			m.i64_store(l5+24, 0)
-			m.i64_store(l5+32, 0)
-			m.i64_store(l5+40, 0)
-			l11 = l8 & 72057594037927935
-			l7 = (l8 << 8) | l16
-			switch l44 - 1 {
+		l5 = p2 + (l26 * 56)
+		l8 = m.i64_load16_u(l5 + 29)
+		l7 = m.i64_load8_u(l5 + 31)
+		l10 = m.i64_load32_u(l5 + 25)
+		l34 = m.i32_load8_u(l5 + 24)
+		l40 = m.i32_load8_u(l5 + 23)
+		l35 = m.i32_load8_u(l5 + 22)
+		l37 = m.i32_load8_u(l5 + 20)
+		l38 = m.i32_load8_u(l5 + 19)
+		l41 = m.i32_load8_u(l5 + 18)
+		l36 = m.i32_load8_u(l5 + 17)
+		l12 = m.i64_load(l5 + 48)
+		l6 = m.i64_load(l5 + 40)
+		l9 = m.i64_load(l5 + 32)
+		l39 = m.i32_load8_u(l5 + 21)
+		l42 = m.i32_load8_u(l5 + 16)
+		if select32(l34&255, 0, b32(l42 == 2)) == 0 {
+			l11 = uint64(l35) & 255
+			l13 = uint64(l41) & 255
+			m.f65(p0, l33&1, m.i64_load(l5), m.i64_load(l5+8))
+			m.i64_store(l4+104, 0)
+			m.i64_store(l4+112, 0)
+			m.i64_store(l4+120, 0)
+			l33 = 0
+			m.i32_store(l4+96, 0)
+			m.i32_store16(l4+100, 0)
+			m.i64_store(l4+72, 0)
+			m.i64_store(l4+80, 0)
+			m.i64_store(l4+88, 0)
+			m.i64_store(l4+48, 0)
+			m.i64_store(l4+56, 0)
+			m.i64_store(l4-18446744073709551552, 0)
+			m.i64_store(l4+24, 0)
+			m.i64_store(l4+32, 0)
+			m.i64_store(l4+40, 0)
+			l5 = l10 | ((l7 << 48) | (l8 << 32))
+			l7 = l5 & 72057594037927935
+			l10 = uint64(l34) & 255
+			l8 = l10 | (l5 << 8)
+			switch l42 - 1 {
 			case 0:
-				goto B16
-			case 1:
-				goto B15
-			case 2:
-				goto B14
-			case 3:
 				goto B13
-			case 4:
+			case 1:
 				goto B12
-			case 5:
+			case 2:
 				goto B11
-			case 6:
+			case 3:
 				goto B10
-			case 7:
+			case 4:
 				goto B9
-			case 8:
+			case 5:
 				goto B8
+			case 6:
+				goto B4
+			case 7:
+				goto B5
+			case 8:
+				goto B6
 			case 9:
 				goto B7
 			default:
-				goto B17
+				goto B14
 			}
-		B17:
-			m.i64_store(l5+120, l6)
-			m.i64_store(l5+112, l12)
-			m.i64_store8(l5+105, l8)
-			m.i32_store8(l5+104, l35)
-			m.f65(l5+104, p0)
-			goto B6
-		B16:
-			m.i32_store8(l5+101, l36)
-			m.i32_store8(l5+100, l41)
-			m.i32_store8(l5+99, l39)
-			m.i32_store8(l5+98, l40)
-			m.i32_store8(l5+97, l37)
-			m.i32_store8(l5+96, l38)
-			m.i64_store(l5+88, 6)
-			m.i32_store8(l5+72, 3)
-			m.i64_store(l5+80, l5+96)
-			m.f65(l5+72, p0)
-			goto B6
-		B15:
-			if (l35 & 255) == 0 {
-				goto B6
-			}
-			m.f66(p0, l12)
-			goto B6
 		B14:
-			l13 = l5 + 8
-			l9 = p1
-			l10 = m.stackPointer - 16
-			m.stackPointer = l10
-			if int64(l10) >= 16 {
-				m.f18(l10, uint64(l38)&255, 0, 200376420520689664, 5421)
-				l6 = m.i64_load(l10)
-				l4 = m.i64_load(l10 + 8)
-				j0 = l13 + 8
+			m.i64_store(l4+120, l6)
+			m.i64_store(l4+112, l9)
+			m.i64_store8(l4+105, l5)
+			m.i32_store8(l4+104, l34)
+			m.f66(l4+104, p0)
+			goto B3
+		B13:
+			m.i32_store8(l4+101, l35)
+			m.i32_store8(l4+100, l39)
+			m.i32_store8(l4+99, l37)
+			m.i32_store8(l4+98, l38)
+			m.i32_store8(l4+97, l41)
+			m.i32_store8(l4+96, l36)
+			m.i64_store(l4+88, 6)
+			m.i32_store8(l4+72, 3)
+			m.i64_store(l4+80, l4+96)
+			m.f66(l4+72, p0)
+			goto B3
+		B12:
+			if (l34 & 255) == 0 {
+				goto B3
+			}
+			m.f67(p0, l9)
+			goto B3
+		B11:
+			l15 = l4 + 8
+			l6 = p1
+			l14 = m.stackPointer - 16
+			m.stackPointer = l14
+			if int64(l14) >= 16 {
+				m.f18(l14, uint64(l36)&255, 0, 200376420520689664, 5421)
+				l7 = m.i64_load(l14)
+				l5 = m.i64_load(l14 + 8)
+				j0 = l15 + 8
 				if int64(m.stackPointer) >= 16 {
-					i1 = select32(select32(b32(l4 == 216840), b32(l6 < 8015056820827586560), b32(l4 < 216840)), 1, select32(select32(b32(l4 == 379470), b32(l6 < 14026349436448276480), b32(l4 < 379470)), 2, 3))
-					if m.i32_load8_u(l9) == 0 {
-						goto B20
+					i1 = select32(select32(b32(l5 == 216840), b32(l7 < 8015056820827586560), b32(l5 < 216840)), 1, select32(select32(b32(l5 == 379470), b32(l7 < 14026349436448276480), b32(l5 < 379470)), 2, 3))
+					if m.i32_load8_u(l6) == 0 {
+						goto B17
 					}
 					i1 = 0
-					if select32(b32(l4 == 5421), b32(l6 < 200376420520689664), b32(l4 < 5421)) != 0 {
-						goto B20
+					if select32(b32(l5 == 5421), b32(l7 < 200376420520689664), b32(l5 < 5421)) != 0 {
+						goto B17
 					}
 					i1 = 1
-					if select32(b32(l4 == 216840), b32(l6 < 8015056820827586560), b32(l4 < 216840)) != 0 {
-						goto B20
+					if select32(b32(l5 == 216840), b32(l7 < 8015056820827586560), b32(l5 < 216840)) != 0 {
+						goto B17
 					}
-					i1 = select32(select32(b32(l4 == 379470), b32(l6 < 14026349436448276480), b32(l4 < 379470)), 2, select32(select32(b32(l4 == 487890), b32(l6 < 18033877846862069760), b32(l4 < 487890)), 3, 4))
-					goto B20
+					i1 = select32(select32(b32(l5 == 379470), b32(l7 < 14026349436448276480), b32(l5 < 379470)), 2, select32(select32(b32(l5 == 487890), b32(l7 < 18033877846862069760), b32(l5 < 487890)), 3, 4))
+					goto B17
 				}
 				panic("cvss: unreachable")
-			B20:
-				l9 = uint64(i1&255) << 3
-				m.i64_store(j0, m.i64_load(l9+4611686018427412216))
-				m.i64_store(l13, m.i64_load(l9+4611686018427412256))
-				m.stackPointer = l10 + 16
-				goto B18
+			B17:
+				l6 = uint64(i1&255) << 3
+				m.i64_store(j0, m.i64_load(l6+4611686018427412224))
+				m.i64_store(l15, m.i64_load(l6+4611686018427412264))
+				m.stackPointer = l14 + 16
+				goto B15
 			}
 			panic("cvss: unreachable")
-		B18:
-			m.i32_store8(l5+48, 4)
-			m.i64_store(l5-18446744073709551552, m.i64_load(l5+16))
-			m.i64_store(l5+56, m.i64_load(l5+8))
-			m.f65(l5+48, p0)
-			goto B6
-		B13:
-			m.i32_store8(p0+l10, 34)
-			m.i64_store(l13, l4+3)
-			m.f67(p0, p1)
-			l4 = m.i64_load(l13)
-			m.i32_store8(p0+l4, 34)
-			m.i64_store(l13, l4+1)
-			goto B6
-		B12:
-			m.i32_store8(l5+24, 4)
-			m.i64_store(l5+40, 3)
-			m.i64_store(l5+32, m.i64_load((m.i64_load8_u(p1)<<3)+4611686018427413496))
-			m.f65(l5+24, p0)
-			goto B6
-		B11:
-			m.i32_store8(p0+l10, 123)
-			l4 = l4 + 3
-			m.i64_store(l13, l4)
-			if b32(l9 == 0) == 0 {
-				l35 = 0
-			L23:
-				l4 = m.i64_load(l6 + 8)
-				if m.i32_load8_u(l6) == 0 {
-					if l4 >= l12 {
+		B15:
+			m.i32_store8(l4+48, 4)
+			m.i64_store(l4-18446744073709551552, m.i64_load(l4+16))
+			m.i64_store(l4+56, m.i64_load(l4+8))
+			m.f66(l4+48, p0)
+			goto B3
+		B10:
+			m.f64(p0, 4611686018427398487, 1)
+			m.f68(p0, p1)
+			m.f64(p0, 4611686018427398487, 1)
+			goto B3
+		B9:
+			m.i32_store8(l4+24, 4)
+			m.i64_store(l4+40, 3)
+			m.i64_store(l4+32, m.i64_load((m.i64_load8_u(p1)<<3)+4611686018427413504))
+			m.f66(l4+24, p0)
+			goto B3
+		B8:
+			m.f64(p0, 4611686018427398484, 1)
+			if b32(l12 == 0) == 0 {
+			L20:
+				l34 = l33
+				l5 = m.i64_load(l6 + 8)
+				l33 = m.i32_load8_u(l6)
+				m.i64_store(l4+128, 0)
+				if l33 == 0 {
+					if l5 >= l9 {
 						goto B24
 					}
-					l4 = l7 + (l4 * 24)
-					l36 = m.i32_load8_u(l4 + 8)
-					l10 = select64(l36, 0, m.i64_load(l4+16))
-					l8 = uint64(b32(l36 != 0)) | ((uint64(select32(l36, m.i32_load8_u(l4+9), 0)) & 255) << 8)
-					l4 = m.i64_load8_u(l4) << 3
-					l16 = m.i64_load(l4 + 4611686018427410488)
-					l14 = m.i64_load(l4 + 4611686018427410360)
-					j0 = 0
-					goto B25
+					l11 = l8 + (l5 * 24)
+					l5 = m.i64_load(l11 + 16)
+					l7 = m.i64_load8_u(l11) << 3
+					l13 = m.i64_load(l7 + 4611686018427410496)
+					l7 = m.i64_load(l7 + 4611686018427410368)
+					l10 = 0
+					l33 = m.i32_load8_u(l11 + 8)
+					l35 = l33
+					switch uint32(uint64(l33)&255) - 1 {
+					case 0:
+						goto B26
+					case 1:
+						goto B27
+					default:
+						goto B22
+					}
+				B27:
+					l33 = m.i32_load8_u(l11 + 10)
+					i0 = l33
+					goto B23
+				B26:
+					l33 = m.i32_load8_u(l11 + 9)
+					i0 = l33
+					goto B23
 				}
-				if l4 >= l12 {
+				if l5 >= l9 {
 					goto B24
 				}
-				l4 = l7 + (l4 * 24)
-				if m.i32_load8_u(l4+8) != 2 {
+				l7 = 8
+				l5 = l8 + (l5 * 24)
+				if m.i32_load8_u(l5+8) != 2 {
 					goto B24
 				}
-				l8 = 4
-				l14 = 8
-				l16 = 4611686018427398409
-				l37 = m.i32_load8_u(l4 + 9)
-				l36 = l37 & 255
-				if l36 == 0 {
-					l10 = 4611686018427398515
-					j0 = 4
-					goto B27
+				l36 = m.i32_load8_u(l5 + 9)
+				l33 = m.i32_load8_u(l5 + 10)
+				if int64(m.stackPointer) >= 16 {
+					if (l36 & 255) == 0 {
+						l33 = l33 & 255
+						i0 = select32(b32(l33 < 40), 1, select32(b32(l33 < 70), 2, 3))
+						goto B28
+					}
+					i0 = 0
+					if (l33 & 255) == 0 {
+						goto B28
+					}
+					l33 = l33 & 255
+					i0 = 1
+					if l33 < 40 {
+						goto B28
+					}
+					i0 = select32(b32(l33 < 70), 2, select32(b32(l33 < 90), 3, 4))
+					goto B28
 				}
-				if l36 < 40 {
-					l10 = 4611686018427398519
-					j0 = 3
-					goto B27
-				}
-				l36 = l37 & 255
-				if l36 < 70 {
-					l10 = 4611686018427398522
-					j0 = 6
-					goto B27
-				}
-				l36 = b32(l36 < 90)
-				l10 = select64(l36, 4611686018427398528, 4611686018427398532)
-				j0 = select64(l36, 4, 8)
-			B27:
-			B25:
-				l13 = j0
-				m.i64_store(l5+128, 0)
-				l11 = p0 + 4096
-				l4 = m.i64_load(l11)
-				l15 = l8 >> 8
-				if l35&1 != 0 {
-					m.i32_store8(p0+l4, 44)
-					l4 = l4 + 1
-					j0 = l4
-				}
-				l35 = uint32(l15)
-				l36 = uint32(l8)
-				m.i32_store8(p0+l4, 34)
-				m.i64_store(l11, l4+1)
-				m.f64(p0, l16, l14)
-				l4 = m.i64_load(l11)
-				l8 = p0 + l4
-				if (l8 - 4611686018427398484) <= 1 {
-					m.i32_store16(l8, 14882)
-					goto B32
-				}
-				m.i32_store16(l8, 14882)
-			B32:
-				m.i64_store(p0+4096, l4+2)
-				m.i64_store(l5+144, l13)
-				m.i64_store(l5+136, l10)
-				m.i32_store8(l5+129, l35)
-				m.i32_store8(l5+128, l36)
-				m.f65(l5+128, p0)
-				l35 = 1
+				panic("cvss: unreachable")
+			B28:
+				l10 = uint64(i0&255) << 3
+				l5 = m.i64_load(l10 + 4611686018427412264)
+				l10 = m.i64_load(l10 + 4611686018427412224)
+				l13 = 4611686018427398409
+				l35 = 4
+				l33 = 0
+				i0 = l33
+				goto B22
 			B24:
+				i0 = l34
+				goto B21
+			B23:
+				l35 = 1
+				l5 = 0
+				j0 = l5
+			B22:
+				m.i64_store(l4+144, l10)
+				m.i64_store(l4+136, l5)
+				m.i32_store8(l4+129, l33)
+				m.i32_store8(l4+128, l35)
+				m.f69(p0, l34&1, l13, l7, l4+128)
+				i0 = 1
+			B21:
+				l33 = i0
 				l6 = l6 + 16
-				l9 = l9 - 1
-				if l9 != 0 {
-					goto L23
+				l12 = l12 - 1
+				if l12 != 0 {
+					goto L20
 				}
-				l4 = m.i64_load(p0 + 4096)
-				j0 = l4
 			}
-			m.i32_store8(p0+l4, 125)
-			m.i64_store(p0+4096, l4+1)
-			goto B6
-		B10:
-			m.f68(p0, l7, l12)
-			goto B6
-		B9:
-			l9 = uint64(l39)
-			m.i32_store8(p0+l10, 123)
-			l8 = l4 + 3
-			m.i64_store(l13, l8)
-			l7 = l11 & 16711680
-			if l7 == 65536 {
-				l17 = m.i64_load(((l11 >> 21) & 24) + 4611686018427410688)
-				j0 = l17
+			m.f64(p0, 4611686018427398485, 1)
+			goto B3
+		B7:
+			if m.i32_load8_u(l8+24) == 1 {
+				l33 = m.i32_load8_u(l8 + 21)
+				m.f64(p0, 4611686018427398767, 1)
+				m.i32_store8(l4+159, m.i32_load8_u(l8+15))
+				m.f70(p0, 4611686018427398768, 3, l4+159, 1, l33, l8+28)
+				m.f64(p0, 4611686018427398486, 1)
+				m.i32_store8(l4+158, m.i32_load8_u(l8+16))
+				m.f70(p0, 4611686018427398771, 3, l4+158, 1, l33, l8+44)
+				m.f64(p0, 4611686018427398486, 1)
+				l34 = m.i32_load8_u(l8 + 17)
+				m.i32_store8(l4+129, m.i32_load8_u(l8+20))
+				m.i32_store8(l4+128, l34)
+				m.f70(p0, 4611686018427398774, 7, l4+128, 2, l33, l8+60)
+				m.f64(p0, 4611686018427398486, 1)
+				m.i32_store8(l4+157, m.i32_load8_u(l8+18))
+				m.f70(p0, 4611686018427398781, 3, l4+157, 1, l33, l8+76)
+				m.f64(p0, 4611686018427398486, 1)
+				m.i32_store8(l4+156, m.i32_load8_u(l8+19))
+				m.f70(p0, 4611686018427398784, 3, l4+156, 1, l33, l8+92)
+				m.f64(p0, 4611686018427398787, 1)
+				goto B3
 			}
-			l9 = l9 & 255
-			l18 = l12 >> 48
-			l19 = l12 >> 32
-			l20 = l12 >> 16
-			m.i32_store8(p0+l8, 34)
-			l8 = p0 + 4096
-			m.i64_store(l8, l4+4)
-			m.i64_store(l5+128, 0)
-			m.f64(p0, 4611686018427388712, 1)
-			l4 = m.i64_load(l8)
-			l8 = p0 + l4
-			if (l8 - 4611686018427398484) >= 2 {
-				m.i32_store16(l8, 14882)
-				goto B35
-			}
-			m.i32_store16(l8, 14882)
-		B35:
-			m.i64_store(p0+4096, l4+2)
-			m.i64_store(l5+144, 0)
-			m.i64_store(l5+136, l17)
-			m.f65(l5+128, p0)
-			l13 = l11 & 255
-			l10 = l11 & 1095216660480
-			l17 = l11 & 71776119061217280
-			l21 = l12 & 65280
-			l22 = l12 & 4278190080
-			l23 = l12 & 280375465082880
-			l24 = l12 & 18374686479671623680
-			l25 = l6 & 65280
-			l26 = l6 & 4278190080
-			l15 = (l15 << 3) + 4611686018427410616
-			l27 = (l9 << 3) + 4611686018427410640
-			l14 = (l14 << 3) + 4611686018427410664
-			l16 = (l16 << 3) + 4611686018427410688
-			l28 = ((l11 >> 5) & 2040) + 4611686018427410688
-			l29 = ((l11 >> 21) & 24) + 4611686018427410688
-			l11 = ((l11 >> 37) & 2040) + 4611686018427410712
-			l31 = ((l12 & 255) << 3) + 4611686018427410752
-			l20 = ((l20 & 255) << 3) + 4611686018427410792
-			l19 = ((l19 & 255) << 3) + 4611686018427410824
-			l18 = ((l18 & 255) << 3) + 4611686018427410872
-			l32 = ((l6 & 255) << 3) + 4611686018427410912
-			l33 = ((l6 >> 13) & 2040) + 4611686018427410912
-			l34 = ((l6 >> 29) & 2040) + 4611686018427410912
-			l4 = 1
-			j0 = l4
-		L37:
-			l9 = m.i64_load8_u(l4 + 4611686018427398486)
+			m.f64(p0, 4611686018427398765, 2)
+			goto B3
+		B6:
+			m.f64(p0, 4611686018427398484, 1)
+			l14 = select64(b32((l37&255) == 1), 4611686018427387918, 4611686018427389536)
+			l15 = select64(b32((l39&255) == 1), 4611686018427387920, 4611686018427389539)
+			l16 = ((uint64(l36) & 255) << 3) + 4611686018427411544
+			l13 = (l13 << 3) + 4611686018427411576
+			l17 = ((uint64(l38) & 255) << 3) + 4611686018427411008
+			l11 = (l11 << 3) + 4611686018427411576
+			l18 = ((uint64(l40) & 255) << 3) + 4611686018427411576
+			l10 = (l10 << 3) + 4611686018427411576
+			l19 = ((l5 & 255) << 3) + 4611686018427411576
+			l20 = ((l7 >> 5) & 2040) + 4611686018427410952
+			l21 = ((l7 >> 13) & 2040) + 4611686018427410952
+			l22 = ((l7 >> 45) & 2040) + 4611686018427410984
+			l23 = ((l7 >> 21) & 2040) + 4611686018427411688
+			l24 = ((l7 >> 29) & 2040) + 4611686018427411688
+			l25 = ((l7 >> 37) & 2040) + 4611686018427411688
+			l5 = 18446744073709551601
+			j0 = l5
+		L32:
+			m.i64_store(l4+128, 4)
+			l9 = m.i64_load8_u(l5 + 4611686018427398519)
+			l6 = l9 * 56
+			l8 = m.i64_load(l6 + 4611686018427393432)
+			l7 = m.i64_load(l6 + 4611686018427393424)
+			l6 = 4611686018427397840
+			l12 = 0
 			switch uint32(l9) - 1 {
 			case 0:
-				goto B64
+				goto B48
 			case 1:
-				goto B65
+				goto B47
 			case 2:
-				goto B63
+				goto B46
 			case 3:
-				goto B62
+				goto B39
 			case 4:
-				goto B61
+				goto B41
 			case 5:
-				goto B59
+				goto B40
 			case 6:
-				goto B58
+				goto B45
 			case 7:
-				goto B57
+				goto B42
 			case 8:
-				goto B56
+				goto B44
 			case 9:
-				goto B55
+				goto B43
 			case 10:
-				goto B54
+				goto B38
 			case 11:
-				goto B53
+				goto B35
 			case 12:
-				goto B52
+				goto B37
+			case 13:
+				goto B36
+			case 14:
+				goto B33
+			case 15:
+				goto B33
+			case 16:
+				goto B33
+			case 17:
+				goto B33
+			case 18:
+				goto B33
+			case 19:
+				goto B33
+			case 20:
+				goto B33
+			case 21:
+				goto B33
+			case 22:
+				goto B33
+			case 23:
+				goto B33
+			case 24:
+				goto B33
+			case 25:
+				goto B33
+			case 26:
+				goto B33
+			case 27:
+				goto B33
+			case 28:
+				goto B33
+			case 29:
+				goto B33
+			case 30:
+				goto B33
 			default:
-				goto B60
-			}
-		B65:
-			if (l38 & 255) == 1 {
-				goto B51
-			}
-			j0 = 0
-			goto B38
-		B64:
-			if (l40 & 255) == 1 {
-				goto B50
-			}
-			j0 = 0
-			goto B38
-		B63:
-			if (l41 & 255) == 1 {
 				goto B49
 			}
-			j0 = 0
-			goto B38
-		B62:
-			if (l42 & 255) == 1 {
-				goto B48
-			}
-			j0 = 0
-			goto B38
-		B61:
-			if l13 == 1 {
-				goto B47
-			}
-			j0 = 0
-			goto B38
-		B60:
-			j0 = 0
-			if l7 != 65536 {
-				goto B38
-			}
-			j0 = m.i64_load(l29)
-			goto B38
-		B59:
-			if l10 == 4294967296 {
-				goto B46
-			}
-			j0 = 10000000
-			goto B38
-		B58:
-			if l17 == 281474976710656 {
-				goto B45
-			}
-			j0 = 10000000
-			goto B38
-		B57:
-			if l21 == 256 {
-				goto B44
-			}
-			j0 = 10000000
-			goto B38
-		B56:
-			if l22 == 16777216 {
-				goto B43
-			}
-			j0 = 0
-			goto B38
-		B55:
-			if l23 == 1099511627776 {
-				goto B42
-			}
-			j0 = 10000000
-			goto B38
-		B54:
-			if l24 == 72057594037927936 {
-				goto B41
-			}
-			j0 = 10000000
-			goto B38
-		B53:
-			if l25 == 256 {
-				goto B40
-			}
-			j0 = 10000000
-			goto B38
-		B52:
-			if l26 == 16777216 {
-				goto B39
-			}
-			j0 = 10000000
-			goto B38
-		B51:
-			j0 = m.i64_load(l15)
-			goto B38
-		B50:
-			j0 = m.i64_load(l27)
-			goto B38
 		B49:
-			j0 = m.i64_load(l14)
-			goto B38
+			l12 = 1
+			l6 = l14
+			j0 = l6
+			goto B33
 		B48:
-			j0 = m.i64_load(l16)
-			goto B38
+			l12 = 1
+			l6 = l15
+			j0 = l6
+			goto B33
 		B47:
-			j0 = m.i64_load(l28)
-			goto B38
-		B46:
-			j0 = m.i64_load(l11)
-			goto B38
-		B45:
-			j0 = m.i64_load(l31)
-			goto B38
-		B44:
-			j0 = m.i64_load(l20)
-			goto B38
-		B43:
-			j0 = m.i64_load(l19)
-			goto B38
-		B42:
-			j0 = m.i64_load(l18)
-			goto B38
-		B41:
-			j0 = m.i64_load(l32)
-			goto B38
-		B40:
-			j0 = m.i64_load(l33)
-			goto B38
-		B39:
-			j0 = m.i64_load(l34)
-		B38:
-			l8 = j0
-			l6 = p0 + 4096
-			l12 = m.i64_load(l6)
-			m.i32_store16(p0+l12, 8748)
-			m.i64_store(l6, l12+2)
-			m.i64_store(l5+128, 0)
-			l9 = l9 * 56
-			m.f64(p0, m.i64_load(l9+4611686018427387928), m.i64_load(l9+4611686018427387936))
-			l6 = m.i64_load(l6)
-			l9 = p0 + l6
-			if (l9 - 4611686018427398484) <= 1 {
-				m.i32_store16(l9, 14882)
-				goto B66
-			}
-			m.i32_store16(l9, 14882)
-		B66:
-			l9 = p0 + 4096
-			m.i64_store(l9, l6+2)
-			m.i64_store(l5+144, 0)
-			m.i64_store(l5+136, l8)
-			m.f65(l5+128, p0)
-			l4 = l4 + 1
-			if l4 != 14 {
-				goto L37
-			}
-			l4 = m.i64_load(l9)
-			m.i32_store8(p0+l4, 125)
-			m.i64_store(l9, l4+1)
-			goto B6
-		B8:
-			l6 = uint64(l42) & 255
-			l9 = uint64(l40) & 255
-			l12 = uint64(l38) & 255
-			l7 = p0 + l10
-			m.i32_store8(l7, 123)
-			m.i32_store8(l7+1, 34)
-			m.i64_store(l5+128, 4)
-			m.i64_store(l13, l4+4)
-			m.f64(p0, 4611686018427395216, 2)
-			l10 = select64(b32((l39&255) == 1), 4611686018427387918, 4611686018427389536)
-			l4 = m.i64_load(l13)
-			l7 = p0 + l4
-			if (l7 - 4611686018427398484) >= 2 {
-				m.i32_store16(l7, 14882)
-				goto B68
-			}
-			m.i32_store16(l7, 14882)
-		B68:
-			m.i64_store(p0+4096, l4+2)
-			l4 = 1
-			m.i64_store(l5+144, 1)
-			m.i64_store(l5+136, l10)
-			m.f65(l5+128, p0)
-			l13 = select64(b32((l41&255) == 1), 4611686018427387920, 4611686018427389539)
-			l17 = (l12 << 3) + 4611686018427411536
-			l15 = (l15 << 3) + 4611686018427411568
-			l21 = (l9 << 3) + 4611686018427411000
-			l14 = (l14 << 3) + 4611686018427411568
-			l22 = (l6 << 3) + 4611686018427411568
-			l16 = (l16 << 3) + 4611686018427411568
-			l23 = ((l8 & 255) << 3) + 4611686018427411568
-			l24 = ((l11 >> 5) & 2040) + 4611686018427410944
-			l25 = ((l11 >> 13) & 2040) + 4611686018427410944
-			l26 = ((l11 >> 45) & 2040) + 4611686018427410976
-			l27 = ((l11 >> 21) & 2040) + 4611686018427411680
-			l28 = ((l11 >> 29) & 2040) + 4611686018427411680
-			l29 = ((l11 >> 37) & 2040) + 4611686018427411680
-			j0 = l29
-		L70:
-			l6 = m.i64_load8_u(l4 + 4611686018427398500)
-			l9 = l6 * 56
-			l8 = m.i64_load(l9 + 4611686018427393432)
-			l7 = m.i64_load(l9 + 4611686018427393424)
-			l9 = 4611686018427397840
-			l12 = 0
-			switch uint32(l6) - 1 {
-			case 0:
-				goto B86
-			case 1:
-				goto B85
-			case 2:
-				goto B84
-			case 3:
-				goto B77
-			case 4:
-				goto B79
-			case 5:
-				goto B78
-			case 6:
-				goto B83
-			case 7:
-				goto B80
-			case 8:
-				goto B82
-			case 9:
-				goto B81
-			case 10:
-				goto B76
-			case 11:
-				goto B73
-			case 12:
-				goto B75
-			case 13:
-				goto B74
-			case 14:
-				goto B71
-			case 15:
-				goto B71
-			case 16:
-				goto B71
-			case 17:
-				goto B71
-			case 18:
-				goto B71
-			case 19:
-				goto B71
-			case 20:
-				goto B71
-			case 21:
-				goto B71
-			case 22:
-				goto B71
-			case 23:
-				goto B71
-			case 24:
-				goto B71
-			case 25:
-				goto B71
-			case 26:
-				goto B71
-			case 27:
-				goto B71
-			case 28:
-				goto B71
-			case 29:
-				goto B71
-			case 30:
-				goto B71
-			default:
-				goto B87
-			}
-		B87:
-			l12 = 1
-			l9 = l10
-			j0 = l9
-			goto B71
-		B86:
-			l12 = 1
-			l9 = l13
-			j0 = l9
-			goto B71
-		B85:
-			j0 = m.i64_load(l17)
-			goto B72
-		B84:
-			j0 = m.i64_load(l15)
-			goto B72
-		B83:
-			j0 = m.i64_load(l21)
-			goto B72
-		B82:
-			j0 = m.i64_load(l14)
-			goto B72
-		B81:
-			j0 = m.i64_load(l22)
-			goto B72
-		B80:
 			j0 = m.i64_load(l16)
-			goto B72
-		B79:
+			goto B34
+		B46:
+			j0 = m.i64_load(l13)
+			goto B34
+		B45:
+			j0 = m.i64_load(l17)
+			goto B34
+		B44:
+			j0 = m.i64_load(l11)
+			goto B34
+		B43:
+			j0 = m.i64_load(l18)
+			goto B34
+		B42:
+			j0 = m.i64_load(l10)
+			goto B34
+		B41:
+			j0 = m.i64_load(l19)
+			goto B34
+		B40:
+			j0 = m.i64_load(l20)
+			goto B34
+		B39:
+			j0 = m.i64_load(l21)
+			goto B34
+		B38:
+			j0 = m.i64_load(l22)
+			goto B34
+		B37:
 			j0 = m.i64_load(l23)
-			goto B72
-		B78:
+			goto B34
+		B36:
 			j0 = m.i64_load(l24)
-			goto B72
-		B77:
+			goto B34
+		B35:
 			j0 = m.i64_load(l25)
-			goto B72
-		B76:
-			j0 = m.i64_load(l26)
-			goto B72
-		B75:
-			j0 = m.i64_load(l27)
-			goto B72
-		B74:
-			j0 = m.i64_load(l28)
-			goto B72
-		B73:
-			j0 = m.i64_load(l29)
-		B72:
-			l9 = j0
+		B34:
+			l6 = j0
 			l12 = 1
 			j0 = l12
-		B71:
-			l6 = p0 + 4096
-			l11 = m.i64_load(l6)
-			m.i32_store16(p0+l11, 8748)
-			m.i64_store(l6, l11+2)
-			m.i64_store(l5+128, 4)
-			m.f64(p0, l7, l8)
-			l6 = m.i64_load(l6)
-			l8 = p0 + l6
-			if (l8 - 4611686018427398484) <= 1 {
-				m.i32_store16(l8, 14882)
-				goto B88
+		B33:
+			m.i64_store(l4+144, l12)
+			m.i64_store(l4+136, l6)
+			m.f69(p0, l33&1, l7, l8, l4+128)
+			l33 = 1
+			l5 = l5 + 1
+			if l5 != 0 {
+				goto L32
 			}
-			m.i32_store16(l8, 14882)
-		B88:
-			l8 = p0 + 4096
-			m.i64_store(l8, l6+2)
-			m.i64_store(l5+144, l12)
-			m.i64_store(l5+136, l9)
-			m.f65(l5+128, p0)
-			l4 = l4 + 1
-			if l4 != 15 {
-				goto L70
+			m.f64(p0, 4611686018427398485, 1)
+			goto B3
+		B5:
+			m.f64(p0, 4611686018427398484, 1)
+			l8 = l7 & 255
+			l14 = l7 & 16711680
+			l15 = l7 & 1095216660480
+			l16 = l7 & 71776119061217280
+			l17 = l9 & 65280
+			l18 = l9 & 4278190080
+			l19 = l9 & 280375465082880
+			l20 = l9 & 18374686479671623680
+			l21 = l6 & 65280
+			l22 = l6 & 4278190080
+			l13 = (l13 << 3) + 4611686018427410624
+			l23 = ((uint64(l37) & 255) << 3) + 4611686018427410648
+			l11 = (l11 << 3) + 4611686018427410672
+			l10 = (l10 << 3) + 4611686018427410696
+			l24 = ((l7 >> 5) & 2040) + 4611686018427410696
+			l25 = ((l7 >> 21) & 2040) + 4611686018427410696
+			l7 = ((l7 >> 37) & 2040) + 4611686018427410720
+			l27 = ((l9 & 255) << 3) + 4611686018427410760
+			l28 = ((l9 >> 13) & 2040) + 4611686018427410800
+			l29 = ((l9 >> 29) & 2040) + 4611686018427410832
+			l9 = ((l9 >> 45) & 2040) + 4611686018427410880
+			l30 = ((l6 & 255) << 3) + 4611686018427410920
+			l31 = ((l6 >> 13) & 2040) + 4611686018427410920
+			l32 = ((l6 >> 29) & 2040) + 4611686018427410920
+			l5 = 18446744073709551602
+			j0 = l5
+		L50:
+			l34 = l33
+			l6 = 0
+			m.i64_store(l4+144, 0)
+			m.i64_store(l4+136, 0)
+			m.i64_store(l4+128, 0)
+			l12 = m.i64_load8_u(l5 + 4611686018427398504)
+			switch uint32(l12) - 1 {
+			case 0:
+				goto B59
+			case 1:
+				goto B60
+			case 2:
+				goto B58
+			case 3:
+				goto B57
+			case 4:
+				goto B56
+			case 5:
+				goto B67
+			case 6:
+				goto B66
+			case 7:
+				goto B65
+			case 8:
+				goto B53
+			case 9:
+				goto B64
+			case 10:
+				goto B63
+			case 11:
+				goto B62
+			case 12:
+				goto B61
+			default:
+				goto B55
 			}
-			l4 = m.i64_load(l8)
-			m.i32_store8(p0+l4, 125)
-			m.i64_store(l8, l4+1)
-			goto B6
-		B7:
-			j0 = p0 + 4096
-			if m.i32_load8_u(l7+24) == 1 {
-				l35 = m.i32_load8_u(l7 + 21)
-				m.i32_store8(p0+l10, 91)
-				l6 = p0 + 4096
-				m.i64_store(l6, l4+3)
-				m.i32_store8(l5+159, m.i32_load8_u(l7+15))
-				m.f69(p0, 4611686018427398759, 3, l5+159, 1, l35, l7+28)
-				l4 = m.i64_load(l6)
-				m.i32_store8(p0+l4, 44)
-				m.i64_store(l6, l4+1)
-				m.i32_store8(l5+158, m.i32_load8_u(l7+16))
-				m.f69(p0, 4611686018427398762, 3, l5+158, 1, l35, l7+44)
-				l4 = m.i64_load(l6)
-				m.i32_store8(p0+l4, 44)
-				m.i64_store(l6, l4+1)
-				l36 = m.i32_load8_u(l7 + 17)
-				m.i32_store8(l5+129, m.i32_load8_u(l7+20))
-				m.i32_store8(l5+128, l36)
-				m.f69(p0, 4611686018427398765, 7, l5+128, 2, l35, l7+60)
-				l4 = m.i64_load(l6)
-				m.i32_store8(p0+l4, 44)
-				m.i64_store(l6, l4+1)
-				m.i32_store8(l5+157, m.i32_load8_u(l7+18))
-				m.f69(p0, 4611686018427398772, 3, l5+157, 1, l35, l7+76)
-				l4 = m.i64_load(l6)
-				m.i32_store8(p0+l4, 44)
-				m.i64_store(l6, l4+1)
-				m.i32_store8(l5+156, m.i32_load8_u(l7+19))
-				m.f69(p0, 4611686018427398775, 3, l5+156, 1, l35, l7+92)
-				l4 = m.i64_load(l6)
-				m.i32_store8(p0+l4, 93)
-				j1 = l4 + 1
-				goto B90
+		B67:
+			if l15 == 4294967296 {
+				goto B54
 			}
-			l6 = p0 + l10
-			if (l6 - 4611686018427398757) <= 1 {
-				m.i32_store16(l6, 23899)
-				goto B92
+			goto B52
+		B66:
+			if l16 != 281474976710656 {
+				goto B52
 			}
-			m.i32_store16(l6, 23899)
-		B92:
-			j1 = l4 + 4
-		B90:
-			m.i64_store(j0, j1)
-		B6:
-			l43 = 1
+			l6 = m.i64_load(l27)
+			j0 = l6
+			goto B51
+		B65:
+			if l17 != 256 {
+				goto B52
+			}
+			l6 = m.i64_load(l28)
+			j0 = l6
+			goto B51
+		B64:
+			if l19 != 1099511627776 {
+				goto B52
+			}
+			l6 = m.i64_load(l9)
+			j0 = l6
+			goto B51
+		B63:
+			if l20 != 72057594037927936 {
+				goto B52
+			}
+			l6 = m.i64_load(l30)
+			j0 = l6
+			goto B51
+		B62:
+			if l21 != 256 {
+				goto B52
+			}
+			l6 = m.i64_load(l31)
+			j0 = l6
+			goto B51
+		B61:
+			if l22 != 16777216 {
+				goto B52
+			}
+			l6 = m.i64_load(l32)
+			j0 = l6
+			goto B51
+		B60:
+			if (l36 & 255) != 1 {
+				goto B51
+			}
+			l6 = m.i64_load(l13)
+			j0 = l6
+			goto B51
+		B59:
+			if (l38 & 255) != 1 {
+				goto B51
+			}
+			l6 = m.i64_load(l23)
+			j0 = l6
+			goto B51
+		B58:
+			if (l39 & 255) != 1 {
+				goto B51
+			}
+			l6 = m.i64_load(l11)
+			j0 = l6
+			goto B51
+		B57:
+			if (l40 & 255) != 1 {
+				goto B51
+			}
+			l6 = m.i64_load(l10)
+			j0 = l6
+			goto B51
+		B56:
+			if l8 != 1 {
+				goto B51
+			}
+			l6 = m.i64_load(l24)
+			j0 = l6
+			goto B51
+		B55:
+			if l14 != 65536 {
+				goto B51
+			}
+			l6 = m.i64_load(l25)
+			j0 = l6
+			goto B51
+		B54:
+			l6 = m.i64_load(l7)
+			j0 = l6
+			goto B51
+		B53:
+			if l18 != 16777216 {
+				goto B51
+			}
+			l6 = m.i64_load(l29)
+			j0 = l6
+			goto B51
+		B52:
+			l6 = 10000000
+			j0 = l6
+		B51:
+			m.i64_store(l4+136, l6)
+			l33 = 1
+			l6 = l12 * 56
+			m.f69(p0, l34&1, m.i64_load(l6+4611686018427387928), m.i64_load(l6+4611686018427387936), l4+128)
+			l5 = l5 + 1
+			if l5 != 0 {
+				goto L50
+			}
+			m.f64(p0, 4611686018427398485, 1)
+			goto B3
+		B4:
+			m.f71(p0, l8, l9)
+		B3:
+			l33 = 1
+			i0 = l33
 		}
-		l30 = l30 + 1
-		if l30 != p3 {
+		l26 = l26 + 1
+		if l26 != p3 {
 			goto L1
 		}
-		l4 = p0 + 4096
-		l6 = m.i64_load(l4)
-		m.i32_store8(p0+l6, 125)
-		m.i64_store(l4, l6+1)
-		m.stackPointer = l5 + 160
+		m.f64(p0, 4611686018427398485, 1)
+		m.stackPointer = l4 + 160
 		goto Bfunc
 	}
 	panic("cvss: unreachable")
@@ -15399,193 +15248,46 @@ Bfunc:
 }
 
 func (m *memory) f64(p0 uint64, p1 uint64, p2 uint64) {
-	var l3, l4, l5, l6, l7, l8, l9 uint64
-	_, _, _, _, _, _, _ = l3, l4, l5, l6, l7, l8, l9
+	var l3, l4, l5 uint64
+	_, _, _ = l3, l4, l5
 	if int64(m.stackPointer) >= 16 {
-		l4 = m.i64_load(p0 + 4096)
-		if p2 < 8 {
-			goto B1
-		}
-		l5 = p2 - 8
-		if (l5 & 24) != 24 {
-			l3 = ((l5 >> 3) + 1) & 3
-			p2 = p2 - (l3 << 3)
+		l5 = m.i64_load(p0 + 4096)
+		l3 = p0 + l5
+		if p2 > (l3 - p1) {
+			l4 = p2
 		L3:
-			m.i64_store(p0+l4, m.i64_load(p1))
-			l4 = l4 + 8
-			m.i64_store(p0+4096, l4)
-			p1 = p1 + 8
-			l3 = l3 - 1
-			if l3 != 0 {
-				goto L3
-			}
-		}
-		if l5 < 24 {
-			goto B1
-		}
-		l9 = p0 + l4
-		l3 = 0
-	L4:
-		l5 = l3 + l9
-		l6 = p1 + l3
-		m.i64_store(l5, m.i64_load(l6))
-		l7 = p0 + 4096
-		l8 = l3 + l4
-		m.i64_store(l7, l8+8)
-		m.i64_store(l5+8, m.i64_load(l6+8))
-		m.i64_store(l7, l8+16)
-		m.i64_store(l5+16, m.i64_load(l6+16))
-		m.i64_store(l7, l8+24)
-		m.i64_store(l5+24, m.i64_load(l6+24))
-		m.i64_store(l7, l8+32)
-		l3 = l3 + 32
-		p2 = p2 - 32
-		if p2 > 7 {
-			goto L4
-		}
-		p1 = p1 + l3
-		l4 = l3 + l4
-	B1:
-		l8 = p0 + l4
-		if p2 > (l8 - p1) {
-			l7 = p2 & 3
-			l3 = 0
-			if p2 >= 4 {
-				l9 = p2 & 18446744073709551612
-			L8:
-				l5 = l3 + l8
-				l6 = p1 + l3
-				m.i32_store8(l5, m.i32_load8_u(l6))
-				m.i32_store8(l5+1, m.i32_load8_u(l6+1))
-				m.i32_store8(l5+2, m.i32_load8_u(l6+2))
-				m.i32_store8(l5+3, m.i32_load8_u(l6+3))
-				l3 = l3 + 4
-				if l9 != l3 {
-					goto L8
-				}
-				if l7 == 0 {
-					goto B5
-				}
-			}
-			p1 = p1 + l3
-			l3 = p0 + (l3 + l4)
-		L9:
 			m.i32_store8(l3, m.i32_load8_u(p1))
 			l3 = l3 + 1
 			p1 = p1 + 1
-			l7 = l7 - 1
-			if l7 != 0 {
-				goto L9
+			l4 = l4 - 1
+			if l4 != 0 {
+				goto L3
 			}
-			goto B5
+			goto B1
 		}
 		if p2 == 0 {
-			goto B5
+			goto B1
 		}
-		m.memory_copy(l8, p1, p2)
-	B5:
-		m.i64_store(p0+4096, p2+l4)
+		m.memory_copy(l3, p1, p2)
+	B1:
+		m.i64_store(p0+4096, p2+l5)
 		goto Bfunc
 	}
 	panic("cvss: unreachable")
 Bfunc:
 }
 
-func (m *memory) f65(p0 uint64, p1 uint64) {
-	var l6 uint32
-	var l2, l3, l4, l5 uint64
-	_, _, _, _, _ = l6, l2, l3, l4, l5
+func (m *memory) f65(p0 uint64, p1 uint32, p2 uint64, p3 uint64) {
+	var l4 uint64
+	_ = l4
 	l4 = m.stackPointer
 	if int64(l4) >= 16 {
-		l3 = m.i64_load(p0 + 16)
-		l2 = m.i64_load(p0 + 8)
-		switch uint32(m.i64_load8_u(p0)) - 1 {
-		case 0:
-			goto B5
-		case 1:
-			goto B4
-		case 2:
-			goto B3
-		case 3:
-			goto B2
-		case 4:
-			goto B1
-		default:
-			goto B6
+		if p1 != 0 {
+			m.f64(p0, 4611686018427398486, 1)
 		}
-	B6:
-		if int64(l2) < 0 {
-			l3 = p1 + 4096
-			p0 = m.i64_load(l3)
-			m.i32_store8(p1+p0, 45)
-			m.i64_store(l3, p0+1)
-		}
-		l3 = uint64(int64(l2) >> 63)
-		l2 = (l2 ^ l3) - l3
-		l3 = l2 / 10000000
-		m.f66(p1, l3)
-		p0 = p1 + 4096
-		l5 = m.i64_load(p0)
-		m.i32_store8(p1+l5, 46)
-		m.i64_store(p0, l5+1)
-		m.f74(p1, l2-(l3*10000000))
-		m.stackPointer = l4
-		goto Bfunc
-	B5:
-		l6 = m.i32_load8_u(p0 + 1)
-		m.f66(p1, uint64(l6/10))
-		l2 = p1 + 4096
-		l3 = m.i64_load(l2)
-		m.i32_store8(p1+l3, 46)
-		m.i64_store(l2, l3+1)
-		m.f74(p1, uint64((l6*1000000)%10000000))
-		m.stackPointer = l4
-		goto Bfunc
-	B4:
-		m.f66(p1, l2)
-		m.stackPointer = l4
-		goto Bfunc
-	B3:
-		l5 = p1 + 4096
-		p0 = m.i64_load(l5)
-		m.i32_store8(p1+p0, 34)
-		p0 = p0 + 1
-		m.i64_store(l5, p0)
-		if b32(l3 == 0) == 0 {
-		L9:
-			m.f66(p1, m.i64_load8_u(l2))
-			l2 = l2 + 1
-			l3 = l3 - 1
-			if l3 != 0 {
-				goto L9
-			}
-			p0 = m.i64_load(p1 + 4096)
-		}
-		m.i32_store8(p0+p1, 34)
-		m.i64_store(l5, p0+1)
-		m.stackPointer = l4
-		goto Bfunc
-	B2:
-		p0 = p1 + 4096
-		l5 = m.i64_load(p0)
-		m.i32_store8(p1+l5, 34)
-		m.i64_store(p0, l5+1)
-		m.f64(p1, l2, l3)
-		l2 = m.i64_load(p0)
-		m.i32_store8(p1+l2, 34)
-		m.i64_store(p0, l2+1)
-		m.stackPointer = l4
-		goto Bfunc
-	B1:
-		l2 = m.i64_load(p1 + 4096)
-		l3 = p1 + l2
-		if (l3 - 4611686018427398560) <= 3 {
-			m.i32_store(l3, 1819047278)
-			goto B10
-		}
-		m.i32_store(l3, 1819047278)
-	B10:
-		m.i64_store(p1+4096, l2+4)
+		m.f64(p0, 4611686018427398487, 1)
+		m.f72(p0, p2, p3)
+		m.f64(p0, 4611686018427398488, 2)
 		m.stackPointer = l4
 		goto Bfunc
 	}
@@ -15594,24 +15296,56 @@ Bfunc:
 }
 
 func (m *memory) f66(p0 uint64, p1 uint64) {
-	var l2, l3, l4, l5 uint64
-	_, _, _, _ = l2, l3, l4, l5
+	var l2, l3, l4 uint64
+	_, _, _ = l2, l3, l4
 	l4 = m.stackPointer
 	if int64(l4) >= 16 {
-		if p1 <= 9 {
-			l2 = p0 + 4096
-			l3 = m.i64_load(l2)
-			m.i32_store8(p0+l3, uint32(p1)|48)
-			m.i64_store(l2, l3+1)
-			m.stackPointer = l4
-			goto Bfunc
+		l3 = m.i64_load(p0 + 16)
+		l2 = m.i64_load(p0 + 8)
+		switch uint32(m.i64_load8_u(p0)) - 1 {
+		case 0:
+			goto B6
+		case 1:
+			goto B5
+		case 2:
+			goto B4
+		case 3:
+			goto B3
+		case 4:
+			goto B2
+		default:
+			goto B7
 		}
-		l2 = p1 / 10
-		m.f66(p0, l2)
-		l3 = p0 + 4096
-		l5 = m.i64_load(l3)
-		m.i32_store8(p0+l5, uint32(p1-(l2*10))|48)
-		m.i64_store(l3, l5+1)
+	B7:
+		m.f77(p1, l2)
+		goto B1
+	B6:
+		m.f77(p1, m.i64_load8_u(p0+1)*1000000)
+		goto B1
+	B5:
+		m.f67(p1, l2)
+		goto B1
+	B4:
+		m.f64(p1, 4611686018427398487, 1)
+		if b32(l3 == 0) == 0 {
+		L9:
+			m.f67(p1, m.i64_load8_u(l2))
+			l2 = l2 + 1
+			l3 = l3 - 1
+			if l3 != 0 {
+				goto L9
+			}
+		}
+		m.f64(p1, 4611686018427398487, 1)
+		goto B1
+	B3:
+		m.f64(p1, 4611686018427398487, 1)
+		m.f72(p1, l2, l3)
+		m.f64(p1, 4611686018427398487, 1)
+		goto B1
+	B2:
+		m.f64(p1, 4611686018427398564, 4)
+	B1:
 		m.stackPointer = l4
 		goto Bfunc
 	}
@@ -15620,8 +15354,30 @@ Bfunc:
 }
 
 func (m *memory) f67(p0 uint64, p1 uint64) {
-	var l2, l3, l4, l5 uint64
-	_, _, _, _ = l2, l3, l4, l5
+	var l2, l3 uint64
+	_, _ = l2, l3
+	l2 = m.stackPointer - 16
+	m.stackPointer = l2
+	if int64(l2) >= 16 {
+		if p1 <= 9 {
+			m.i32_store8(l2+15, uint32(p1)|48)
+			m.f64(p0, l2+15, 1)
+			goto B0
+		}
+		l3 = p1 / 10
+		m.f67(p0, l3)
+		m.i32_store8(l2+14, uint32(p1-(l3*10))|48)
+		m.f64(p0, l2+14, 1)
+		goto B0
+	}
+	panic("cvss: unreachable")
+B0:
+	m.stackPointer = l2 + 16
+}
+
+func (m *memory) f68(p0 uint64, p1 uint64) {
+	var l2, l3 uint64
+	_, _ = l2, l3
 	l2 = m.stackPointer - 448
 	m.stackPointer = l2
 	if int64(l2) >= 16 {
@@ -15637,48 +15393,26 @@ func (m *memory) f67(p0 uint64, p1 uint64) {
 		}
 	B4:
 		m.memory_fill(l2+16, 0, 216)
-		m.f70(l2, p1+1, l2+16)
-		m.f64(p0, m.i64_load(l2), m.i64_load(l2+8))
+		m.f73(l2, p1+1, l2+16)
+		m.f72(p0, m.i64_load(l2), m.i64_load(l2+8))
 		goto B1
 	B3:
-		l3 = p1 + 8
-		l4 = m.i64_load(l3)
-		l5 = m.i64_load(p0 + 4096)
-		p1 = p0 + l5
-		if (p1 - 4611686018427398540) <= 6 {
-			m.i32_store8(p1+6, 46)
-			m.i32_store16(p1+4, 13370)
-			m.i32_store(p1, 1397970499)
-			goto B5
-		}
-		m.i32_store(p1+3, m.i32_load(4611686018427398543))
-		m.i32_store(p1, m.i32_load(4611686018427398540))
-	B5:
-		m.i64_store(p0+4096, l5+7)
-		m.f66(p0, l4)
+		p1 = p1 + 8
+		l3 = m.i64_load(p1)
+		m.f64(p0, 4611686018427398544, 7)
+		m.f67(p0, l3)
 		m.memory_fill(l2+232, 0, 216)
-		m.f71(l3, l2+232)
-		m.f64(p0, l2+232, m.i64_load(l2+440))
+		m.f74(p1, l2+232)
+		m.f72(p0, l2+232, m.i64_load(l2+440))
 		goto B1
 	B2:
-		l3 = p1 + 8
-		l4 = m.i64_load(l3)
-		l5 = m.i64_load(p0 + 4096)
-		p1 = p0 + l5
-		if (p1 - 4611686018427398547) <= 6 {
-			m.i32_store8(p1+6, 46)
-			m.i32_store16(p1+4, 13114)
-			m.i32_store(p1, 1397970499)
-			goto B7
-		}
-		m.i32_store(p1+3, m.i32_load(4611686018427398550))
-		m.i32_store(p1, m.i32_load(4611686018427398547))
-	B7:
-		m.i64_store(p0+4096, l5+7)
-		m.f66(p0, l4)
+		p1 = p1 + 8
+		l3 = m.i64_load(p1)
+		m.f64(p0, 4611686018427398551, 7)
+		m.f67(p0, l3)
 		m.memory_fill(l2+232, 0, 216)
-		m.f72(l3, l2+232)
-		m.f64(p0, l2+232, m.i64_load(l2+440))
+		m.f75(p1, l2+232)
+		m.f72(p0, l2+232, m.i64_load(l2+440))
 	B1:
 		m.stackPointer = l2 + 448
 		goto Bfunc
@@ -15687,98 +15421,32 @@ func (m *memory) f67(p0 uint64, p1 uint64) {
 Bfunc:
 }
 
-func (m *memory) f68(p0 uint64, p1 uint64, p2 uint64) {
-	var l14, l15 uint32
-	var l3, l4, l5, l6, l7, l8, l9, l10, l11, l12, l13 uint64
-	_, _, _, _, _, _, _, _, _, _, _, _, _ = l14, l15, l3, l4, l5, l6, l7, l8, l9, l10, l11, l12, l13
-	l3 = m.stackPointer - 48
-	m.stackPointer = l3
-	if int64(l3) >= 16 {
-		l8 = p0 + 4096
-		l6 = m.i64_load(l8)
-		m.i32_store8(p0+l6, 123)
-		l4 = l6 + 1
-		m.i64_store(l8, l4)
-		if b32(p2 == 0) == 0 {
-			l14 = m.i32_load8_u(p1 + 17)
-			l15 = m.i32_load8_u(p1 + 16)
-			l7 = m.i64_load(p1 + 8)
-			l5 = m.i64_load(p1)
-			l9 = m.i64_load(p1 + 32)
-			l10 = m.i64_load(p1 + 24)
-			m.i32_store8(p0+l4, 34)
-			m.i64_store(l8, l6+2)
-			m.i64_store(l3, 0)
-			m.i64_store(l3+32, l10)
-			m.i64_store(l3+40, l9)
-			m.f64(p0, l5, l7)
-			l6 = l3 + 8
-			l4 = l3 + 32
-			l7 = m.i64_load(l8)
-			l5 = p0 + l7
-			if (l5 - 4611686018427398484) >= 2 {
-				m.i32_store16(l5, 14882)
-				goto B2
-			}
-			m.i32_store16(l5, 14882)
-		B2:
-			l11 = p0 + 4096
-			m.i64_store(l11, l7+2)
-			m.i64_store(l6, m.i64_load(l4))
-			m.i64_store(l6+8, m.i64_load(l4+8))
-			m.i32_store8(l3+1, l14)
-			m.i32_store8(l3, l15)
-			m.f65(l3, p0)
-			if p2 != 1 {
-				p1 = p1 - 18446744073709551552
-				l7 = p2 - 1
-			L5:
-				l14 = m.i32_load8_u(p1 - 7)
-				l15 = m.i32_load8_u(p1 - 8)
-				l5 = m.i64_load(p1 - 16)
-				l9 = m.i64_load(p1 - 24)
-				l10 = m.i64_load(p1)
-				l12 = m.i64_load(p1 + 8)
-				p2 = p0 + 4096
-				l13 = m.i64_load(p2)
-				m.i32_store16(p0+l13, 8748)
-				m.i64_store(l4+8, l12)
-				m.i64_store(l4, l10)
-				m.i64_store(p2, l13+2)
-				m.i64_store(l3, 0)
-				m.f64(p0, l9, l5)
-				p2 = m.i64_load(p2)
-				l5 = p0 + p2
-				if (l5 - 4611686018427398484) <= 1 {
-					m.i32_store16(l5, 14882)
-					goto B6
-				}
-				m.i32_store16(l5, 14882)
-			B6:
-				m.i64_store(p0+4096, p2+2)
-				m.i64_store(l6, m.i64_load(l4))
-				m.i64_store(l6+8, m.i64_load(l4+8))
-				m.i32_store8(l3+1, l14)
-				m.i32_store8(l3, l15)
-				m.f65(l3, p0)
-				p1 = p1 + 40
-				l7 = l7 - 1
-				if l7 != 0 {
-					goto L5
-				}
-			}
-			l4 = m.i64_load(l11)
-		}
-		m.i32_store8(p0+l4, 125)
-		m.i64_store(l8, l4+1)
-		m.stackPointer = l3 + 48
+func (m *memory) f69(p0 uint64, p1 uint32, p2 uint64, p3 uint64, p4 uint64) {
+	var l6, l7 uint32
+	var l5 uint64
+	_, _, _ = l6, l7, l5
+	l5 = m.stackPointer - 48
+	m.stackPointer = l5
+	m.i64_store(l5+32, m.i64_load(p4+8))
+	m.i64_store(l5+40, m.i64_load(p4+16))
+	if int64(l5) >= 16 {
+		l6 = m.i32_load8_u(p4 + 1)
+		l7 = m.i32_load8_u(p4)
+		m.i64_store(l5+8, 0)
+		m.f65(p0, p1, p2, p3)
+		m.i32_store8(l5+9, l6)
+		m.i32_store8(l5+8, l7)
+		m.i64_store(l5+16, m.i64_load(l5+32))
+		m.i64_store(l5+24, m.i64_load(l5+40))
+		m.f66(l5+8, p0)
+		m.stackPointer = l5 + 48
 		goto Bfunc
 	}
 	panic("cvss: unreachable")
 Bfunc:
 }
 
-func (m *memory) f69(p0 uint64, p1 uint64, p2 uint64, p3 uint64, p4 uint64, p5 uint32, p6 uint64) {
+func (m *memory) f70(p0 uint64, p1 uint64, p2 uint64, p3 uint64, p4 uint64, p5 uint32, p6 uint64) {
 	var l9, l10 uint32
 	var l7, l8 uint64
 	_, _, _, _ = l9, l10, l7, l8
@@ -15803,7 +15471,7 @@ func (m *memory) f69(p0 uint64, p1 uint64, p2 uint64, p3 uint64, p4 uint64, p5 u
 			m.i64_store(l7+184, 0)
 			m.i32_store8(l7+176, 5)
 			m.i64_store(l7+192, 0)
-			m.f75(p0, p1, p2, p3, p4, p6, l7+104)
+			m.f79(p0, p1, p2, p3, p4, p6, l7+104)
 			goto B1
 		}
 		m.i64_store(l7+234, 0)
@@ -15834,7 +15502,7 @@ func (m *memory) f69(p0 uint64, p1 uint64, p2 uint64, p3 uint64, p4 uint64, p5 u
 		m.i64_store(l7+96, 0)
 		m.i64_store(l7+88, ((l8*20000000)+8400)/16800)
 		m.i64_store(l7+80, 0)
-		m.f75(p0, p1, p2, p3, p4, p6, l7+8)
+		m.f79(p0, p1, p2, p3, p4, p6, l7+8)
 	B1:
 		m.stackPointer = l7 + 256
 		goto Bfunc
@@ -15843,7 +15511,67 @@ func (m *memory) f69(p0 uint64, p1 uint64, p2 uint64, p3 uint64, p4 uint64, p5 u
 Bfunc:
 }
 
-func (m *memory) f70(p0 uint64, p1 uint64, p2 uint64) {
+func (m *memory) f71(p0 uint64, p1 uint64, p2 uint64) {
+	var l7, l8 uint32
+	var l3, l4, l5, l6 uint64
+	_, _, _, _, _, _ = l7, l8, l3, l4, l5, l6
+	l3 = m.stackPointer - 32
+	m.stackPointer = l3
+	if int64(l3) >= 16 {
+		m.f64(p0, 4611686018427398484, 1)
+		if b32(p2 == 0) == 0 {
+			l4 = l3 + 16
+		L2:
+			l5 = m.i64_load(p1 + 8)
+			l8 = m.i32_load16_u(p1 + 16)
+			l6 = m.i64_load(p1)
+			m.i64_store(l4, m.i64_load(p1+24))
+			m.i64_store(l4+8, m.i64_load(p1+32))
+			m.i64_store(l3+8, 0)
+			m.i32_store16(l3+8, l8)
+			m.f69(p0, l7, l6, l5, l3+8)
+			p1 = p1 + 40
+			l7 = 1
+			p2 = p2 - 1
+			if p2 != 0 {
+				goto L2
+			}
+		}
+		m.f64(p0, 4611686018427398485, 1)
+		m.stackPointer = l3 + 32
+		goto Bfunc
+	}
+	panic("cvss: unreachable")
+Bfunc:
+}
+
+func (m *memory) f72(p0 uint64, p1 uint64, p2 uint64) {
+	var l3, l4, l5 uint64
+	_, _, _ = l3, l4, l5
+	l4 = m.stackPointer
+	if int64(l4) >= 16 {
+		if p2 >= 8 {
+			l5 = p0 + 4096
+			l3 = m.i64_load(l5)
+		L2:
+			m.i64_store(p0+l3, m.i64_load(p1))
+			l3 = l3 + 8
+			m.i64_store(l5, l3)
+			p1 = p1 + 8
+			p2 = p2 - 8
+			if p2 > 7 {
+				goto L2
+			}
+		}
+		m.f64(p0, p1, p2)
+		m.stackPointer = l4
+		goto Bfunc
+	}
+	panic("cvss: unreachable")
+Bfunc:
+}
+
+func (m *memory) f73(p0 uint64, p1 uint64, p2 uint64) {
 	var l3, l4, l5, l6 uint64
 	_, _, _, _ = l3, l4, l5, l6
 	l6 = m.stackPointer
@@ -15852,7 +15580,7 @@ func (m *memory) f70(p0 uint64, p1 uint64, p2 uint64) {
 			l3 = p2 + 208
 			l4 = m.i64_load(l3)
 			l5 = p2 + l4
-			m.i32_store8(l5+4, m.i32_load8_u(m.i64_load((m.i64_load8_u(p1+1)<<3)+4611686018427411656)))
+			m.i32_store8(l5+4, m.i32_load8_u(m.i64_load((m.i64_load8_u(p1+1)<<3)+4611686018427411664)))
 			m.i32_store(l5, 978731311)
 			m.i64_store(l3, l4+5)
 		}
@@ -15860,7 +15588,7 @@ func (m *memory) f70(p0 uint64, p1 uint64, p2 uint64) {
 			l3 = p2 + 208
 			l4 = m.i64_load(l3)
 			l5 = p2 + l4
-			m.i32_store8(l5+4, m.i32_load8_u(m.i64_load((m.i64_load8_u(p1+3)<<3)+4611686018427411680)))
+			m.i32_store8(l5+4, m.i32_load8_u(m.i64_load((m.i64_load8_u(p1+3)<<3)+4611686018427411688)))
 			m.i32_store(l5, 977486127)
 			m.i64_store(l3, l4+5)
 		}
@@ -15868,59 +15596,59 @@ func (m *memory) f70(p0 uint64, p1 uint64, p2 uint64) {
 			l3 = p2 + 208
 			l4 = m.i64_load(l3)
 			l5 = p2 + l4
-			m.i32_store8(l5+4, m.i32_load8_u(m.i64_load((m.i64_load8_u(p1+5)<<3)+4611686018427411704)))
+			m.i32_store8(l5+4, m.i32_load8_u(m.i64_load((m.i64_load8_u(p1+5)<<3)+4611686018427411712)))
 			m.i32_store(l5, 980762927)
 			m.i64_store(l3, l4+5)
 		}
 		if m.i32_load8_u(p1+6) == 1 {
 			l3 = p2 + 208
 			l4 = m.i64_load(l3)
-			m.i32_store(p2+l4, (m.i32_load8_u(m.i64_load((m.i64_load8_u(p1+7)<<3)+4611686018427411728))<<24)|3818287)
+			m.i32_store(p2+l4, (m.i32_load8_u(m.i64_load((m.i64_load8_u(p1+7)<<3)+4611686018427411736))<<24)|3818287)
 			m.i64_store(l3, l4+4)
 		}
 		if m.i32_load8_u(p1+8) == 1 {
 			l3 = p2 + 208
 			l4 = m.i64_load(l3)
-			m.i32_store(p2+l4, (m.i32_load8_u(m.i64_load((m.i64_load8_u(p1+9)<<3)+4611686018427411728))<<24)|3819823)
+			m.i32_store(p2+l4, (m.i32_load8_u(m.i64_load((m.i64_load8_u(p1+9)<<3)+4611686018427411736))<<24)|3819823)
 			m.i64_store(l3, l4+4)
 		}
 		if m.i32_load8_u(p1+10) == 1 {
 			l3 = p2 + 208
 			l4 = m.i64_load(l3)
-			m.i32_store(p2+l4, (m.i32_load8_u(m.i64_load((m.i64_load8_u(p1+11)<<3)+4611686018427411728))<<24)|3817775)
+			m.i32_store(p2+l4, (m.i32_load8_u(m.i64_load((m.i64_load8_u(p1+11)<<3)+4611686018427411736))<<24)|3817775)
 			m.i64_store(l3, l4+4)
 		}
 		if m.i32_load8_u(p1+12) == 1 {
 			l3 = m.i64_load8_u(p1+13) << 3
-			m.f73(p2, 4611686018427389034, 1, m.i64_load(l3+4611686018427411752), m.i64_load(l3+4611686018427411792))
+			m.f76(p2, 4611686018427389034, 1, m.i64_load(l3+4611686018427411760), m.i64_load(l3+4611686018427411800))
 		}
 		if m.i32_load8_u(p1+14) == 1 {
 			l3 = m.i64_load8_u(p1+15) << 3
-			m.f73(p2, 4611686018427389081, 2, m.i64_load(l3+4611686018427411832), m.i64_load(l3+4611686018427411872))
+			m.f76(p2, 4611686018427389081, 2, m.i64_load(l3+4611686018427411840), m.i64_load(l3+4611686018427411880))
 		}
 		if m.i32_load8_u(p1+16) == 1 {
 			l3 = m.i64_load8_u(p1+17) << 3
-			m.f73(p2, 4611686018427389136, 2, m.i64_load(l3+4611686018427411912), m.i64_load(l3+4611686018427411944))
+			m.f76(p2, 4611686018427389136, 2, m.i64_load(l3+4611686018427411920), m.i64_load(l3+4611686018427411952))
 		}
 		if m.i32_load8_u(p1+18) == 1 {
 			l3 = m.i64_load8_u(p1+19) << 3
-			m.f73(p2, 4611686018427389191, 3, m.i64_load(l3+4611686018427411976), m.i64_load(l3+4611686018427412024))
+			m.f76(p2, 4611686018427389191, 3, m.i64_load(l3+4611686018427411984), m.i64_load(l3+4611686018427412032))
 		}
 		if m.i32_load8_u(p1+20) == 1 {
 			l3 = m.i64_load8_u(p1+21) << 3
-			m.f73(p2, 4611686018427389268, 2, m.i64_load(l3+4611686018427412072), m.i64_load(l3+4611686018427412112))
+			m.f76(p2, 4611686018427389268, 2, m.i64_load(l3+4611686018427412080), m.i64_load(l3+4611686018427412120))
 		}
 		if m.i32_load8_u(p1+22) == 1 {
 			l3 = m.i64_load8_u(p1+23) << 3
-			m.f73(p2, 4611686018427389327, 2, m.i64_load(l3+4611686018427412152), m.i64_load(l3+4611686018427412184))
+			m.f76(p2, 4611686018427389327, 2, m.i64_load(l3+4611686018427412160), m.i64_load(l3+4611686018427412192))
 		}
 		if m.i32_load8_u(p1+24) == 1 {
 			l3 = m.i64_load8_u(p1+25) << 3
-			m.f73(p2, 4611686018427389402, 2, m.i64_load(l3+4611686018427412152), m.i64_load(l3+4611686018427412184))
+			m.f76(p2, 4611686018427389402, 2, m.i64_load(l3+4611686018427412160), m.i64_load(l3+4611686018427412192))
 		}
 		if m.i32_load8_u(p1+26) == 1 {
 			p1 = m.i64_load8_u(p1+27) << 3
-			m.f73(p2, 4611686018427389465, 2, m.i64_load(p1+4611686018427412152), m.i64_load(p1+4611686018427412184))
+			m.f76(p2, 4611686018427389465, 2, m.i64_load(p1+4611686018427412160), m.i64_load(p1+4611686018427412192))
 		}
 		p1 = m.i64_load(p2 + 208)
 		m.i64_store(p0, select64(b32(p1 == 0), 4611686018427397840, p2+1))
@@ -15932,7 +15660,7 @@ func (m *memory) f70(p0 uint64, p1 uint64, p2 uint64) {
 Bfunc:
 }
 
-func (m *memory) f71(p0 uint64, p1 uint64) {
+func (m *memory) f74(p0 uint64, p1 uint64) {
 	var l2, l3, l4, l5 uint64
 	_, _, _, _ = l2, l3, l4, l5
 	l5 = m.stackPointer
@@ -15941,7 +15669,7 @@ func (m *memory) f71(p0 uint64, p1 uint64) {
 			l2 = p1 + 208
 			l3 = m.i64_load(l2)
 			l4 = p1 + l3
-			m.i32_store8(l4+4, m.i32_load8_u(m.i64_load((m.i64_load8_u(p0+9)<<3)+4611686018427411536)))
+			m.i32_store8(l4+4, m.i32_load8_u(m.i64_load((m.i64_load8_u(p0+9)<<3)+4611686018427411544)))
 			m.i32_store(l4, 978731311)
 			m.i64_store(l2, l3+5)
 		}
@@ -15965,7 +15693,7 @@ func (m *memory) f71(p0 uint64, p1 uint64) {
 			l2 = p1 + 208
 			l3 = m.i64_load(l2)
 			l4 = p1 + l3
-			m.i32_store8(l4+4, m.i32_load8_u(m.i64_load((m.i64_load8_u(p0+15)<<3)+4611686018427411568)))
+			m.i32_store8(l4+4, m.i32_load8_u(m.i64_load((m.i64_load8_u(p0+15)<<3)+4611686018427411576)))
 			m.i32_store(l4, 978473007)
 			m.i64_store(l2, l3+5)
 		}
@@ -15973,7 +15701,7 @@ func (m *memory) f71(p0 uint64, p1 uint64) {
 			l2 = p1 + 208
 			l3 = m.i64_load(l2)
 			l4 = p1 + l3
-			m.i32_store8(l4+4, m.i32_load8_u(m.i64_load((m.i64_load8_u(p0+17)<<3)+4611686018427411000)))
+			m.i32_store8(l4+4, m.i32_load8_u(m.i64_load((m.i64_load8_u(p0+17)<<3)+4611686018427411008)))
 			m.i32_store(l4, 977884463)
 			m.i64_store(l2, l3+5)
 		}
@@ -15981,7 +15709,7 @@ func (m *memory) f71(p0 uint64, p1 uint64) {
 			l2 = p1 + 208
 			l3 = m.i64_load(l2)
 			l4 = p1 + l3
-			m.i32_store8(l4+4, m.i32_load8_u(m.i64_load((m.i64_load8_u(p0+19)<<3)+4611686018427411592)))
+			m.i32_store8(l4+4, m.i32_load8_u(m.i64_load((m.i64_load8_u(p0+19)<<3)+4611686018427411600)))
 			m.i32_store(l4, 977491503)
 			m.i64_store(l2, l3+5)
 		}
@@ -15989,7 +15717,7 @@ func (m *memory) f71(p0 uint64, p1 uint64) {
 			l2 = p1 + 208
 			l3 = m.i64_load(l2)
 			l4 = p1 + l3
-			m.i32_store8(l4+4, m.i32_load8_u(m.i64_load((m.i64_load8_u(p0+21)<<3)+4611686018427411592)))
+			m.i32_store8(l4+4, m.i32_load8_u(m.i64_load((m.i64_load8_u(p0+21)<<3)+4611686018427411600)))
 			m.i32_store(l4, 977884719)
 			m.i64_store(l2, l3+5)
 		}
@@ -15997,7 +15725,7 @@ func (m *memory) f71(p0 uint64, p1 uint64) {
 			l2 = p1 + 208
 			l3 = m.i64_load(l2)
 			l4 = p1 + l3
-			m.i32_store8(l4+4, m.i32_load8_u(m.i64_load((m.i64_load8_u(p0+23)<<3)+4611686018427411592)))
+			m.i32_store8(l4+4, m.i32_load8_u(m.i64_load((m.i64_load8_u(p0+23)<<3)+4611686018427411600)))
 			m.i32_store(l4, 977360431)
 			m.i64_store(l2, l3+5)
 		}
@@ -16005,7 +15733,7 @@ func (m *memory) f71(p0 uint64, p1 uint64) {
 			l2 = p1 + 208
 			l3 = m.i64_load(l2)
 			l4 = p1 + l3
-			m.i32_store8(l4+4, m.i32_load8_u(m.i64_load((m.i64_load8_u(p0+25)<<3)+4611686018427411592)))
+			m.i32_store8(l4+4, m.i32_load8_u(m.i64_load((m.i64_load8_u(p0+25)<<3)+4611686018427411600)))
 			m.i32_store(l4, 977490735)
 			m.i64_store(l2, l3+5)
 		}
@@ -16013,7 +15741,7 @@ func (m *memory) f71(p0 uint64, p1 uint64) {
 			l2 = p1 + 208
 			l3 = m.i64_load(l2)
 			l4 = p1 + l3
-			m.i32_store8(l4+4, m.i32_load8_u(m.i64_load((m.i64_load8_u(p0+27)<<3)+4611686018427411592)))
+			m.i32_store8(l4+4, m.i32_load8_u(m.i64_load((m.i64_load8_u(p0+27)<<3)+4611686018427411600)))
 			m.i32_store(l4, 977883951)
 			m.i64_store(l2, l3+5)
 		}
@@ -16021,21 +15749,21 @@ func (m *memory) f71(p0 uint64, p1 uint64) {
 			l2 = p1 + 208
 			l3 = m.i64_load(l2)
 			l4 = p1 + l3
-			m.i32_store8(l4+4, m.i32_load8_u(m.i64_load((m.i64_load8_u(p0+29)<<3)+4611686018427411592)))
+			m.i32_store8(l4+4, m.i32_load8_u(m.i64_load((m.i64_load8_u(p0+29)<<3)+4611686018427411600)))
 			m.i32_store(l4, 977359663)
 			m.i64_store(l2, l3+5)
 		}
 		if m.i32_load8_u(p0+30) == 1 {
 			l2 = p1 + 208
 			l3 = m.i64_load(l2)
-			m.i32_store(p1+l3, (m.i32_load8_u(m.i64_load((m.i64_load8_u(p0+31)<<3)+4611686018427411024))<<24)|3818799)
+			m.i32_store(p1+l3, (m.i32_load8_u(m.i64_load((m.i64_load8_u(p0+31)<<3)+4611686018427411032))<<24)|3818799)
 			m.i64_store(l2, l3+4)
 		}
 		if m.i32_load8_u(p0+32) == 1 {
 			l2 = p1 + 208
 			l3 = m.i64_load(l2)
 			l4 = p1 + l3
-			m.i32_store8(l4+4, m.i32_load8_u(m.i64_load((m.i64_load8_u(p0+33)<<3)+4611686018427411360)))
+			m.i32_store8(l4+4, m.i32_load8_u(m.i64_load((m.i64_load8_u(p0+33)<<3)+4611686018427411368)))
 			m.i32_store(l4, 978469679)
 			m.i64_store(l2, l3+5)
 		}
@@ -16043,7 +15771,7 @@ func (m *memory) f71(p0 uint64, p1 uint64) {
 			l2 = p1 + 208
 			l3 = m.i64_load(l2)
 			l4 = p1 + l3
-			m.i32_store8(l4+4, m.i32_load8_u(m.i64_load((m.i64_load8_u(p0+35)<<3)+4611686018427411360)))
+			m.i32_store8(l4+4, m.i32_load8_u(m.i64_load((m.i64_load8_u(p0+35)<<3)+4611686018427411368)))
 			m.i32_store(l4, 978471215)
 			m.i64_store(l2, l3+5)
 		}
@@ -16051,7 +15779,7 @@ func (m *memory) f71(p0 uint64, p1 uint64) {
 			l2 = p1 + 208
 			l3 = m.i64_load(l2)
 			l4 = p1 + l3
-			m.i32_store8(l4+4, m.i32_load8_u(m.i64_load((m.i64_load8_u(p0+37)<<3)+4611686018427411360)))
+			m.i32_store8(l4+4, m.i32_load8_u(m.i64_load((m.i64_load8_u(p0+37)<<3)+4611686018427411368)))
 			m.i32_store(l4, 978469167)
 			m.i64_store(l2, l3+5)
 		}
@@ -16059,7 +15787,7 @@ func (m *memory) f71(p0 uint64, p1 uint64) {
 			l3 = p1 + 208
 			l4 = m.i64_load(l3)
 			l2 = p1 + l4
-			m.i32_store8(l2+5, m.i32_load8_u(m.i64_load((m.i64_load8_u(p0+39)<<3)+4611686018427411056)))
+			m.i32_store8(l2+5, m.i32_load8_u(m.i64_load((m.i64_load8_u(p0+39)<<3)+4611686018427411064)))
 			m.i32_store8(l2+4, 58)
 			m.i32_store(l2, 1447120175)
 			m.i64_store(l3, l4+6)
@@ -16068,7 +15796,7 @@ func (m *memory) f71(p0 uint64, p1 uint64) {
 			l3 = p1 + 208
 			l4 = m.i64_load(l3)
 			l2 = p1 + l4
-			m.i32_store8(l2+5, m.i32_load8_u(m.i64_load((m.i64_load8_u(p0+41)<<3)+4611686018427411096)))
+			m.i32_store8(l2+5, m.i32_load8_u(m.i64_load((m.i64_load8_u(p0+41)<<3)+4611686018427411104)))
 			m.i32_store8(l2+4, 58)
 			m.i32_store(l2, 1128353071)
 			m.i64_store(l3, l4+6)
@@ -16077,7 +15805,7 @@ func (m *memory) f71(p0 uint64, p1 uint64) {
 			l3 = p1 + 208
 			l4 = m.i64_load(l3)
 			l2 = p1 + l4
-			m.i32_store8(l2+5, m.i32_load8_u(m.i64_load((m.i64_load8_u(p0+43)<<3)+4611686018427411256)))
+			m.i32_store8(l2+5, m.i32_load8_u(m.i64_load((m.i64_load8_u(p0+43)<<3)+4611686018427411264)))
 			m.i32_store8(l2+4, 58)
 			m.i32_store(l2, 1413565743)
 			m.i64_store(l3, l4+6)
@@ -16086,7 +15814,7 @@ func (m *memory) f71(p0 uint64, p1 uint64) {
 			l3 = p1 + 208
 			l4 = m.i64_load(l3)
 			l2 = p1 + l4
-			m.i32_store8(l2+5, m.i32_load8_u(m.i64_load((m.i64_load8_u(p0+45)<<3)+4611686018427411120)))
+			m.i32_store8(l2+5, m.i32_load8_u(m.i64_load((m.i64_load8_u(p0+45)<<3)+4611686018427411128)))
 			m.i32_store8(l2+4, 58)
 			m.i32_store(l2, 1380994351)
 			m.i64_store(l3, l4+6)
@@ -16095,7 +15823,7 @@ func (m *memory) f71(p0 uint64, p1 uint64) {
 			l3 = p1 + 208
 			l4 = m.i64_load(l3)
 			l2 = p1 + l4
-			m.i32_store8(l2+5, m.i32_load8_u(m.i64_load((m.i64_load8_u(p0+47)<<3)+4611686018427411152)))
+			m.i32_store8(l2+5, m.i32_load8_u(m.i64_load((m.i64_load8_u(p0+47)<<3)+4611686018427411160)))
 			m.i32_store8(l2+4, 58)
 			m.i32_store(l2, 1230327087)
 			m.i64_store(l3, l4+6)
@@ -16104,7 +15832,7 @@ func (m *memory) f71(p0 uint64, p1 uint64) {
 			l3 = p1 + 208
 			l4 = m.i64_load(l3)
 			l2 = p1 + l4
-			m.i32_store8(l2+5, m.i32_load8_u(m.i64_load((m.i64_load8_u(p0+49)<<3)+4611686018427411184)))
+			m.i32_store8(l2+5, m.i32_load8_u(m.i64_load((m.i64_load8_u(p0+49)<<3)+4611686018427411192)))
 			m.i32_store8(l2+4, 58)
 			m.i32_store(l2, 1129729327)
 			m.i64_store(l3, l4+6)
@@ -16113,7 +15841,7 @@ func (m *memory) f71(p0 uint64, p1 uint64) {
 			l3 = p1 + 208
 			l4 = m.i64_load(l3)
 			l2 = p1 + l4
-			m.i32_store8(l2+5, m.i32_load8_u(m.i64_load((m.i64_load8_u(p0+51)<<3)+4611686018427411184)))
+			m.i32_store8(l2+5, m.i32_load8_u(m.i64_load((m.i64_load8_u(p0+51)<<3)+4611686018427411192)))
 			m.i32_store8(l2+4, 58)
 			m.i32_store(l2, 1230392623)
 			m.i64_store(l3, l4+6)
@@ -16122,7 +15850,7 @@ func (m *memory) f71(p0 uint64, p1 uint64) {
 			l3 = p1 + 208
 			l4 = m.i64_load(l3)
 			l2 = p1 + l4
-			m.i32_store8(l2+5, m.i32_load8_u(m.i64_load((m.i64_load8_u(p0+53)<<3)+4611686018427411184)))
+			m.i32_store8(l2+5, m.i32_load8_u(m.i64_load((m.i64_load8_u(p0+53)<<3)+4611686018427411192)))
 			m.i32_store8(l2+4, 58)
 			m.i32_store(l2, 1096174895)
 			m.i64_store(l3, l4+6)
@@ -16131,7 +15859,7 @@ func (m *memory) f71(p0 uint64, p1 uint64) {
 			l3 = p1 + 208
 			l4 = m.i64_load(l3)
 			l2 = p1 + l4
-			m.i32_store8(l2+5, m.i32_load8_u(m.i64_load((m.i64_load8_u(p0+55)<<3)+4611686018427411184)))
+			m.i32_store8(l2+5, m.i32_load8_u(m.i64_load((m.i64_load8_u(p0+55)<<3)+4611686018427411192)))
 			m.i32_store8(l2+4, 58)
 			m.i32_store(l2, 1129532719)
 			m.i64_store(l3, l4+6)
@@ -16140,7 +15868,7 @@ func (m *memory) f71(p0 uint64, p1 uint64) {
 			l3 = p1 + 208
 			l4 = m.i64_load(l3)
 			l2 = p1 + l4
-			m.i32_store8(l2+5, m.i32_load8_u(m.i64_load((m.i64_load8_u(p0+57)<<3)+4611686018427411216)))
+			m.i32_store8(l2+5, m.i32_load8_u(m.i64_load((m.i64_load8_u(p0+57)<<3)+4611686018427411224)))
 			m.i32_store8(l2+4, 58)
 			m.i32_store(l2, 1230196015)
 			m.i64_store(l3, l4+6)
@@ -16149,7 +15877,7 @@ func (m *memory) f71(p0 uint64, p1 uint64) {
 			l3 = p1 + 208
 			l4 = m.i64_load(l3)
 			l2 = p1 + l4
-			m.i32_store8(l2+5, m.i32_load8_u(m.i64_load((m.i64_load8_u(p0+59)<<3)+4611686018427411216)))
+			m.i32_store8(l2+5, m.i32_load8_u(m.i64_load((m.i64_load8_u(p0+59)<<3)+4611686018427411224)))
 			m.i32_store8(l2+4, 58)
 			m.i32_store(l2, 1095978287)
 			m.i64_store(l3, l4+6)
@@ -16157,34 +15885,34 @@ func (m *memory) f71(p0 uint64, p1 uint64) {
 		if m.i32_load8_u(p0+60) == 1 {
 			l2 = p1 + 208
 			l3 = m.i64_load(l2)
-			m.i32_store(p1+l3, (m.i32_load8_u(m.i64_load((m.i64_load8_u(p0+61)<<3)+4611686018427411256))<<24)|3822383)
+			m.i32_store(p1+l3, (m.i32_load8_u(m.i64_load((m.i64_load8_u(p0+61)<<3)+4611686018427411264))<<24)|3822383)
 			m.i64_store(l2, l3+4)
 		}
 		if m.i32_load8_u(p0+62) == 1 {
 			l2 = p1 + 208
 			l3 = m.i64_load(l2)
 			l4 = p1 + l3
-			m.i32_store8(l4+4, m.i32_load8_u(m.i64_load((m.i64_load8_u(p0+63)<<3)+4611686018427411280)))
+			m.i32_store8(l4+4, m.i32_load8_u(m.i64_load((m.i64_load8_u(p0+63)<<3)+4611686018427411288)))
 			m.i32_store(l4, 978665775)
 			m.i64_store(l2, l3+5)
 		}
 		if m.i32_load8_u(p0-18446744073709551552) == 1 {
 			l2 = p1 + 208
 			l3 = m.i64_load(l2)
-			m.i32_store(p1+l3, (m.i32_load8_u(m.i64_load((m.i64_load8_u(p0+65)<<3)+4611686018427411304))<<24)|3822127)
+			m.i32_store(p1+l3, (m.i32_load8_u(m.i64_load((m.i64_load8_u(p0+65)<<3)+4611686018427411312))<<24)|3822127)
 			m.i64_store(l2, l3+4)
 		}
 		if m.i32_load8_u(p0+66) == 1 {
 			l2 = p1 + 208
 			l3 = m.i64_load(l2)
-			m.i32_store(p1+l3, (m.i32_load8_u(m.i64_load((m.i64_load8_u(p0+67)<<3)+4611686018427411336))<<24)|3823151)
+			m.i32_store(p1+l3, (m.i32_load8_u(m.i64_load((m.i64_load8_u(p0+67)<<3)+4611686018427411344))<<24)|3823151)
 			m.i64_store(l2, l3+4)
 		}
 		if m.i32_load8_u(p0+68) == 1 {
 			l2 = p1 + 208
 			l3 = m.i64_load(l2)
 			l4 = p1 + l3
-			m.i32_store8(l4+4, m.i32_load8_u(m.i64_load((m.i64_load8_u(p0+69)<<3)+4611686018427411360)))
+			m.i32_store8(l4+4, m.i32_load8_u(m.i64_load((m.i64_load8_u(p0+69)<<3)+4611686018427411368)))
 			m.i32_store(l4, 977621551)
 			m.i64_store(l2, l3+5)
 		}
@@ -16219,7 +15947,7 @@ func (m *memory) f71(p0 uint64, p1 uint64) {
 			l3 = 5
 			l2 = 4611686018427393414
 		B33:
-			m.f73(p1, 4611686018427397742, 1, l2, l3)
+			m.f76(p1, 4611686018427397742, 1, l2, l3)
 		}
 		m.stackPointer = l5
 		goto Bfunc
@@ -16228,7 +15956,7 @@ func (m *memory) f71(p0 uint64, p1 uint64) {
 Bfunc:
 }
 
-func (m *memory) f72(p0 uint64, p1 uint64) {
+func (m *memory) f75(p0 uint64, p1 uint64) {
 	var l6, l7 uint32
 	var l2, l3, l4, l5, j0 uint64
 	_, _, _, _, _, _, _ = l6, l7, l2, l3, l4, l5, j0
@@ -16237,7 +15965,7 @@ func (m *memory) f72(p0 uint64, p1 uint64) {
 			l2 = p1 + 208
 			l3 = m.i64_load(l2)
 			l4 = p1 + l3
-			m.i32_store8(l4+4, m.i32_load8_u(m.i64_load((m.i64_load8_u(p0+9)<<3)+4611686018427411536)))
+			m.i32_store8(l4+4, m.i32_load8_u(m.i64_load((m.i64_load8_u(p0+9)<<3)+4611686018427411544)))
 			m.i32_store(l4, 978731311)
 			m.i64_store(l2, l3+5)
 		}
@@ -16253,7 +15981,7 @@ func (m *memory) f72(p0 uint64, p1 uint64) {
 			l2 = p1 + 208
 			l3 = m.i64_load(l2)
 			l4 = p1 + l3
-			m.i32_store8(l4+4, m.i32_load8_u(m.i64_load((m.i64_load8_u(p0+13)<<3)+4611686018427411568)))
+			m.i32_store8(l4+4, m.i32_load8_u(m.i64_load((m.i64_load8_u(p0+13)<<3)+4611686018427411576)))
 			m.i32_store(l4, 978473007)
 			m.i64_store(l2, l3+5)
 		}
@@ -16274,32 +16002,32 @@ func (m *memory) f72(p0 uint64, p1 uint64) {
 		if m.i32_load8_u(p0+18) == 1 {
 			l2 = p1 + 208
 			l3 = m.i64_load(l2)
-			m.i32_store(p1+l3, (m.i32_load8_u(m.i64_load((m.i64_load8_u(p0+19)<<3)+4611686018427411592))<<24)|3818287)
+			m.i32_store(p1+l3, (m.i32_load8_u(m.i64_load((m.i64_load8_u(p0+19)<<3)+4611686018427411600))<<24)|3818287)
 			m.i64_store(l2, l3+4)
 		}
 		if m.i32_load8_u(p0+20) == 1 {
 			l2 = p1 + 208
 			l3 = m.i64_load(l2)
-			m.i32_store(p1+l3, (m.i32_load8_u(m.i64_load((m.i64_load8_u(p0+21)<<3)+4611686018427411592))<<24)|3819823)
+			m.i32_store(p1+l3, (m.i32_load8_u(m.i64_load((m.i64_load8_u(p0+21)<<3)+4611686018427411600))<<24)|3819823)
 			m.i64_store(l2, l3+4)
 		}
 		if m.i32_load8_u(p0+22) == 1 {
 			l2 = p1 + 208
 			l3 = m.i64_load(l2)
-			m.i32_store(p1+l3, (m.i32_load8_u(m.i64_load((m.i64_load8_u(p0+23)<<3)+4611686018427411592))<<24)|3817775)
+			m.i32_store(p1+l3, (m.i32_load8_u(m.i64_load((m.i64_load8_u(p0+23)<<3)+4611686018427411600))<<24)|3817775)
 			m.i64_store(l2, l3+4)
 		}
 		if m.i32_load8_u(p0+24) == 1 {
 			l2 = p1 + 208
 			l3 = m.i64_load(l2)
-			m.i32_store(p1+l3, (m.i32_load8_u(m.i64_load((m.i64_load8_u(p0+25)<<3)+4611686018427411392))<<24)|3818799)
+			m.i32_store(p1+l3, (m.i32_load8_u(m.i64_load((m.i64_load8_u(p0+25)<<3)+4611686018427411400))<<24)|3818799)
 			m.i64_store(l2, l3+4)
 		}
 		if m.i32_load8_u(p0+26) == 1 {
 			l2 = p1 + 208
 			l3 = m.i64_load(l2)
 			l4 = p1 + l3
-			m.i32_store8(l4+4, m.i32_load8_u(m.i64_load((m.i64_load8_u(p0+27)<<3)+4611686018427411432)))
+			m.i32_store8(l4+4, m.i32_load8_u(m.i64_load((m.i64_load8_u(p0+27)<<3)+4611686018427411440)))
 			m.i32_store(l4, 978080303)
 			m.i64_store(l2, l3+5)
 		}
@@ -16307,7 +16035,7 @@ func (m *memory) f72(p0 uint64, p1 uint64) {
 			l2 = p1 + 208
 			l3 = m.i64_load(l2)
 			l4 = p1 + l3
-			m.i32_store8(l4+4, m.i32_load8_u(m.i64_load((m.i64_load8_u(p0+29)<<3)+4611686018427411472)))
+			m.i32_store8(l4+4, m.i32_load8_u(m.i64_load((m.i64_load8_u(p0+29)<<3)+4611686018427411480)))
 			m.i32_store(l4, 977490479)
 			m.i64_store(l2, l3+5)
 		}
@@ -16315,7 +16043,7 @@ func (m *memory) f72(p0 uint64, p1 uint64) {
 			l2 = p1 + 208
 			l3 = m.i64_load(l2)
 			l4 = p1 + l3
-			m.i32_store8(l4+4, m.i32_load8_u(m.i64_load((m.i64_load8_u(p0+34)<<3)+4611686018427411504)))
+			m.i32_store8(l4+4, m.i32_load8_u(m.i64_load((m.i64_load8_u(p0+34)<<3)+4611686018427411512)))
 			m.i32_store(l4, 978469679)
 			m.i64_store(l2, l3+5)
 		}
@@ -16323,7 +16051,7 @@ func (m *memory) f72(p0 uint64, p1 uint64) {
 			l2 = p1 + 208
 			l3 = m.i64_load(l2)
 			l4 = p1 + l3
-			m.i32_store8(l4+4, m.i32_load8_u(m.i64_load((m.i64_load8_u(p0+36)<<3)+4611686018427411504)))
+			m.i32_store8(l4+4, m.i32_load8_u(m.i64_load((m.i64_load8_u(p0+36)<<3)+4611686018427411512)))
 			m.i32_store(l4, 978471215)
 			m.i64_store(l2, l3+5)
 		}
@@ -16331,13 +16059,13 @@ func (m *memory) f72(p0 uint64, p1 uint64) {
 			l2 = p1 + 208
 			l3 = m.i64_load(l2)
 			l4 = p1 + l3
-			m.i32_store8(l4+4, m.i32_load8_u(m.i64_load((m.i64_load8_u(p0+38)<<3)+4611686018427411504)))
+			m.i32_store8(l4+4, m.i32_load8_u(m.i64_load((m.i64_load8_u(p0+38)<<3)+4611686018427411512)))
 			m.i32_store(l4, 978469167)
 			m.i64_store(l2, l3+5)
 		}
 		if m.i32_load8_u(p0+30) == 1 {
 			if m.i32_load8_u(p0+31) != 0 {
-				j0 = m.i64_load((m.i64_load8_u(p0+32) << 3) + 4611686018427411536)
+				j0 = m.i64_load((m.i64_load8_u(p0+32) << 3) + 4611686018427411544)
 			} else {
 				j0 = 4611686018427397872
 			}
@@ -16363,7 +16091,7 @@ func (m *memory) f72(p0 uint64, p1 uint64) {
 		}
 		if m.i32_load8_u(p0+42) == 1 {
 			if m.i32_load8_u(p0+43) != 0 {
-				j0 = m.i64_load((m.i64_load8_u(p0+44) << 3) + 4611686018427411568)
+				j0 = m.i64_load((m.i64_load8_u(p0+44) << 3) + 4611686018427411576)
 			} else {
 				j0 = 4611686018427397872
 			}
@@ -16399,7 +16127,7 @@ func (m *memory) f72(p0 uint64, p1 uint64) {
 		}
 		if m.i32_load8_u(p0+51) == 1 {
 			if m.i32_load8_u(p0+52) != 0 {
-				j0 = m.i64_load((m.i64_load8_u(p0+53) << 3) + 4611686018427411592)
+				j0 = m.i64_load((m.i64_load8_u(p0+53) << 3) + 4611686018427411600)
 			} else {
 				j0 = 4611686018427397872
 			}
@@ -16413,7 +16141,7 @@ func (m *memory) f72(p0 uint64, p1 uint64) {
 		}
 		if m.i32_load8_u(p0+54) == 1 {
 			if m.i32_load8_u(p0+55) != 0 {
-				j0 = m.i64_load((m.i64_load8_u(p0+56) << 3) + 4611686018427411592)
+				j0 = m.i64_load((m.i64_load8_u(p0+56) << 3) + 4611686018427411600)
 			} else {
 				j0 = 4611686018427397872
 			}
@@ -16427,7 +16155,7 @@ func (m *memory) f72(p0 uint64, p1 uint64) {
 		}
 		if m.i32_load8_u(p0+57) == 1 {
 			if m.i32_load8_u(p0+58) != 0 {
-				j0 = m.i64_load((m.i64_load8_u(p0+59) << 3) + 4611686018427411592)
+				j0 = m.i64_load((m.i64_load8_u(p0+59) << 3) + 4611686018427411600)
 			} else {
 				j0 = 4611686018427397872
 			}
@@ -16445,7 +16173,7 @@ func (m *memory) f72(p0 uint64, p1 uint64) {
 Bfunc:
 }
 
-func (m *memory) f73(p0 uint64, p1 uint64, p2 uint64, p3 uint64, p4 uint64) {
+func (m *memory) f76(p0 uint64, p1 uint64, p2 uint64, p3 uint64, p4 uint64) {
 	var l5, l6 uint32
 	var l7 uint64
 	_, _, _ = l5, l6, l7
@@ -16586,42 +16314,61 @@ func (m *memory) f73(p0 uint64, p1 uint64, p2 uint64, p3 uint64, p4 uint64) {
 Bfunc:
 }
 
-func (m *memory) f74(p0 uint64, p1 uint64) {
-	var l2, l3, l4, l5, l6, l7 uint64
-	_, _, _, _, _, _ = l2, l3, l4, l5, l6, l7
-	l2 = 4611686018427398568
-	l5 = m.stackPointer
-	l4 = 8
-L1:
-	if int64(l5) < 16 {
+func (m *memory) f77(p0 uint64, p1 uint64) {
+	var l2, l3 uint64
+	_, _ = l2, l3
+	l3 = m.stackPointer
+	if int64(l3) >= 16 {
+		if int64(p1) < 0 {
+			m.f64(p0, 4611686018427398568, 1)
+		}
+		l2 = uint64(int64(p1) >> 63)
+		p1 = (p1 ^ l2) - l2
+		l2 = p1 / 10000000
+		m.f67(p0, l2)
+		m.f64(p0, 4611686018427387908, 1)
+		m.f78(p0, 4611686018427398576, 7, p1-(l2*10000000))
+		m.stackPointer = l3
+		goto Bfunc
+	}
+	panic("cvss: unreachable")
+Bfunc:
+}
+
+func (m *memory) f78(p0 uint64, p1 uint64, p2 uint64, p3 uint64) {
+	var l4, l5 uint64
+	_, _ = l4, l5
+	l4 = m.stackPointer - 16
+	m.stackPointer = l4
+	if int64(l4) < 16 {
 		goto B0
 	}
-	l4 = l4 - 1
-	if b32(l4 == 0) == 0 {
-		l3 = m.i64_load(l2)
-		if l3 == 0 {
-			goto B0
-		}
-		l6 = p0 + 4096
-		l7 = m.i64_load(l6)
-		m.i32_store8(p0+l7, (uint32(p1/l3)%10)|48)
-		m.i64_store(l6, l7+1)
-		l3 = m.i64_load(l2)
-		if l3 == 0 {
-			goto B0
-		}
-		l2 = l2 + 8
-		if (p1 % l3) != 0 {
-			goto L1
-		}
+	if p2 == 0 {
+		goto B1
 	}
+	l5 = m.i64_load(p1)
+	if l5 == 0 {
+		goto B0
+	}
+	m.i32_store8(l4+15, (uint32(p3/l5)%10)|48)
+	m.f64(p0, l4+15, 1)
+	l5 = m.i64_load(p1)
+	if l5 == 0 {
+		goto B0
+	}
+	if (p3 % l5) == 0 {
+		goto B1
+	}
+	m.f78(p0, p1+8, p2-1, p3)
+B1:
+	m.stackPointer = l4 + 16
 	goto Bfunc
 B0:
 	panic("cvss: unreachable")
 Bfunc:
 }
 
-func (m *memory) f75(p0 uint64, p1 uint64, p2 uint64, p3 uint64, p4 uint64, p5 uint64, p6 uint64) {
+func (m *memory) f79(p0 uint64, p1 uint64, p2 uint64, p3 uint64, p4 uint64, p5 uint64, p6 uint64) {
 	var l8, l9, l10, l11 uint32
 	var l7 uint64
 	_, _, _, _, _ = l8, l9, l10, l11, l7
@@ -16635,29 +16382,29 @@ func (m *memory) f75(p0 uint64, p1 uint64, p2 uint64, p3 uint64, p4 uint64, p5 u
 		m.memory_fill(l7+16, 0, 288)
 		m.i32_store16(l7+136, l11)
 		m.i64_store(l7+128, 3)
-		m.i64_store(l7+120, 4611686018427398796)
+		m.i64_store(l7+120, 4611686018427398806)
 		m.i32_store8(l7+96, 2)
 		m.i64_store(l7+88, 8)
-		m.i64_store(l7+80, 4611686018427398788)
+		m.i64_store(l7+80, 4611686018427398798)
 		m.i32_store8(l7+56, 2)
 		m.i64_store(l7+48, 5)
-		m.i64_store(l7+40, 4611686018427398783)
+		m.i64_store(l7+40, 4611686018427398793)
 		m.i64_store(l7+32, p4)
 		m.i64_store(l7+24, p3)
 		m.i32_store8(l7+16, 3)
 		m.i64_store(l7+8, 5)
-		m.i64_store(l7, 4611686018427398778)
+		m.i64_store(l7, 4611686018427398788)
 		m.i64_store(l7+104, m.i64_load8_u(p5+8))
 		m.i64_store(l7-18446744073709551552, m.i64_load8_u(p5+9))
-		m.i64_store(l7+160, 4611686018427398799)
+		m.i64_store(l7+160, 4611686018427398809)
 		m.i64_store(l7+168, 5)
 		m.i64_store(l7+184, p1)
 		m.i64_store(l7+192, p2)
-		m.i64_store(l7+200, 4611686018427398804)
+		m.i64_store(l7+200, 4611686018427398814)
 		m.i64_store(l7+208, 4)
 		m.i32_store16(l7+216, l10)
 		m.i32_store8(l7+176, 4)
-		m.i64_store(l7+240, 4611686018427398808)
+		m.i64_store(l7+240, 4611686018427398818)
 		m.i64_store(l7+248, 9)
 		m.i32_store16(l7+256, l9)
 		m.i64_store(l7+152, m.i64_load(p6+16))
@@ -16666,12 +16413,12 @@ func (m *memory) f75(p0 uint64, p1 uint64, p2 uint64, p3 uint64, p4 uint64, p5 u
 		m.i64_store(l7+232, m.i64_load(p6+40))
 		m.i32_store16(l7+296, l8)
 		m.i64_store(l7+288, 5)
-		m.i64_store(l7+280, 4611686018427398817)
+		m.i64_store(l7+280, 4611686018427398827)
 		m.i64_store(l7+272, m.i64_load(p6-18446744073709551552))
 		m.i64_store(l7+264, m.i64_load(p6+56))
 		m.i64_store(l7+312, m.i64_load(p6+88))
 		m.i64_store(l7+304, m.i64_load(p6+80))
-		m.f68(p0, l7, 8)
+		m.f71(p0, l7, 8)
 		m.stackPointer = l7 + 320
 		goto Bfunc
 	}
@@ -16679,7 +16426,7 @@ func (m *memory) f75(p0 uint64, p1 uint64, p2 uint64, p3 uint64, p4 uint64, p5 u
 Bfunc:
 }
 
-func (m *memory) f76(p0 uint64) uint32 {
+func (m *memory) f80(p0 uint64) uint32 {
 	var l1, l2, l3, i0 uint32
 	_, _, _, _ = l1, l2, l3, i0
 	if int64(m.stackPointer) >= 16 {
@@ -16739,7 +16486,7 @@ Bfunc:
 	return i0
 }
 
-func (m *memory) f77(p0 uint64, p1 uint64) {
+func (m *memory) f81(p0 uint64, p1 uint64) {
 	var l2 uint64
 	_ = l2
 	l2 = m.stackPointer - 48
@@ -16759,7 +16506,7 @@ func (m *memory) f77(p0 uint64, p1 uint64) {
 Bfunc:
 }
 
-func (m *memory) f78(p0 uint64, p1 uint64, p2 uint64, p3 uint64) uint64 {
+func (m *memory) f82(p0 uint64, p1 uint64, p2 uint64, p3 uint64) uint64 {
 	var j0 uint64
 	_ = j0
 	if int64(m.stackPointer) >= 16 {
@@ -16792,7 +16539,7 @@ Bfunc:
 	return j0
 }
 
-func (m *memory) f79(p0 uint64, p1 uint64, p2 uint64, p3 uint64) uint64 {
+func (m *memory) f83(p0 uint64, p1 uint64, p2 uint64, p3 uint64) uint64 {
 	var l20, l21, l22, l23, l24, l25, l26, l27, l28, l29, l30, l31, l32, l33, l34, l35 uint32
 	var l4, l5, l6, l7, l8, l9, l10, l11, l12, l13, l14, l15, l16, l17, l18, l19, j0 uint64
 	_, _, _, _, _, _, _, _, _, _, _, _, _, _, _, _, _, _, _, _, _, _, _, _, _, _, _, _, _, _, _, _, _ = l20, l21, l22, l23, l24, l25, l26, l27, l28, l29, l30, l31, l32, l33, l34, l35, l4, l5, l6, l7, l8, l9, l10, l11, l12, l13, l14, l15, l16, l17, l18, l19, j0
@@ -16832,19 +16579,19 @@ func (m *memory) f79(p0 uint64, p1 uint64, p2 uint64, p3 uint64) uint64 {
 		m.i32_store8(l4+169, l27)
 		m.i32_store8(l4+168, l25)
 		m.i64_store(l4+160, uint64(l21))
-		m.f80(l4+200, l4+160)
-		j0 = m.f81(4611686018427397840, 0, l4+200, 4611686018427397840, 0, p2, p3)
+		m.f84(l4+200, l4+160)
+		j0 = m.f85(4611686018427397840, 0, l4+200, 4611686018427397840, 0, p2, p3)
 		goto B0
 	B5:
-		j0 = m.f78(4611686018427399237, 24, p2, p3)
+		j0 = m.f82(4611686018427399245, 24, p2, p3)
 		j0 = 24
 		goto B0
 	B4:
 		l17 = uint64(l29) & 255
 		l18 = 1
-		l19 = 4611686018427399308
+		l19 = 4611686018427399316
 		l5 = 38
-		l9 = 4611686018427399270
+		l9 = 4611686018427399278
 		l12 = l8
 		l13 = l7
 		l14 = l6
@@ -16868,17 +16615,17 @@ func (m *memory) f79(p0 uint64, p1 uint64, p2 uint64, p3 uint64) uint64 {
 		}
 	B14:
 		l5 = 29
-		l9 = 4611686018427399309
+		l9 = 4611686018427399317
 		j0 = l9
 		goto B2
 	B13:
 		l5 = 26
-		l9 = 4611686018427399338
+		l9 = 4611686018427399346
 		j0 = l6
 		goto B7
 	B12:
 		l5 = 27
-		l9 = 4611686018427399364
+		l9 = 4611686018427399372
 		j0 = l9
 		goto B2
 	B11:
@@ -16906,9 +16653,9 @@ func (m *memory) f79(p0 uint64, p1 uint64, p2 uint64, p3 uint64) uint64 {
 		l10 = m.i64_load(j0)
 		p0 = m.i64_load(l5)
 		l16 = 3
-		l15 = 4611686018427399399
+		l15 = 4611686018427399407
 		l5 = 8
-		l9 = 4611686018427399391
+		l9 = 4611686018427399399
 		j0 = l9
 		goto B1
 	B10:
@@ -16936,7 +16683,7 @@ func (m *memory) f79(p0 uint64, p1 uint64, p2 uint64, p3 uint64) uint64 {
 		l10 = m.i64_load(j0)
 		p0 = m.i64_load(l5)
 		l5 = 10
-		j0 = 4611686018427399402
+		j0 = 4611686018427399410
 		goto B8
 	B9:
 		p0 = l17 * 56
@@ -16963,7 +16710,7 @@ func (m *memory) f79(p0 uint64, p1 uint64, p2 uint64, p3 uint64) uint64 {
 		l10 = m.i64_load(j0)
 		p0 = m.i64_load(l5)
 		l5 = 18
-		j0 = 4611686018427399412
+		j0 = 4611686018427399420
 	B8:
 		l9 = j0
 		l13 = 0
@@ -16994,7 +16741,7 @@ B1:
 	m.i64_store(l4+56, 0)
 	m.i64_store(l4+48, l5)
 	m.i64_store(l4+40, l9)
-	j0 = m.f81(4611686018427397840, 0, l4+40, 4611686018427397840, 0, p2, p3)
+	j0 = m.f85(4611686018427397840, 0, l4+40, 4611686018427397840, 0, p2, p3)
 B0:
 	p0 = j0
 	l28 = m.i32_load(p1)
@@ -17080,7 +16827,7 @@ B0:
 		m.i32_store8(l4+162, l26)
 		m.i32_store8(l4+161, l27)
 		m.i32_store8(l4+160, l25)
-		m.f82(l4+200, 4294967295, l4+160, p0, l28)
+		m.f86(l4+200, 4294967295, l4+160, p0, l28)
 		goto B28
 	B29:
 		m.i64_store(l4-18446744073709551552, l6)
@@ -17089,7 +16836,7 @@ B0:
 		m.i32_store8(l4+42, l29)
 		m.i32_store8(l4+41, l20)
 		m.i32_store8(l4+40, l21)
-		m.f82(l4+200, l23, l4+40, p0, l28)
+		m.f86(l4+200, l23, l4+40, p0, l28)
 	B28:
 		m.memory_copy(l4, l4+200, 40)
 		m.memory_copy(p1, l4, 40)
@@ -17098,7 +16845,7 @@ B0:
 	return p0
 }
 
-func (m *memory) f80(p0 uint64, p1 uint64) {
+func (m *memory) f84(p0 uint64, p1 uint64) {
 	var l14 uint32
 	var l2, l3, l4, l5, l6, l7, l8, l9, l10, l11, l12, l13, j0 uint64
 	_, _, _, _, _, _, _, _, _, _, _, _, _, _ = l14, l2, l3, l4, l5, l6, l7, l8, l9, l10, l11, l12, l13, j0
@@ -17107,7 +16854,7 @@ func (m *memory) f80(p0 uint64, p1 uint64) {
 		l8 = 4611686018427397840
 		if m.i32_load8_u(p1) == 0 {
 			l3 = 4611686018427397840
-			j0 = 4611686018427399261
+			j0 = 4611686018427399269
 			goto B4
 		}
 		l9 = m.i64_load(p1 + 32)
@@ -17116,9 +16863,9 @@ func (m *memory) f80(p0 uint64, p1 uint64) {
 		l7 = m.i64_load8_u(p1 + 10)
 		l14 = m.i32_load8_u(p1 + 9)
 		l12 = 1
-		l13 = 4611686018427399308
+		l13 = 4611686018427399316
 		l2 = 38
-		l5 = 4611686018427399270
+		l5 = 4611686018427399278
 		l3 = 4611686018427397840
 		switch m.i32_load8_u(p1+8) - 1 {
 		case 0:
@@ -17138,17 +16885,17 @@ func (m *memory) f80(p0 uint64, p1 uint64) {
 		}
 	B11:
 		l2 = 29
-		l5 = 4611686018427399309
+		l5 = 4611686018427399317
 		j0 = l5
 		goto B1
 	B10:
 		l2 = 26
-		l5 = 4611686018427399338
+		l5 = 4611686018427399346
 		j0 = 0
 		goto B3
 	B9:
 		l2 = 27
-		l5 = 4611686018427399364
+		l5 = 4611686018427399372
 		j0 = l5
 		goto B1
 	B8:
@@ -17176,9 +16923,9 @@ func (m *memory) f80(p0 uint64, p1 uint64) {
 		l3 = m.i64_load(j0)
 		l4 = m.i64_load(l2)
 		l6 = 3
-		l8 = 4611686018427399399
+		l8 = 4611686018427399407
 		l2 = 8
-		l5 = 4611686018427399391
+		l5 = 4611686018427399399
 		j0 = l5
 		goto B0
 	B7:
@@ -17206,7 +16953,7 @@ func (m *memory) f80(p0 uint64, p1 uint64) {
 		l3 = m.i64_load(j0)
 		l4 = m.i64_load(l2)
 		l2 = 10
-		j0 = 4611686018427399402
+		j0 = 4611686018427399410
 		goto B4
 	B6:
 		p1 = l7 * 56
@@ -17233,7 +16980,7 @@ func (m *memory) f80(p0 uint64, p1 uint64) {
 		l3 = m.i64_load(j0)
 		l4 = m.i64_load(l2)
 		l2 = 18
-		j0 = 4611686018427399412
+		j0 = 4611686018427399420
 	B4:
 		l5 = j0
 		l11 = 4611686018427397840
@@ -17267,7 +17014,7 @@ B0:
 	m.i64_store(p0, l5)
 }
 
-func (m *memory) f81(p0 uint64, p1 uint64, p2 uint64, p3 uint64, p4 uint64, p5 uint64, p6 uint64) uint64 {
+func (m *memory) f85(p0 uint64, p1 uint64, p2 uint64, p3 uint64, p4 uint64, p5 uint64, p6 uint64) uint64 {
 	var l7, j0 uint64
 	_, _ = l7, j0
 	l7 = m.stackPointer - 176
@@ -17294,7 +17041,7 @@ func (m *memory) f81(p0 uint64, p1 uint64, p2 uint64, p3 uint64, p4 uint64, p5 u
 		m.i64_store(l7+144, m.i64_load(p2+112))
 		m.i64_store(l7+136, m.i64_load(p2+104))
 		m.i64_store(l7+128, m.i64_load(p2+96))
-		j0 = m.f83(l7+8, 7, 0, p5, p6)
+		j0 = m.f87(l7+8, 7, 0, p5, p6)
 		p2 = j0
 		m.stackPointer = l7 + 176
 		j0 = p2
@@ -17305,7 +17052,7 @@ Bfunc:
 	return j0
 }
 
-func (m *memory) f82(p0 uint64, p1 uint32, p2 uint64, p3 uint64, p4 uint32) {
+func (m *memory) f86(p0 uint64, p1 uint32, p2 uint64, p3 uint64, p4 uint32) {
 	var l10, l11 uint32
 	var l5, l6, l7, l8, l9, j0 uint64
 	_, _, _, _, _, _, _, _ = l10, l11, l5, l6, l7, l8, l9, j0
@@ -17342,7 +17089,7 @@ func (m *memory) f82(p0 uint64, p1 uint32, p2 uint64, p3 uint64, p4 uint32) {
 		}
 		p2 = m.i64_load(l9)
 		m.i64_store(l6+8, 0)
-		j0 = m.f78(l5, l8, l6+8, 8)
+		j0 = m.f82(l5, l8, l6+8, 8)
 		l5 = m.i64_load(l6 + 8)
 		l11 = uint32(1) << (l10 & 31)
 		if (l11 & 27) == 0 {
@@ -17370,7 +17117,7 @@ func (m *memory) f82(p0 uint64, p1 uint32, p2 uint64, p3 uint64, p4 uint32) {
 Bfunc:
 }
 
-func (m *memory) f83(p0 uint64, p1 uint64, p2 uint64, p3 uint64, p4 uint64) uint64 {
+func (m *memory) f87(p0 uint64, p1 uint64, p2 uint64, p3 uint64, p4 uint64) uint64 {
 	var l9 uint32
 	var l5, l6, l7, l8, j1 uint64
 	_, _, _, _, _, _ = l9, l5, l6, l7, l8, j1
@@ -17381,7 +17128,7 @@ func (m *memory) f83(p0 uint64, p1 uint64, p2 uint64, p3 uint64, p4 uint64) uint
 		}
 		l7 = p0 + 8
 		l5 = m.i64_load(l7)
-		j1 = m.f83(p0+24, p1-1, l5+p2, p3, p4)
+		j1 = m.f87(p0+24, p1-1, l5+p2, p3, p4)
 		l8 = j1
 		if p4 < l8 {
 			goto B1
@@ -17430,7 +17177,7 @@ B0:
 	return p2
 }
 
-func (m *memory) f84(p0 uint64) {
+func (m *memory) f88(p0 uint64) {
 	var l1, l2, i1, i2, i3, i4 uint32
 	var l3, l4, l5, l6, l7, l8, l9, l10, j0, j1 uint64
 	_, _, _, _, _, _, _, _, _, _, _, _, _, _, _, _ = l1, l2, i1, i2, i3, i4, l3, l4, l5, l6, l7, l8, l9, l10, j0, j1
@@ -17590,7 +17337,7 @@ func (m *memory) f84(p0 uint64) {
 Bfunc:
 }
 
-func (m *memory) f85(p0 uint64, p1 uint64) uint32 {
+func (m *memory) f89(p0 uint64, p1 uint64) uint32 {
 	var l2, l3, l4, l5, l6, i0 uint32
 	var l7 uint64
 	_, _, _, _, _, _, _ = l2, l3, l4, l5, l6, i0, l7
@@ -18315,7 +18062,7 @@ func (m *memory) f85(p0 uint64, p1 uint64) uint32 {
 			goto Bfunc
 		}
 		l2 = m.i32_load8_u(p0 + l7)
-		l4 = m.i32_load8_u(l7 + 4611686018427399686)
+		l4 = m.i32_load8_u(l7 + 4611686018427399694)
 		if l4 == 48 {
 			if ((l2 - 48) & 255) < 10 {
 				goto B19
@@ -18341,7 +18088,7 @@ Bfunc:
 	return i0
 }
 
-func (m *memory) f86(p0 uint64, p1 uint64) uint32 {
+func (m *memory) f90(p0 uint64, p1 uint64) uint32 {
 	var l2, i0 uint32
 	_, _ = l2, i0
 	if int64(m.stackPointer) >= 16 {
@@ -18415,7 +18162,7 @@ Bfunc:
 	return i0
 }
 
-func (m *memory) f87(p0 uint32, p1 uint64, p2 uint64) uint32 {
+func (m *memory) f91(p0 uint32, p1 uint64, p2 uint64) uint32 {
 	var l13, i0 uint32
 	var l3, l4, l5, l6, l7, l8, l9, l10, l11, l12 uint64
 	_, _, _, _, _, _, _, _, _, _, _, _ = l13, i0, l3, l4, l5, l6, l7, l8, l9, l10, l11, l12
@@ -18886,7 +18633,7 @@ Bfunc:
 	return i0
 }
 
-func (m *memory) f88(p0 uint64, p1 uint64) uint32 {
+func (m *memory) f92(p0 uint64, p1 uint64) uint32 {
 	var l6, l7, i0 uint32
 	var l2, l3, l4, l5 uint64
 	_, _, _, _, _, _, _ = l6, l7, i0, l2, l3, l4, l5
@@ -18981,7 +18728,7 @@ Bfunc:
 	return i0
 }
 
-func (m *memory) f89(p0 uint64, p1 uint64, p2 uint64) {
+func (m *memory) f93(p0 uint64, p1 uint64, p2 uint64) {
 	var l15, l16, l17, l18, l19 uint32
 	var l3, l4, l5, l6, l7, l8, l9, l10, l11, l12, l13, l14 uint64
 	_, _, _, _, _, _, _, _, _, _, _, _, _, _, _, _, _ = l15, l16, l17, l18, l19, l3, l4, l5, l6, l7, l8, l9, l10, l11, l12, l13, l14
@@ -19000,7 +18747,7 @@ func (m *memory) f89(p0 uint64, p1 uint64, p2 uint64) {
 		m.i64_store(l3+96, m.i64_load(p2+16))
 		m.i64_store(l3+88, m.i64_load(p2+8))
 		m.i64_store(l3+80, m.i64_load(p2))
-		m.f90(l3+8, l3+56)
+		m.f94(l3+8, l3+56)
 		if m.i32_load8_u(l3+8) == 1 {
 			l12 = l3 - 18446744073709551552
 			l10 = l3 + 152
@@ -19061,7 +18808,7 @@ func (m *memory) f89(p0 uint64, p1 uint64, p2 uint64) {
 			l17 = m.i32_load8_u(l3 + 121)
 			goto B7
 		B9:
-			m.f91(l3, l3+80, l16, l6, l7)
+			m.f95(l3, l3+80, l16, l6, l7)
 			if m.i32_load8_u(l3) != 1 {
 				goto B6
 			}
@@ -19124,7 +18871,7 @@ func (m *memory) f89(p0 uint64, p1 uint64, p2 uint64) {
 			m.i64_store(l12, m.i64_load(l13))
 			m.i64_store(l12+8, m.i64_load(l13+8))
 			m.i64_store(l3+56, l14)
-			m.f90(l3+8, l3+56)
+			m.f94(l3+8, l3+56)
 			l19 = l17
 			if m.i32_load8_u(l3+8) == 1 {
 				goto L3
@@ -19147,7 +18894,7 @@ func (m *memory) f89(p0 uint64, p1 uint64, p2 uint64) {
 Bfunc:
 }
 
-func (m *memory) f90(p0 uint64, p1 uint64) {
+func (m *memory) f94(p0 uint64, p1 uint64) {
 	var l6 uint32
 	var l2, l3, l4, l5, j0 uint64
 	_, _, _, _, _, _ = l6, l2, l3, l4, l5, j0
@@ -19216,7 +18963,7 @@ func (m *memory) f90(p0 uint64, p1 uint64) {
 Bfunc:
 }
 
-func (m *memory) f91(p0 uint64, p1 uint64, p2 uint32, p3 uint64, p4 uint64) {
+func (m *memory) f95(p0 uint64, p1 uint64, p2 uint32, p3 uint64, p4 uint64) {
 	var l5, l6, l7, i0 uint32
 	var l8 uint64
 	_, _, _, _, _ = l5, l6, l7, i0, l8
@@ -19916,7 +19663,7 @@ B0:
 	m.stackPointer = l8 + 16
 }
 
-func (m *memory) f92(p0 uint64, p1 uint64, p2 uint64, p3 uint64) {
+func (m *memory) f96(p0 uint64, p1 uint64, p2 uint64, p3 uint64) {
 	var l12, l13, l14, l15 uint32
 	var l4, l5, l6, l7, l8, l9, l10, l11, j0 uint64
 	_, _, _, _, _, _, _, _, _, _, _, _, _ = l12, l13, l14, l15, l4, l5, l6, l7, l8, l9, l10, l11, j0
@@ -19933,7 +19680,7 @@ func (m *memory) f92(p0 uint64, p1 uint64, p2 uint64, p3 uint64) {
 		m.i64_store(l4+88, p2)
 		p3 = 1
 		m.i64_store(l4+80, 1)
-		m.f93(l4+104, l4+80, l4+176)
+		m.f97(l4+104, l4+80, l4+176)
 		l10 = m.i64_load(l4 + 112)
 		l11 = m.i64_load8_u(l4 + 104)
 		if l11 == 0 {
@@ -20019,7 +19766,7 @@ func (m *memory) f92(p0 uint64, p1 uint64, p2 uint64, p3 uint64) {
 Bfunc:
 }
 
-func (m *memory) f93(p0 uint64, p1 uint64, p2 uint64) {
+func (m *memory) f97(p0 uint64, p1 uint64, p2 uint64) {
 	var l17, l18, l19, l20, l21, l22, l23, i0 uint32
 	var l3, l4, l5, l6, l7, l8, l9, l10, l11, l12, l13, l14, l15, l16 uint64
 	_, _, _, _, _, _, _, _, _, _, _, _, _, _, _, _, _, _, _, _, _, _ = l17, l18, l19, l20, l21, l22, l23, i0, l3, l4, l5, l6, l7, l8, l9, l10, l11, l12, l13, l14, l15, l16
@@ -20035,7 +19782,7 @@ func (m *memory) f93(p0 uint64, p1 uint64, p2 uint64) {
 		m.i64_store(l3+72, l7)
 		m.i64_store(l3-18446744073709551552, l9)
 		m.i64_store(l3+56, uint64(l21)&255)
-		m.f90(l3+8, l3+56)
+		m.f94(l3+8, l3+56)
 		if m.i32_load8_u(l3+8) == 1 {
 			l12 = l3 - 18446744073709551552
 			l13 = l3 + 40
@@ -20134,7 +19881,7 @@ func (m *memory) f93(p0 uint64, p1 uint64, p2 uint64) {
 			l8 = l6
 			goto B7
 		B9:
-			m.f94(l3, l3+80, l20, l8, l5)
+			m.f98(l3, l3+80, l20, l8, l5)
 			l18 = m.i32_load8_u(l3)
 			if l18 == 0 {
 				goto B6
@@ -20259,7 +20006,7 @@ func (m *memory) f93(p0 uint64, p1 uint64, p2 uint64) {
 			m.i64_store(l12, m.i64_load(l13))
 			m.i64_store(l12+8, m.i64_load(l13+8))
 			m.i64_store(l3+56, l15)
-			m.f90(l3+8, l3+56)
+			m.f94(l3+8, l3+56)
 			if m.i32_load8_u(l3+8) == 1 {
 				goto L3
 			}
@@ -20282,7 +20029,7 @@ B0:
 	m.stackPointer = l3 + 176
 }
 
-func (m *memory) f94(p0 uint64, p1 uint64, p2 uint32, p3 uint64, p4 uint64) {
+func (m *memory) f98(p0 uint64, p1 uint64, p2 uint32, p3 uint64, p4 uint64) {
 	var l5, l6, l7, i0 uint32
 	_, _, _, _ = l5, l6, l7, i0
 	if int64(m.stackPointer) >= 16 {
@@ -20788,7 +20535,7 @@ func (m *memory) f94(p0 uint64, p1 uint64, p2 uint32, p3 uint64, p4 uint64) {
 			goto B1
 		}
 		m.i32_store8(p4, 1)
-		m.i32_store8(p1+27, m.i32_load8_u((uint64(l7)&255)+4611686018427411616))
+		m.i32_store8(p1+27, m.i32_load8_u((uint64(l7)&255)+4611686018427411624))
 		goto B3
 	B15:
 		l6 = 1
@@ -21242,8 +20989,8 @@ func (m *memory) f94(p0 uint64, p1 uint64, p2 uint32, p3 uint64, p4 uint64) {
 		}
 		m.i32_store8(p4, 1)
 		p4 = uint64(l7) & 255
-		m.i32_store8(p1+44, m.i32_load8_u(p4+4611686018427411626))
-		m.i32_store8(p1+43, m.i32_load8_u(p4+4611686018427411635))
+		m.i32_store8(p1+44, m.i32_load8_u(p4+4611686018427411634))
+		m.i32_store8(p1+43, m.i32_load8_u(p4+4611686018427411643))
 		goto B3
 	B8:
 		p2 = 0
@@ -21399,8 +21146,8 @@ func (m *memory) f94(p0 uint64, p1 uint64, p2 uint32, p3 uint64, p4 uint64) {
 		}
 		m.i32_store8(p4, 1)
 		p4 = uint64(l7) & 255
-		m.i32_store8(p1+53, m.i32_load8_u(p4+4611686018427411644))
-		m.i32_store8(p1+52, m.i32_load8_u(p4+4611686018427411635))
+		m.i32_store8(p1+53, m.i32_load8_u(p4+4611686018427411652))
+		m.i32_store8(p1+52, m.i32_load8_u(p4+4611686018427411643))
 		goto B3
 	B5:
 		p2 = 0
@@ -21426,8 +21173,8 @@ func (m *memory) f94(p0 uint64, p1 uint64, p2 uint32, p3 uint64, p4 uint64) {
 		}
 		m.i32_store8(p4, 1)
 		p4 = uint64(l7) & 255
-		m.i32_store8(p1+56, m.i32_load8_u(p4+4611686018427411644))
-		m.i32_store8(p1+55, m.i32_load8_u(p4+4611686018427411635))
+		m.i32_store8(p1+56, m.i32_load8_u(p4+4611686018427411652))
+		m.i32_store8(p1+55, m.i32_load8_u(p4+4611686018427411643))
 		goto B3
 	B4:
 		p2 = 0
@@ -21453,8 +21200,8 @@ func (m *memory) f94(p0 uint64, p1 uint64, p2 uint32, p3 uint64, p4 uint64) {
 		}
 		m.i32_store8(p4, 1)
 		p4 = uint64(l7) & 255
-		m.i32_store8(p1+59, m.i32_load8_u(p4+4611686018427411644))
-		m.i32_store8(p1+58, m.i32_load8_u(p4+4611686018427411635))
+		m.i32_store8(p1+59, m.i32_load8_u(p4+4611686018427411652))
+		m.i32_store8(p1+58, m.i32_load8_u(p4+4611686018427411643))
 	B3:
 		i0 = 0
 	B2:
@@ -21470,7 +21217,7 @@ func (m *memory) f94(p0 uint64, p1 uint64, p2 uint32, p3 uint64, p4 uint64) {
 Bfunc:
 }
 
-func (m *memory) f95(p0 uint64, p1 uint64, p2 uint64) {
+func (m *memory) f99(p0 uint64, p1 uint64, p2 uint64) {
 	var l17, l18, l19, l20, l21, l22, i0 uint32
 	var l3, l4, l5, l6, l7, l8, l9, l10, l11, l12, l13, l14, l15, l16 uint64
 	_, _, _, _, _, _, _, _, _, _, _, _, _, _, _, _, _, _, _, _, _ = l17, l18, l19, l20, l21, l22, i0, l3, l4, l5, l6, l7, l8, l9, l10, l11, l12, l13, l14, l15, l16
@@ -21486,7 +21233,7 @@ func (m *memory) f95(p0 uint64, p1 uint64, p2 uint64) {
 		m.i64_store(l3+80, l7)
 		m.i64_store(l3+72, l8)
 		m.i64_store(l3-18446744073709551552, uint64(l18)&255)
-		m.f90(l3+16, l3-18446744073709551552)
+		m.f94(l3+16, l3-18446744073709551552)
 		if m.i32_load8_u(l3+16) == 1 {
 			l13 = l3 + 72
 			l14 = l3 + 48
@@ -21577,7 +21324,7 @@ func (m *memory) f95(p0 uint64, p1 uint64, p2 uint64) {
 			i0 = 3
 			goto B7
 		B8:
-			m.f96(l3+8, l3+88, l21, l11, l10)
+			m.f100(l3+8, l3+88, l21, l11, l10)
 			if m.i32_load8_u(l3+8) != 1 {
 				goto B6
 			}
@@ -21640,7 +21387,7 @@ func (m *memory) f95(p0 uint64, p1 uint64, p2 uint64) {
 			m.i64_store(l13, m.i64_load(l14))
 			m.i64_store(l13+8, m.i64_load(l14+8))
 			m.i64_store(l3-18446744073709551552, l16)
-			m.f90(l3+16, l3-18446744073709551552)
+			m.f94(l3+16, l3-18446744073709551552)
 			l22 = l19
 			if m.i32_load8_u(l3+16) == 1 {
 				goto L3
@@ -21662,7 +21409,7 @@ func (m *memory) f95(p0 uint64, p1 uint64, p2 uint64) {
 Bfunc:
 }
 
-func (m *memory) f96(p0 uint64, p1 uint64, p2 uint32, p3 uint64, p4 uint64) {
+func (m *memory) f100(p0 uint64, p1 uint64, p2 uint32, p3 uint64, p4 uint64) {
 	var l6, l7 uint32
 	var l5 uint64
 	_, _, _ = l6, l7, l5
@@ -22358,7 +22105,7 @@ func (m *memory) f96(p0 uint64, p1 uint64, p2 uint32, p3 uint64, p4 uint64) {
 Bfunc:
 }
 
-func (m *memory) f97(p0 uint64, p1 uint64, p2 uint32) {
+func (m *memory) f101(p0 uint64, p1 uint64, p2 uint32) {
 	var l5, l6, l7, l8, l9 uint32
 	var l3, l4 uint64
 	_, _, _, _, _, _, _ = l5, l6, l7, l8, l9, l3, l4
@@ -22430,7 +22177,7 @@ func (m *memory) f97(p0 uint64, p1 uint64, p2 uint32) {
 Bfunc:
 }
 
-func (m *memory) f98(p0 uint64, p1 uint64, p2 uint64, p3 uint64) uint64 {
+func (m *memory) f102(p0 uint64, p1 uint64, p2 uint64, p3 uint64) uint64 {
 	var l6, l7, l8, l9, l10, l11 uint32
 	var l4, l5, j0 uint64
 	_, _, _, _, _, _, _, _, _ = l6, l7, l8, l9, l10, l11, l4, l5, j0
@@ -22468,7 +22215,7 @@ func (m *memory) f98(p0 uint64, p1 uint64, p2 uint64, p3 uint64) uint64 {
 				m.i64_store(p1+28, 0)
 				m.i32_store(p1+36, 0)
 			}
-			j0 = m.f99(l4+48, p2, p3)
+			j0 = m.f103(l4+48, p2, p3)
 			goto B1
 		}
 		m.i32_store8(l4+10, l6)
@@ -22481,7 +22228,7 @@ func (m *memory) f98(p0 uint64, p1 uint64, p2 uint64, p3 uint64) uint64 {
 		m.i64_store(l4+24, m.i64_load(p0+32))
 		m.i64_store(l4+32, m.i64_load(p0+40))
 		m.i64_store(l4+40, m.i64_load(p0+48))
-		j0 = m.f79(l4, p1, p2, p3)
+		j0 = m.f83(l4, p1, p2, p3)
 	B1:
 		p0 = j0
 		m.stackPointer = l4 + 128
@@ -22493,7 +22240,7 @@ Bfunc:
 	return j0
 }
 
-func (m *memory) f99(p0 uint64, p1 uint64, p2 uint64) uint64 {
+func (m *memory) f103(p0 uint64, p1 uint64, p2 uint64) uint64 {
 	var l3, l4, j0 uint64
 	_, _, _ = l3, l4, j0
 	l3 = m.stackPointer - 4368
@@ -22515,7 +22262,7 @@ func (m *memory) f99(p0 uint64, p1 uint64, p2 uint64) uint64 {
 		if m.i64_load(l4) != 0 {
 			goto B4
 		}
-		m.f100(l3+16, 3471768688348321347, l4, l3+48)
+		m.f104(l3+16, 3471768688348321347, l4, l3+48)
 		p0 = m.i64_load(l3 + 24)
 		j0 = m.i64_load(l3 + 16)
 		goto B2
@@ -22524,7 +22271,7 @@ func (m *memory) f99(p0 uint64, p1 uint64, p2 uint64) uint64 {
 		if m.i64_load(l4) != 1 {
 			goto B4
 		}
-		m.f100(l3+32, 3543826282386249283, l4, l3+48)
+		m.f104(l3+32, 3543826282386249283, l4, l3+48)
 		p0 = m.i64_load(l3 + 40)
 		j0 = m.i64_load(l3 + 32)
 		goto B2
@@ -22536,23 +22283,23 @@ func (m *memory) f99(p0 uint64, p1 uint64, p2 uint64) uint64 {
 		p0 = m.i64_load(l3 + 256)
 		m.i64_store(p0+(l3+48), 3471769787859949123)
 		m.i64_store(l3+256, p0+8)
-		m.f71(l4, l3+48)
+		m.f74(l4, l3+48)
 		p0 = m.i64_load(l3 + 256)
 		j0 = l3 + 48
 		goto B2
 	B4:
 		m.memory_fill(l3+264, 0, 4104)
-		m.f67(l3+264, p0)
-		j0 = m.f78(l3+264, m.i64_load(l3+4360), p1, p2)
+		m.f68(l3+264, p0)
+		j0 = m.f82(l3+264, m.i64_load(l3+4360), p1, p2)
 		p0 = j0
 		j0 = p0
 		goto B0
 	B3:
-		m.f70(l3, p0+1, l3+48)
+		m.f73(l3, p0+1, l3+48)
 		p0 = m.i64_load(l3 + 8)
 		j0 = m.i64_load(l3)
 	B2:
-		j0 = m.f78(j0, p0, p1, p2)
+		j0 = m.f82(j0, p0, p1, p2)
 		p0 = j0
 		j0 = p0
 		goto B0
@@ -22563,7 +22310,7 @@ B0:
 	return p0
 }
 
-func (m *memory) f100(p0 uint64, p1 uint64, p2 uint64, p3 uint64) {
+func (m *memory) f104(p0 uint64, p1 uint64, p2 uint64, p3 uint64) {
 	var l4, l5, l6 uint64
 	_, _, _ = l4, l5, l6
 	l5 = m.stackPointer
@@ -22572,7 +22319,7 @@ func (m *memory) f100(p0 uint64, p1 uint64, p2 uint64, p3 uint64) {
 		l6 = m.i64_load(l4)
 		m.i64_store(p3+l6, p1)
 		m.i64_store(l4, l6+8)
-		m.f72(p2, p3)
+		m.f75(p2, p3)
 		m.i64_store(p0+8, m.i64_load(l4))
 		m.i64_store(p0, p3)
 		m.stackPointer = l5
@@ -22582,7 +22329,7 @@ func (m *memory) f100(p0 uint64, p1 uint64, p2 uint64, p3 uint64) {
 Bfunc:
 }
 
-func (m *memory) f101(p0 uint64, p1 uint64, p2 uint64, p3 uint32) {
+func (m *memory) f105(p0 uint64, p1 uint64, p2 uint64, p3 uint32) {
 	var l5, l6, l7 uint32
 	var l4, j0, j1 uint64
 	_, _, _, _, _, _ = l5, l6, l7, l4, j0, j1
@@ -22630,7 +22377,7 @@ func (m *memory) f101(p0 uint64, p1 uint64, p2 uint64, p3 uint32) {
 Bfunc:
 }
 
-func (m *memory) f102(p0 uint64, p1 uint64, p2 uint32) {
+func (m *memory) f106(p0 uint64, p1 uint64, p2 uint32) {
 	var l3 uint64
 	_ = l3
 	l3 = m.stackPointer - 32
@@ -22639,7 +22386,7 @@ func (m *memory) f102(p0 uint64, p1 uint64, p2 uint32) {
 		m.i64_store(l3+24, 0)
 		m.i64_store(l3+16, 0)
 		m.i64_store(l3+8, 0)
-		m.f103(l3+8, p1, p2)
+		m.f107(l3+8, p1, p2)
 		p2 = b32(m.i32_load8_u(l3+8) == 1)
 		m.i64_store(p0+16, select64(p2, m.i64_load(l3+24), 0))
 		m.i64_store(p0+8, select64(p2, m.i64_load(l3+16), 0))
@@ -22651,7 +22398,7 @@ func (m *memory) f102(p0 uint64, p1 uint64, p2 uint32) {
 Bfunc:
 }
 
-func (m *memory) f103(p0 uint64, p1 uint64, p2 uint32) {
+func (m *memory) f107(p0 uint64, p1 uint64, p2 uint32) {
 	var l3, l4, j0, j1 uint64
 	_, _, _, _ = l3, l4, j0, j1
 	j0 = p0
@@ -22691,7 +22438,7 @@ func (m *memory) f103(p0 uint64, p1 uint64, p2 uint32) {
 		if m.i32_load8_u(p1) != 1 {
 			goto B0
 		}
-		l4 = m.i64_load((m.i64_load8_u(p1+1) << 3) + 4611686018427411656)
+		l4 = m.i64_load((m.i64_load8_u(p1+1) << 3) + 4611686018427411664)
 		l3 = 1
 		j1 = 1
 		goto B0
@@ -22700,7 +22447,7 @@ func (m *memory) f103(p0 uint64, p1 uint64, p2 uint32) {
 		if m.i32_load8_u(p1+2) != 1 {
 			goto B0
 		}
-		l4 = m.i64_load((m.i64_load8_u(p1+3) << 3) + 4611686018427411680)
+		l4 = m.i64_load((m.i64_load8_u(p1+3) << 3) + 4611686018427411688)
 		j1 = l4
 		goto B1
 	B15:
@@ -22708,7 +22455,7 @@ func (m *memory) f103(p0 uint64, p1 uint64, p2 uint32) {
 		if m.i32_load8_u(p1+4) != 1 {
 			goto B0
 		}
-		l4 = m.i64_load((m.i64_load8_u(p1+5) << 3) + 4611686018427411704)
+		l4 = m.i64_load((m.i64_load8_u(p1+5) << 3) + 4611686018427411712)
 		j1 = l4
 		goto B1
 	B14:
@@ -22716,7 +22463,7 @@ func (m *memory) f103(p0 uint64, p1 uint64, p2 uint32) {
 		if m.i32_load8_u(p1+6) != 1 {
 			goto B0
 		}
-		l4 = m.i64_load((m.i64_load8_u(p1+7) << 3) + 4611686018427411728)
+		l4 = m.i64_load((m.i64_load8_u(p1+7) << 3) + 4611686018427411736)
 		j1 = l4
 		goto B1
 	B13:
@@ -22724,7 +22471,7 @@ func (m *memory) f103(p0 uint64, p1 uint64, p2 uint32) {
 		if m.i32_load8_u(p1+8) != 1 {
 			goto B0
 		}
-		l4 = m.i64_load((m.i64_load8_u(p1+9) << 3) + 4611686018427411728)
+		l4 = m.i64_load((m.i64_load8_u(p1+9) << 3) + 4611686018427411736)
 		j1 = l4
 		goto B1
 	B12:
@@ -22732,7 +22479,7 @@ func (m *memory) f103(p0 uint64, p1 uint64, p2 uint32) {
 		if m.i32_load8_u(p1+10) != 1 {
 			goto B0
 		}
-		l4 = m.i64_load((m.i64_load8_u(p1+11) << 3) + 4611686018427411728)
+		l4 = m.i64_load((m.i64_load8_u(p1+11) << 3) + 4611686018427411736)
 		j1 = l4
 		goto B1
 	B11:
@@ -22741,8 +22488,8 @@ func (m *memory) f103(p0 uint64, p1 uint64, p2 uint32) {
 			goto B0
 		}
 		p1 = m.i64_load8_u(p1+13) << 3
-		l3 = m.i64_load(p1 + 4611686018427411792)
-		j1 = m.i64_load(p1 + 4611686018427411752)
+		l3 = m.i64_load(p1 + 4611686018427411800)
+		j1 = m.i64_load(p1 + 4611686018427411760)
 		goto B3
 	B10:
 		j1 = 0
@@ -22750,8 +22497,8 @@ func (m *memory) f103(p0 uint64, p1 uint64, p2 uint32) {
 			goto B0
 		}
 		p1 = m.i64_load8_u(p1+15) << 3
-		l3 = m.i64_load(p1 + 4611686018427411872)
-		j1 = m.i64_load(p1 + 4611686018427411832)
+		l3 = m.i64_load(p1 + 4611686018427411880)
+		j1 = m.i64_load(p1 + 4611686018427411840)
 		goto B3
 	B9:
 		j1 = 0
@@ -22759,8 +22506,8 @@ func (m *memory) f103(p0 uint64, p1 uint64, p2 uint32) {
 			goto B0
 		}
 		p1 = m.i64_load8_u(p1+17) << 3
-		l3 = m.i64_load(p1 + 4611686018427411944)
-		j1 = m.i64_load(p1 + 4611686018427411912)
+		l3 = m.i64_load(p1 + 4611686018427411952)
+		j1 = m.i64_load(p1 + 4611686018427411920)
 		goto B3
 	B8:
 		j1 = 0
@@ -22768,8 +22515,8 @@ func (m *memory) f103(p0 uint64, p1 uint64, p2 uint32) {
 			goto B0
 		}
 		p1 = m.i64_load8_u(p1+19) << 3
-		l3 = m.i64_load(p1 + 4611686018427412024)
-		j1 = m.i64_load(p1 + 4611686018427411976)
+		l3 = m.i64_load(p1 + 4611686018427412032)
+		j1 = m.i64_load(p1 + 4611686018427411984)
 		goto B3
 	B7:
 		j1 = 0
@@ -22777,8 +22524,8 @@ func (m *memory) f103(p0 uint64, p1 uint64, p2 uint32) {
 			goto B0
 		}
 		p1 = m.i64_load8_u(p1+21) << 3
-		l3 = m.i64_load(p1 + 4611686018427412112)
-		j1 = m.i64_load(p1 + 4611686018427412072)
+		l3 = m.i64_load(p1 + 4611686018427412120)
+		j1 = m.i64_load(p1 + 4611686018427412080)
 		goto B3
 	B6:
 		j1 = 0
@@ -22786,8 +22533,8 @@ func (m *memory) f103(p0 uint64, p1 uint64, p2 uint32) {
 			goto B0
 		}
 		p1 = m.i64_load8_u(p1+23) << 3
-		l3 = m.i64_load(p1 + 4611686018427412184)
-		j1 = m.i64_load(p1 + 4611686018427412152)
+		l3 = m.i64_load(p1 + 4611686018427412192)
+		j1 = m.i64_load(p1 + 4611686018427412160)
 		goto B3
 	B5:
 		j1 = 0
@@ -22795,8 +22542,8 @@ func (m *memory) f103(p0 uint64, p1 uint64, p2 uint32) {
 			goto B0
 		}
 		p1 = m.i64_load8_u(p1+25) << 3
-		l3 = m.i64_load(p1 + 4611686018427412184)
-		j1 = m.i64_load(p1 + 4611686018427412152)
+		l3 = m.i64_load(p1 + 4611686018427412192)
+		j1 = m.i64_load(p1 + 4611686018427412160)
 		goto B3
 	B4:
 		j1 = 0
@@ -22804,8 +22551,8 @@ func (m *memory) f103(p0 uint64, p1 uint64, p2 uint32) {
 			goto B0
 		}
 		p1 = m.i64_load8_u(p1+27) << 3
-		l3 = m.i64_load(p1 + 4611686018427412184)
-		j1 = m.i64_load(p1 + 4611686018427412152)
+		l3 = m.i64_load(p1 + 4611686018427412192)
+		j1 = m.i64_load(p1 + 4611686018427412160)
 	B3:
 		l4 = j1
 		j1 = 1
@@ -22821,7 +22568,7 @@ B0:
 	m.i64_store(p0+8, l4)
 }
 
-func (m *memory) f104(p0 uint64, p1 uint64, p2 uint64, p3 uint64) uint64 {
+func (m *memory) f108(p0 uint64, p1 uint64, p2 uint64, p3 uint64) uint64 {
 	var l4, j0 uint64
 	_, _ = l4, j0
 	if int64(m.stackPointer) >= 16 {
@@ -22859,7 +22606,7 @@ Bfunc:
 	return j0
 }
 
-func (m *memory) f105(p0 uint64, p1 uint64, p2 uint32) {
+func (m *memory) f109(p0 uint64, p1 uint64, p2 uint32) {
 	var l3 uint64
 	_ = l3
 	l3 = m.stackPointer - 32
@@ -22868,7 +22615,7 @@ func (m *memory) f105(p0 uint64, p1 uint64, p2 uint32) {
 		m.i64_store(l3+24, 0)
 		m.i64_store(l3+16, 0)
 		m.i64_store(l3+8, 0)
-		m.f106(l3+8, p1, p2)
+		m.f110(l3+8, p1, p2)
 		p2 = b32(m.i32_load8_u(l3+8) == 1)
 		m.i64_store(p0+16, select64(p2, m.i64_load(l3+24), 0))
 		m.i64_store(p0+8, select64(p2, m.i64_load(l3+16), 0))
@@ -22880,7 +22627,7 @@ func (m *memory) f105(p0 uint64, p1 uint64, p2 uint32) {
 Bfunc:
 }
 
-func (m *memory) f106(p0 uint64, p1 uint64, p2 uint32) {
+func (m *memory) f110(p0 uint64, p1 uint64, p2 uint32) {
 	var l3, l4 uint64
 	_, _ = l3, l4
 	if int64(m.stackPointer) >= 16 {
@@ -23586,7 +23333,7 @@ func (m *memory) f106(p0 uint64, p1 uint64, p2 uint32) {
 			goto B0
 		}
 	B103:
-		l3 = 4611686018427398554
+		l3 = 4611686018427398558
 		goto B0
 	B102:
 		l3 = 4611686018427387920
@@ -23615,7 +23362,7 @@ func (m *memory) f106(p0 uint64, p1 uint64, p2 uint32) {
 		l3 = 4611686018427389541
 		goto B0
 	B104:
-		l3 = 4611686018427398555
+		l3 = 4611686018427398559
 		goto B0
 	B5:
 		p2 = 1
@@ -23633,7 +23380,7 @@ func (m *memory) f106(p0 uint64, p1 uint64, p2 uint32) {
 			goto B0
 		}
 	B108:
-		l3 = 4611686018427398556
+		l3 = 4611686018427398560
 		goto B0
 	B107:
 		l3 = 4611686018427389540
@@ -23710,7 +23457,7 @@ B0:
 	m.i64_store(p0, uint64(p2))
 }
 
-func (m *memory) f107(p0 uint64, p1 uint64, p2 uint32) {
+func (m *memory) f111(p0 uint64, p1 uint64, p2 uint32) {
 	var l3 uint64
 	_ = l3
 	l3 = m.stackPointer - 32
@@ -23719,7 +23466,7 @@ func (m *memory) f107(p0 uint64, p1 uint64, p2 uint32) {
 		m.i64_store(l3+24, 0)
 		m.i64_store(l3+16, 0)
 		m.i64_store(l3+8, 0)
-		m.f108(l3+8, p1, p2)
+		m.f112(l3+8, p1, p2)
 		p2 = b32(m.i32_load8_u(l3+8) == 1)
 		m.i64_store(p0+16, select64(p2, m.i64_load(l3+24), 0))
 		m.i64_store(p0+8, select64(p2, m.i64_load(l3+16), 0))
@@ -23731,7 +23478,7 @@ func (m *memory) f107(p0 uint64, p1 uint64, p2 uint32) {
 Bfunc:
 }
 
-func (m *memory) f108(p0 uint64, p1 uint64, p2 uint32) {
+func (m *memory) f112(p0 uint64, p1 uint64, p2 uint32) {
 	var l3 uint64
 	_ = l3
 	if int64(m.stackPointer) >= 16 {
@@ -24179,7 +23926,7 @@ B0:
 	m.i64_store(p0, p1)
 }
 
-func (m *memory) f109(p0 uint64, p1 uint64, p2 uint64) {
+func (m *memory) f113(p0 uint64, p1 uint64, p2 uint64) {
 	var l4, l5, i1 uint32
 	var l3, j0 uint64
 	_, _, _, _, _ = l4, l5, i1, l3, j0
@@ -24205,7 +23952,7 @@ func (m *memory) f109(p0 uint64, p1 uint64, p2 uint64) {
 			l5 = b32(p2 != 0)
 			m.i64_store(l3+48, select64(l5, m.i64_load(l3+112), 0))
 			m.i64_store(l3+40, uint64(l5))
-			m.f89(l3-18446744073709551552, l3+40, l3+128)
+			m.f93(l3-18446744073709551552, l3+40, l3+128)
 			j0 = p0
 			if m.i32_load8_u(l3-18446744073709551552) != 0 {
 				i1 = l4
@@ -24235,7 +23982,7 @@ func (m *memory) f109(p0 uint64, p1 uint64, p2 uint64) {
 Bfunc:
 }
 
-func (m *memory) f110(p0 uint64, p1 uint64, p2 uint64, p3 uint64) {
+func (m *memory) f114(p0 uint64, p1 uint64, p2 uint64, p3 uint64) {
 	var l6 uint32
 	var l4, l5, j0, j1 uint64
 	_, _, _, _, _ = l6, l4, l5, j0, j1
@@ -24256,7 +24003,7 @@ func (m *memory) f110(p0 uint64, p1 uint64, p2 uint64, p3 uint64) {
 			l6 = b32(p3 != 0)
 			m.i64_store(l4+80, select64(l6, m.i64_load(l4+176), 0))
 			m.i64_store(l4+72, uint64(l6))
-			m.f93(l4+96, l4+72, l4+192)
+			m.f97(l4+96, l4+72, l4+192)
 			j0 = p0
 			if m.i32_load8_u(l4+96) != 0 {
 				j1 = l5
@@ -24277,7 +24024,7 @@ func (m *memory) f110(p0 uint64, p1 uint64, p2 uint64, p3 uint64) {
 Bfunc:
 }
 
-func (m *memory) f111(p0 uint64, p1 uint64, p2 uint32) {
+func (m *memory) f115(p0 uint64, p1 uint64, p2 uint32) {
 	var l18, l19, l20, l21 uint32
 	var l3, l4, l5, l6, l7, l8, l9, l10, l11, l12, l13, l14, l15, l16, l17 uint64
 	_, _, _, _, _, _, _, _, _, _, _, _, _, _, _, _, _, _, _ = l18, l19, l20, l21, l3, l4, l5, l6, l7, l8, l9, l10, l11, l12, l13, l14, l15, l16, l17
@@ -24287,7 +24034,7 @@ func (m *memory) f111(p0 uint64, p1 uint64, p2 uint32) {
 		m.i32_store8(l3+254, 0)
 		m.i32_store16(l3+252, 0)
 		m.memory_fill(l3+72, 0, 176)
-		m.f112(l3+252, p1)
+		m.f116(l3+252, p1)
 		l19 = m.i32_load8_u(l3 + 254)
 		l20 = m.i32_load8_u(l3 + 253)
 		l21 = m.i32_load8_u(l3 + 252)
@@ -24303,7 +24050,7 @@ func (m *memory) f111(p0 uint64, p1 uint64, p2 uint32) {
 		l14 = m.i64_load(l3 + 264)
 		l15 = m.i64_load(l3 + 256)
 		m.f56(l3+72, p1)
-		m.f77(l3+48, l3+72)
+		m.f81(l3+48, l3+72)
 		l4 = m.i64_load(l3 + 56)
 		l10 = m.i64_load(l3 + 48)
 		p1 = select64(b32(l4 != 0), uint64(bits.LeadingZeros64(l4)), uint64(bits.LeadingZeros64(l10))-18446744073709551552)
@@ -24375,7 +24122,7 @@ B0:
 	m.stackPointer = l3 + 432
 }
 
-func (m *memory) f112(p0 uint64, p1 uint64) {
+func (m *memory) f116(p0 uint64, p1 uint64) {
 	var l5 uint32
 	var l2, l3, l4, j0, j1, j2 uint64
 	_, _, _, _, _, _, _ = l5, l2, l3, l4, j0, j1, j2
@@ -24423,7 +24170,7 @@ func (m *memory) f112(p0 uint64, p1 uint64) {
 Bfunc:
 }
 
-func (m *memory) f113(p0 uint64, p1 uint64) {
+func (m *memory) f117(p0 uint64, p1 uint64) {
 	var l4, l5, l6, l7, i0, i1 uint32
 	var l2, l3 uint64
 	_, _, _, _, _, _, _, _ = l4, l5, l6, l7, i0, i1, l2, l3
@@ -24478,15 +24225,15 @@ func (m *memory) f113(p0 uint64, p1 uint64) {
 		m.i32_store8(l2+36, l6)
 		m.i32_store8(l2+35, 1)
 		m.i32_store8(l2+34, l4)
-		m.f114(l2+40, p1, l2+34)
+		m.f118(l2+40, p1, l2+34)
 		goto B1
 	B4:
-		m.f115(l2+28, p1+8)
-		m.f114(l2+40, p1, l2+28)
+		m.f119(l2+28, p1+8)
+		m.f118(l2+40, p1, l2+28)
 		goto B1
 	B3:
-		m.f115(l2+20, p1+8)
-		m.f114(l2+40, p1, l2+20)
+		m.f119(l2+20, p1+8)
+		m.f118(l2+40, p1, l2+20)
 		goto B1
 	B2:
 		m.i64_store(l2+63, 0)
@@ -24572,7 +24319,7 @@ func (m *memory) f113(p0 uint64, p1 uint64) {
 		m.i32_store8(l2+19, l4)
 		m.i32_store(l2+15, 0)
 		m.i32_store8(l2+14, l5)
-		m.f114(l2+40, p1, l2+14)
+		m.f118(l2+40, p1, l2+14)
 	B1:
 		m.i64_store(p0+6, m.i64_load(l2+46))
 		m.i64_store(p0, m.i64_load(l2+40))
@@ -24583,7 +24330,7 @@ func (m *memory) f113(p0 uint64, p1 uint64) {
 Bfunc:
 }
 
-func (m *memory) f114(p0 uint64, p1 uint64, p2 uint64) {
+func (m *memory) f118(p0 uint64, p1 uint64, p2 uint64) {
 	var l3, l4, l5, l6, l7, l8, l9, l10, l11, l12, l13, l14, l15, i0 uint32
 	var l16 uint64
 	_, _, _, _, _, _, _, _, _, _, _, _, _, _, _ = l3, l4, l5, l6, l7, l8, l9, l10, l11, l12, l13, l14, l15, i0, l16
@@ -24596,18 +24343,18 @@ func (m *memory) f114(p0 uint64, p1 uint64, p2 uint64) {
 		l11 = m.i32_load8_u(p2 + 1)
 		l12 = m.i32_load8_u(p2)
 		l15 = m.i32_load8_u(p2 + 5)
-		i0 = m.f116(p1, l15)
+		i0 = m.f120(p1, l15)
 		l5 = i0
-		i0 = m.f116(p1, l12)
+		i0 = m.f120(p1, l12)
 		l6 = i0
 		if l11 == 1 {
-			i0 = m.f116(p1, l4)
+			i0 = m.f120(p1, l4)
 			l13 = i0 & 255
 			l8 = l4
 			i0 = l8
 		}
 		if (l10 & 255) == 1 {
-			i0 = m.f116(p1, l3)
+			i0 = m.f120(p1, l3)
 			l14 = i0 & 255
 			l7 = l3
 			i0 = l7
@@ -24678,7 +24425,7 @@ func (m *memory) f114(p0 uint64, p1 uint64, p2 uint64) {
 Bfunc:
 }
 
-func (m *memory) f115(p0 uint64, p1 uint64) {
+func (m *memory) f119(p0 uint64, p1 uint64) {
 	var l3, l4, l5, l6, i0 uint32
 	var l2 uint64
 	_, _, _, _, _, _ = l3, l4, l5, l6, i0, l2
@@ -24687,7 +24434,7 @@ func (m *memory) f115(p0 uint64, p1 uint64) {
 	if int64(l2) >= 16 {
 		m.i32_store8(l2+14, 0)
 		m.i32_store16(l2+12, 0)
-		m.f112(l2+12, p1)
+		m.f116(l2+12, p1)
 		l4 = m.i32_load8_u(l2 + 14)
 		l5 = m.i32_load8_u(l2 + 13)
 		l6 = m.i32_load8_u(l2 + 12)
@@ -24722,7 +24469,7 @@ func (m *memory) f115(p0 uint64, p1 uint64) {
 Bfunc:
 }
 
-func (m *memory) f116(p0 uint64, p1 uint32) uint32 {
+func (m *memory) f120(p0 uint64, p1 uint32) uint32 {
 	var l2, i0 uint32
 	_, _ = l2, i0
 	if int64(m.stackPointer) >= 16 {
@@ -24749,115 +24496,7 @@ Bfunc:
 	return i0
 }
 
-func (m *memory) f117(p0 uint64, p1 uint64, p2 uint64, p3 uint64) {
-	var l9, i0 uint32
-	var l4, l5, l6, l7, l8 uint64
-	_, _, _, _, _, _, _ = l9, i0, l4, l5, l6, l7, l8
-	l8 = m.stackPointer
-	if int64(l8) >= 16 {
-		if m.i32_load8_u(p3) != 1 {
-			l9 = 2
-			i0 = l9
-			goto B0
-		}
-		l6 = 4611686018427397840
-		if p2 == 0 {
-			goto B0
-		}
-		l5 = m.i64_load(p3 + 8)
-		p3 = m.i64_load(p3 + 16)
-		if p3 >= 4 {
-			goto B2
-		}
-		if p3 == 0 {
-		L6:
-			if m.i64_load(p1+8) == 0 {
-				goto B1
-			}
-			p1 = p1 + 32
-			p2 = p2 - 1
-			if b32(p2 == 0) == 0 {
-				goto L6
-			}
-			goto B0
-		}
-	L7:
-		if m.i64_load(p1+8) == p3 {
-			l4 = 0
-			l7 = m.i64_load(p1)
-			if m.i32_load8_u(l7) != m.i32_load8_u(l5) {
-				goto B9
-			}
-			l4 = 1
-			if p3 == 1 {
-				goto B1
-			}
-			if m.i32_load8_u(l7+1) != m.i32_load8_u(l5+1) {
-				goto B9
-			}
-			l4 = 2
-			if p3 == 2 {
-				goto B1
-			}
-			if m.i32_load8_u(l7+2) == m.i32_load8_u(l5+2) {
-				goto B1
-			}
-		B9:
-			if p3 <= l4 {
-				goto B1
-			}
-		}
-		p1 = p1 + 32
-		p2 = p2 - 1
-		if b32(p2 == 0) == 0 {
-			goto L7
-		}
-		l4 = 0
-		goto B0
-	}
-	panic("cvss: unreachable")
-B2:
-L10:
-	if m.i64_load(p1+8) != p3 {
-		goto B11
-	}
-	l4 = m.i64_load(p1)
-	if m.i32_load8_u(l4) != m.i32_load8_u(l5) {
-		goto B11
-	}
-	if (m.i32_load8_u(l4+1) & 255) != (m.i32_load8_u(l5+1) & 255) {
-		goto B11
-	}
-	if (m.i32_load8_u(l4+2) & 255) != (m.i32_load8_u(l5+2) & 255) {
-		goto B11
-	}
-	if (m.i32_load8_u(l4+3) & 255) != (m.i32_load8_u(l5+3) & 255) {
-		goto B11
-	}
-	i0 = m.f26(l4, p3, l5)
-	if i0 != 0 {
-		goto B1
-	}
-B11:
-	p1 = p1 + 32
-	l4 = 0
-	p2 = p2 - 1
-	if p2 != 0 {
-		goto L10
-	}
-	goto B0
-B1:
-	l6 = m.i64_load(p1 + 16)
-	l4 = m.i64_load(p1 + 24)
-B0:
-	m.i32_store8(p0, l9)
-	m.i64_store(p0+16, l4)
-	m.i64_store(p0+8, l6)
-	m.i32_store8(p0+1, 0)
-	m.stackPointer = l8
-}
-
-func (m *memory) f118(p0 uint64, p1 uint64, p2 uint32, p3 uint64, p4 uint64, p5 uint64, p6 uint64) uint64 {
+func (m *memory) f121(p0 uint64, p1 uint64, p2 uint32, p3 uint64, p4 uint64, p5 uint64, p6 uint64) uint64 {
 	var l8, i0, i1 uint32
 	var l7, j0 uint64
 	_, _, _, _, _ = l8, i0, i1, l7, j0
@@ -24874,7 +24513,7 @@ func (m *memory) f118(p0 uint64, p1 uint64, p2 uint32, p3 uint64, p4 uint64, p5 
 			m.memory_copy((l7+248)|1, l7+169, 79)
 			i1 = m.f39(l7 + 248)
 			p2 = i1
-			i0 = m.f116(l7+248, p2)
+			i0 = m.f120(l7+248, p2)
 			l8 = i0
 			m.i64_store(l7+440, 0)
 			m.i64_store(l7+432, p4)
@@ -24882,23 +24521,23 @@ func (m *memory) f118(p0 uint64, p1 uint64, p2 uint32, p3 uint64, p4 uint64, p5 
 			m.i64_store(l7+416, 0)
 			m.i64_store(l7+392, 0)
 			m.i64_store(l7+384, 1)
-			m.i64_store(l7+376, 4611686018427407601)
+			m.i64_store(l7+376, 4611686018427407609)
 			m.i64_store(l7+368, 0)
 			m.i64_store(l7+344, 0)
 			m.i64_store(l7+336, 1)
-			m.i64_store(l7+328, 4611686018427407601)
+			m.i64_store(l7+328, 4611686018427407609)
 			p4 = uint64(l8&255) << 3
-			m.i64_store(l7+408, m.i64_load(p4+4611686018427412216))
-			m.i64_store(l7+400, m.i64_load(p4+4611686018427412256))
+			m.i64_store(l7+408, m.i64_load(p4+4611686018427412224))
+			m.i64_store(l7+400, m.i64_load(p4+4611686018427412264))
 			p4 = (uint64(p2) & 255) << 4
-			m.i64_store(l7+360, m.i64_load(p4+4611686018427407616))
-			m.i64_store(l7+352, m.i64_load(p4+4611686018427407608))
-			j0 = m.f83(l7+328, 5, p1, p5, p6)
+			m.i64_store(l7+360, m.i64_load(p4+4611686018427407624))
+			m.i64_store(l7+352, m.i64_load(p4+4611686018427407616))
+			j0 = m.f87(l7+328, 5, p1, p5, p6)
 			p1 = j0
 			if p1 > p6 {
 				goto B1
 			}
-			j0 = m.f99(l7+248, p5, p6)
+			j0 = m.f103(l7+248, p5, p6)
 			goto B1
 		}
 		m.i32_store8(l7+10, m.i32_load8_u(l7+178))
@@ -24907,8 +24546,8 @@ func (m *memory) f118(p0 uint64, p1 uint64, p2 uint32, p3 uint64, p4 uint64, p5 
 		m.i64_store(l7+16, m.i64_load(l7+184))
 		m.i64_store(l7+24, m.i64_load(l7+192))
 		m.i64_store(l7+32, m.i64_load(l7+200))
-		m.f80(l7+40, l7)
-		j0 = m.f81(4611686018427407594, 7, l7+40, p3, p4, p5, p6)
+		m.f84(l7+40, l7)
+		j0 = m.f85(4611686018427407602, 7, l7+40, p3, p4, p5, p6)
 		p1 = j0
 		j0 = p1
 	B1:
@@ -24921,7 +24560,7 @@ Bfunc:
 	return j0
 }
 
-func (m *memory) f119(p0 uint64, p1 uint64, p2 uint32) {
+func (m *memory) f122(p0 uint64, p1 uint64, p2 uint32) {
 	var i1 uint32
 	var l3, l4, j0 uint64
 	_, _, _, _ = i1, l3, l4, j0
@@ -24931,7 +24570,7 @@ func (m *memory) f119(p0 uint64, p1 uint64, p2 uint32) {
 		m.i64_store(l3+16, 0)
 		m.i64_store(l3+8, 0)
 		m.i64_store(l3, 0)
-		m.f102(l3, p1, p2)
+		m.f106(l3, p1, p2)
 		j0 = p0
 		i1 = 0
 		if m.i32_load8_u(l3) != 1 {
@@ -24944,7 +24583,7 @@ func (m *memory) f119(p0 uint64, p1 uint64, p2 uint32) {
 			goto B1
 		}
 		m.i64_store(l3+24, 0)
-		m.f78(p1, select64(b32(p0 < 8), p0, 8), l3+24, 8)
+		m.f82(p1, select64(b32(p0 < 8), p0, 8), l3+24, 8)
 		p1 = m.i64_load(l3 + 24)
 		l4 = p1 & 18446744073709551360
 		i1 = uint32(p1)
@@ -24957,7 +24596,7 @@ func (m *memory) f119(p0 uint64, p1 uint64, p2 uint32) {
 Bfunc:
 }
 
-func (m *memory) f120(p0 uint64, p1 uint64, p2 uint32) {
+func (m *memory) f123(p0 uint64, p1 uint64, p2 uint32) {
 	var i1 uint32
 	var l3, l4, j0 uint64
 	_, _, _, _ = i1, l3, l4, j0
@@ -24967,7 +24606,7 @@ func (m *memory) f120(p0 uint64, p1 uint64, p2 uint32) {
 		m.i64_store(l3+16, 0)
 		m.i64_store(l3+8, 0)
 		m.i64_store(l3, 0)
-		m.f105(l3, p1, p2)
+		m.f109(l3, p1, p2)
 		j0 = p0
 		i1 = 0
 		if m.i32_load8_u(l3) != 1 {
@@ -24980,7 +24619,7 @@ func (m *memory) f120(p0 uint64, p1 uint64, p2 uint32) {
 			goto B1
 		}
 		m.i64_store(l3+24, 0)
-		m.f78(p1, select64(b32(p0 < 8), p0, 8), l3+24, 8)
+		m.f82(p1, select64(b32(p0 < 8), p0, 8), l3+24, 8)
 		p1 = m.i64_load(l3 + 24)
 		l4 = p1 & 18446744073709551360
 		i1 = uint32(p1)
@@ -24993,7 +24632,7 @@ func (m *memory) f120(p0 uint64, p1 uint64, p2 uint32) {
 Bfunc:
 }
 
-func (m *memory) f121(p0 uint64, p1 uint64, p2 uint32) {
+func (m *memory) f124(p0 uint64, p1 uint64, p2 uint32) {
 	var i1 uint32
 	var l3, l4, j0 uint64
 	_, _, _, _ = i1, l3, l4, j0
@@ -25003,7 +24642,7 @@ func (m *memory) f121(p0 uint64, p1 uint64, p2 uint32) {
 		m.i64_store(l3+16, 0)
 		m.i64_store(l3+8, 0)
 		m.i64_store(l3, 0)
-		m.f107(l3, p1, p2)
+		m.f111(l3, p1, p2)
 		j0 = p0
 		i1 = 0
 		if m.i32_load8_u(l3) != 1 {
@@ -25016,7 +24655,7 @@ func (m *memory) f121(p0 uint64, p1 uint64, p2 uint32) {
 			goto B1
 		}
 		m.i64_store(l3+24, 0)
-		m.f78(p1, select64(b32(p0 < 8), p0, 8), l3+24, 8)
+		m.f82(p1, select64(b32(p0 < 8), p0, 8), l3+24, 8)
 		p1 = m.i64_load(l3 + 24)
 		l4 = p1 & 18446744073709551360
 		i1 = uint32(p1)
@@ -25029,7 +24668,7 @@ func (m *memory) f121(p0 uint64, p1 uint64, p2 uint32) {
 Bfunc:
 }
 
-func (m *memory) f122(p0 uint64, p1 uint64, p2 uint64) {
+func (m *memory) f125(p0 uint64, p1 uint64, p2 uint64) {
 	var l3 uint64
 	_ = l3
 	if int64(m.stackPointer) >= 16 {
@@ -25057,7 +24696,7 @@ func (m *memory) f122(p0 uint64, p1 uint64, p2 uint64) {
 Bfunc:
 }
 
-func (m *memory) f123(p0 uint64, p1 uint64, p2 uint64, p3 uint64) {
+func (m *memory) f126(p0 uint64, p1 uint64, p2 uint64, p3 uint64) {
 	var l9, i0 uint32
 	var l4, l5, l6, l7, l8 uint64
 	_, _, _, _, _, _, _ = l9, i0, l4, l5, l6, l7, l8
@@ -25083,7 +24722,7 @@ func (m *memory) f123(p0 uint64, p1 uint64, p2 uint64, p3 uint64) {
 		m.i64_store(l4+56, 0)
 		m.i64_store(l4-18446744073709551552, 0)
 		l9 = m.i32_load8_u(p1 + 4611686018427389575)
-		m.f103(l4+96, p2, l9)
+		m.f107(l4+96, p2, l9)
 		if m.i32_load8_u(l4+96) != 1 {
 			goto B2
 		}
@@ -25092,15 +24731,15 @@ func (m *memory) f123(p0 uint64, p1 uint64, p2 uint64, p3 uint64) {
 		l8 = m.i64_load(l4 + 104)
 		m.i64_store(l4+80, l8)
 		m.i64_store(l4+72, 1)
-		i0 = m.f124(l4+72, l4+120)
+		i0 = m.f127(l4+72, l4+120)
 		if i0 == 0 {
 			goto B2
 		}
-		m.f103(l4+48, l4+16, l9)
+		m.f107(l4+48, l4+16, l9)
 		if m.i32_load8_u(l4+48) == 1 {
 			goto B2
 		}
-		m.f91(l4+8, l4+16, l9, l8, l7)
+		m.f95(l4+8, l4+16, l9, l8, l7)
 	B2:
 		p1 = p1 + 1
 		if p1 != 0 {
@@ -25117,7 +24756,7 @@ func (m *memory) f123(p0 uint64, p1 uint64, p2 uint64, p3 uint64) {
 Bfunc:
 }
 
-func (m *memory) f124(p0 uint64, p1 uint64) uint32 {
+func (m *memory) f127(p0 uint64, p1 uint64) uint32 {
 	var l4, l5, i0 uint32
 	var l2, l3, j0 uint64
 	_, _, _, _, _, _ = l4, l5, i0, l2, l3, j0
@@ -25191,7 +24830,7 @@ Bfunc:
 	return i0
 }
 
-func (m *memory) f125(p0 uint64, p1 uint64, p2 uint64, p3 uint64, p4 uint64, p5 uint64) {
+func (m *memory) f128(p0 uint64, p1 uint64, p2 uint64, p3 uint64, p4 uint64, p5 uint64) {
 	var l12, l13, l14, l15 uint32
 	var l6, l7, l8, l9, l10, l11, j0 uint64
 	_, _, _, _, _, _, _, _, _, _, _ = l12, l13, l14, l15, l6, l7, l8, l9, l10, l11, j0
@@ -25217,11 +24856,11 @@ func (m *memory) f125(p0 uint64, p1 uint64, p2 uint64, p3 uint64, p4 uint64, p5 
 		l12 = b32(p5 != 0)
 		m.i64_store(l6+168, select64(l12, p4, 0))
 		m.i64_store(l6+160, uint64(l12))
-		m.f93(l6+184, l6+160, l6+256)
+		m.f97(l6+184, l6+160, l6+256)
 		l11 = m.i64_load8_u(l6 + 184)
 		if l11 == 0 {
 			m.i64_store(l6+72, 0)
-			m.f126(l6+96, l6+192, p1, l6+72)
+			m.f129(l6+96, l6+192, p1, l6+72)
 			l7 = m.i64_load(l6 + 152)
 			m.i64_store(l6-18446744073709551552, l7)
 			l9 = m.i64_load(l6 + 144)
@@ -25308,7 +24947,7 @@ func (m *memory) f125(p0 uint64, p1 uint64, p2 uint64, p3 uint64, p4 uint64, p5 
 Bfunc:
 }
 
-func (m *memory) f126(p0 uint64, p1 uint64, p2 uint64, p3 uint64) {
+func (m *memory) f129(p0 uint64, p1 uint64, p2 uint64, p3 uint64) {
 	var l9, i0 uint32
 	var l4, l5, l6, l7, l8 uint64
 	_, _, _, _, _, _, _ = l9, i0, l4, l5, l6, l7, l8
@@ -25331,7 +24970,7 @@ func (m *memory) f126(p0 uint64, p1 uint64, p2 uint64, p3 uint64) {
 		m.i64_store(l4+88, 0)
 		m.i64_store(l4+96, 0)
 		l9 = m.i32_load8_u(p3 + 4611686018427392166)
-		m.f108(l4+128, p2, l9)
+		m.f112(l4+128, p2, l9)
 		if m.i32_load8_u(l4+128) != 1 {
 			goto B2
 		}
@@ -25340,15 +24979,15 @@ func (m *memory) f126(p0 uint64, p1 uint64, p2 uint64, p3 uint64) {
 		l8 = m.i64_load(l4 + 136)
 		m.i64_store(l4+112, l8)
 		m.i64_store(l4+104, 1)
-		i0 = m.f124(l4+104, l4+152)
+		i0 = m.f127(l4+104, l4+152)
 		if i0 == 0 {
 			goto B2
 		}
-		m.f108(l4+80, l4+16, l9)
+		m.f112(l4+80, l4+16, l9)
 		if m.i32_load8_u(l4+80) == 1 {
 			goto B2
 		}
-		m.f94(l4+8, l4+16, l9, l8, l7)
+		m.f98(l4+8, l4+16, l9, l8, l7)
 	B2:
 		p3 = p3 + 1
 		if p3 != 0 {
@@ -25362,7 +25001,7 @@ func (m *memory) f126(p0 uint64, p1 uint64, p2 uint64, p3 uint64) {
 Bfunc:
 }
 
-func (m *memory) f127(p0 uint64, p1 uint64, p2 uint64, p3 uint64) {
+func (m *memory) f130(p0 uint64, p1 uint64, p2 uint64, p3 uint64) {
 	var l9, i0 uint32
 	var l4, l5, l6, l7, l8 uint64
 	_, _, _, _, _, _, _ = l9, i0, l4, l5, l6, l7, l8
@@ -25385,7 +25024,7 @@ func (m *memory) f127(p0 uint64, p1 uint64, p2 uint64, p3 uint64) {
 		m.i64_store(l4+88, 0)
 		m.i64_store(l4+96, 0)
 		l9 = m.i32_load8_u(p3 + 4611686018427397872)
-		m.f106(l4+128, p2, l9)
+		m.f110(l4+128, p2, l9)
 		if m.i32_load8_u(l4+128) != 1 {
 			goto B2
 		}
@@ -25394,15 +25033,15 @@ func (m *memory) f127(p0 uint64, p1 uint64, p2 uint64, p3 uint64) {
 		l8 = m.i64_load(l4 + 136)
 		m.i64_store(l4+112, l8)
 		m.i64_store(l4+104, 1)
-		i0 = m.f124(l4+104, l4+152)
+		i0 = m.f127(l4+104, l4+152)
 		if i0 == 0 {
 			goto B2
 		}
-		m.f106(l4+80, l4+8, l9)
+		m.f110(l4+80, l4+8, l9)
 		if m.i32_load8_u(l4+80) == 1 {
 			goto B2
 		}
-		m.f96(l4, l4+8, l9, l8, l7)
+		m.f100(l4, l4+8, l9, l8, l7)
 	B2:
 		p3 = p3 + 1
 		if p3 != 0 {
@@ -25416,7 +25055,7 @@ func (m *memory) f127(p0 uint64, p1 uint64, p2 uint64, p3 uint64) {
 Bfunc:
 }
 
-func (m *memory) f128(p0 uint64, p1 uint64, p2 uint64) {
+func (m *memory) f131(p0 uint64, p1 uint64, p2 uint64) {
 	var l3, l4 uint64
 	_, _ = l3, l4
 	l3 = m.stackPointer - 176
@@ -25428,7 +25067,7 @@ func (m *memory) f128(p0 uint64, p1 uint64, p2 uint64) {
 		m.i64_store(l3+168, 0)
 		m.i64_store(l3+160, 0)
 		m.i64_store(l3+152, 0)
-		m.f108(l3+152, p1, m.i32_load8_u(l4+4611686018427392166))
+		m.f112(l3+152, p1, m.i32_load8_u(l4+4611686018427392166))
 		if m.i32_load8_u(l3+152) == 1 {
 			if m.i64_load(l3+168) != 1 {
 				goto B2
@@ -25449,7 +25088,7 @@ func (m *memory) f128(p0 uint64, p1 uint64, p2 uint64) {
 		m.i64_store(l3+16, 1)
 		m.i64_store(l3+8, 4611686018427397872)
 		m.i64_store(l3, 1)
-		m.f126(l3+88, l3+24, p1, l3)
+		m.f129(l3+88, l3+24, p1, l3)
 		m.memory_copy(p0, l3+88, 64)
 	B1:
 		m.stackPointer = l3 + 176
@@ -25474,7 +25113,6 @@ func (m *memory) cvss_explain(p0 uint64, p1 uint64, p2 uint32, p3 uint64, p4 uin
 	}
 	p4 = p4 + select64(b32(p4 == 0), 4096, 0)
 	m.memory_fill(l6+4552, 0, 80)
-	m.memory_fill(l6+448, 0, 4104)
 	m.memory_fill(l6+360, 0, 88)
 	m.memory_fill(l6+312, 0, 48)
 	m.f21(l6+360, p0+select64(b32(p0 == 0), 4096, 0), p1, p2)
@@ -25498,13 +25136,13 @@ func (m *memory) cvss_explain(p0 uint64, p1 uint64, p2 uint32, p3 uint64, p4 uin
 		}
 	B8:
 		m.memory_fill(l6+6728, 0, 112)
-		m.i64_store(l6+5256, 0)
-		m.i64_store(l6+5248, 0)
-		m.i64_store(l6+5240, 0)
-		m.i64_store(l6+5232, 0)
+		m.memory_fill(l6+5168, 0, 96)
 		m.memory_fill(l6+5592, 0, 504)
-		m.i32_store16(l6+4780, 0)
-		m.i32_store(l6+4776, 0)
+		m.i64_store(l6+4790, 0)
+		m.i64_store(l6+4784, 0)
+		m.i64_store(l6+4776, 0)
+		m.i32_store(l6+4864, 0)
+		m.i32_store(l6+4867, 0)
 		m.i64_store(l6+4844, 0)
 		m.i32_store(l6+4851, 0)
 		m.f47(l6+6728, p0)
@@ -25625,9 +25263,9 @@ func (m *memory) cvss_explain(p0 uint64, p1 uint64, p2 uint32, p3 uint64, p4 uin
 		m.i64_store(l6+5064, l13)
 		m.i32_store(l6+5076, 0)
 		m.i32_store(l6+5073, 0)
-		m.i64_store8(l6+5081, select64(b32(int64(p1) > 0), p1, 0))
-		m.i32_store8(l6+5080, 1)
-		m.i64_store(l6+5082, 0)
+		m.i64_store8(l6+5082, select64(b32(int64(p1) > 0), p1, 0))
+		m.i32_store16(l6+5080, 2)
+		m.i64_store(l6+5083, 0)
 		m.i64_store(l6+5088, 0)
 		m.i32_store8(l6+5096, 4)
 		m.i64_store(l6+5097, 0)
@@ -25636,8 +25274,8 @@ func (m *memory) cvss_explain(p0 uint64, p1 uint64, p2 uint32, p3 uint64, p4 uin
 		m.i32_store8(l6+5120, 6)
 		m.i32_store(l6+5121, 0)
 		m.i32_store(l6+5124, 0)
-		m.i32_store8(l6+5128, 1)
-		m.i64_store(l6+5130, 0)
+		m.i32_store16(l6+5128, 2)
+		m.i64_store(l6+5131, 0)
 		m.i64_store(l6+5136, 0)
 		m.i32_store8(l6+5144, 12)
 		m.i64_store(l6+5152, 0)
@@ -25652,7 +25290,7 @@ func (m *memory) cvss_explain(p0 uint64, p1 uint64, p2 uint32, p3 uint64, p4 uin
 		l7 = (((j2 + uint64(b32(p1 < l7))) << 5) | (p1 >> 59)) + 867361728
 		j2 = l7
 		l7 = l7 / 1220703125
-		m.i32_store8(l6+5129, select32(b32(int64(l8) < -10000), 0, uint32((((((j2-(l7*1220703125))<<32)|((p1>>27)&4294967295))/1220703125)+(l7<<32))/6103515625)))
+		m.i32_store8(l6+5130, select32(b32(int64(l8) < -10000), 0, uint32((((((j2-(l7*1220703125))<<32)|((p1>>27)&4294967295))/1220703125)+(l7<<32))/6103515625)))
 		m.i32_store8(l6+5168, 13)
 		m.i64_store(l6+5160, l19)
 		m.i64_store(l6+5169, 0)
@@ -25669,7 +25307,7 @@ func (m *memory) cvss_explain(p0 uint64, p1 uint64, p2 uint32, p3 uint64, p4 uin
 		m.i64_store(l6+5232, l21*((l10*l18)+l11))
 		m.i32_store(l6+5241, 0)
 		m.i32_store(l6+5244, 0)
-		m.i32_store8(l6+5248, 1)
+		m.i32_store16(l6+5248, 2)
 		p1 = m.i64_load(l6 + 32)
 		l8 = p1 + 1864712049423024128
 		l10 = (m.i64_load(l6+40) + uint64(b32(l8 < p1))) + 542
@@ -25680,9 +25318,9 @@ func (m *memory) cvss_explain(p0 uint64, p1 uint64, p2 uint32, p3 uint64, p4 uin
 		l8 = (((j2 + uint64(b32(p1 < l8))) << 5) | (p1 >> 59)) + 867361728
 		j2 = l8
 		l8 = l8 / 1220703125
-		m.i32_store8(l6+5249, select32(l39, 0, uint32((((((j2-(l8*1220703125))<<32)|((p1>>27)&4294967295))/1220703125)+(l8<<32))/6103515625)))
+		m.i32_store8(l6+5250, select32(l39, 0, uint32((((((j2-(l8*1220703125))<<32)|((p1>>27)&4294967295))/1220703125)+(l8<<32))/6103515625)))
 		m.i64_store(l6+5256, 0)
-		m.i64_store(l6+5250, 0)
+		m.i64_store(l6+5251, 0)
 		m.i64_store(l6+4790, 0)
 		m.i64_store(l6+4782, 0)
 		m.i32_store(l6+4840, m.i32_load(p0+24))
@@ -25725,11 +25363,9 @@ func (m *memory) cvss_explain(p0 uint64, p1 uint64, p2 uint32, p3 uint64, p4 uin
 		m.i64_store(l6+5794, m.i64_load(l6+4784))
 		m.i64_store(l6+5800, m.i64_load(l6+4790))
 		m.memory_fill(l6+5834, 0, 38)
-		m.i32_store(l6+5889, 0)
 		m.i32_store8(l6+5888, 6)
 		m.i64_store(l6+5880, 8)
 		m.i64_store(l6+5872, 4611686018427398417)
-		m.i32_store(l6+5892, 0)
 		m.i32_store8(l6+5944, 4)
 		m.i64_store(l6+5936, 6)
 		m.i64_store(l6+5928, 4611686018427398464)
@@ -25737,6 +25373,8 @@ func (m *memory) cvss_explain(p0 uint64, p1 uint64, p2 uint32, p3 uint64, p4 uin
 		m.i64_store(l6+5912, 4611686018427398432)
 		m.i64_store(l6+5904, 2)
 		m.i64_store(l6+5896, l6+5096)
+		m.i32_store(l6+5889, m.i32_load(l6+4864))
+		m.i32_store(l6+5892, m.i32_load(l6+4867))
 		m.memory_fill(l6+5945, 0, 39)
 		m.i32_store8(l6+6000, 5)
 		m.i64_store(l6+5992, 7)
@@ -25779,7 +25417,7 @@ func (m *memory) cvss_explain(p0 uint64, p1 uint64, p2 uint32, p3 uint64, p4 uin
 		m.i64_store(l6+4950, 0)
 		m.i64_store(l6+4944, 0)
 		m.i64_store(l6+4936, 0)
-		m.memory_fill(l6+4866, 0, 38)
+		m.memory_fill(l6+4864, 0, 38)
 		m.i32_store(l6+4635, 0)
 		m.i32_store(l6+4632, 0)
 		m.i64_store(l6+4904, 0)
@@ -25970,7 +25608,7 @@ func (m *memory) cvss_explain(p0 uint64, p1 uint64, p2 uint32, p3 uint64, p4 uin
 		m.i32_store8(l6+4997, l39)
 		m.i32_store(l6+5088, l42)
 		m.i32_store(l6+5084, l41)
-		i0 = m.f76(l9)
+		i0 = m.f80(l9)
 		l40 = i0
 		m.i64_store(l6+4942, 0)
 		m.i64_store(l6+4950, 0)
@@ -25978,7 +25616,7 @@ func (m *memory) cvss_explain(p0 uint64, p1 uint64, p2 uint32, p3 uint64, p4 uin
 		m.i64_store(l6+4918, 0)
 		m.i32_store8(l6+5608, 9)
 		m.i64_store(l6+5600, 9)
-		m.i64_store(l6+5592, 4611686018427398822)
+		m.i64_store(l6+5592, 4611686018427398832)
 		m.i64_store(l6+4823, m.i64_load(l6+4735))
 		m.i64_store(l6+4816, m.i64_load(l6+4728))
 		m.i32_store(l6+4776, m.i32_load(l6+4743))
@@ -25986,7 +25624,7 @@ func (m *memory) cvss_explain(p0 uint64, p1 uint64, p2 uint32, p3 uint64, p4 uin
 		m.memory_copy(l6+5609, l6+4816, 39)
 		m.i32_store8(l6+5664, 10)
 		m.i64_store(l6+5656, 6)
-		m.i64_store(l6+5648, 4611686018427398831)
+		m.i64_store(l6+5648, 4611686018427398841)
 		m.i32_store8(l6+5720, 2)
 		m.i64_store(l6+5712, 4)
 		m.i64_store(l6+5704, 4611686018427398400)
@@ -26000,7 +25638,7 @@ func (m *memory) cvss_explain(p0 uint64, p1 uint64, p2 uint32, p3 uint64, p4 uin
 		m.i64_store(l6+5672, l6+4976)
 		m.i64_store(l6+5736, 0)
 		m.i64_store(l6+5728, 0)
-		m.i64_store(l6+5760, 4611686018427398837)
+		m.i64_store(l6+5760, 4611686018427398847)
 		m.i64_store(l6+5768, 11)
 		m.i32_store8(l6+5776, 1)
 		m.i64_store(l6+5744, m.i64_load(l6+4672))
@@ -26008,14 +25646,14 @@ func (m *memory) cvss_explain(p0 uint64, p1 uint64, p2 uint32, p3 uint64, p4 uin
 		m.memory_copy(l6+5777, l6+4776, 39)
 		m.i32_store8(l6+5832, 0)
 		m.i64_store(l6+5824, 4)
-		m.i64_store(l6+5816, 4611686018427398848)
+		m.i64_store(l6+5816, 4611686018427398858)
 		m.i32_store16(l6+5840, 0)
 		m.i64_store(l6+5856, 0)
 		m.i64_store(l6+5848, ((uint64(l41)*20000000)+504000)/1008000)
 		m.i64_store(l6+5864, 0)
 		m.i32_store8(l6+5888, 0)
 		m.i64_store(l6+5880, 12)
-		m.i64_store(l6+5872, 4611686018427398852)
+		m.i64_store(l6+5872, 4611686018427398862)
 		m.i32_store(l6+5833, m.i32_load(l6+4928))
 		m.i32_store(l6+5836, m.i32_load(l6+4931))
 		m.i32_store(l6+5842, m.i32_load(l6+4664))
@@ -26024,10 +25662,10 @@ func (m *memory) cvss_explain(p0 uint64, p1 uint64, p2 uint32, p3 uint64, p4 uin
 		m.i32_store(l6+5892, m.i32_load(l6+4859))
 		m.i32_store16(l6+5896, 4)
 		p0 = uint64(l40&255) << 3
-		m.i64_store(l6+5904, m.i64_load(p0+4611686018427412328))
-		m.i64_store(l6+5912, m.i64_load(p0+4611686018427412296))
+		m.i64_store(l6+5904, m.i64_load(p0+4611686018427412336))
+		m.i64_store(l6+5912, m.i64_load(p0+4611686018427412304))
 		m.i64_store(l6+5920, 0)
-		m.i64_store(l6+5928, 4611686018427398648)
+		m.i64_store(l6+5928, 4611686018427398656)
 		m.i64_store(l6+5936, 6)
 		m.i32_store8(l6+5944, 0)
 		m.i32_store16(l6+5952, 0)
@@ -26055,10 +25693,10 @@ func (m *memory) cvss_explain(p0 uint64, p1 uint64, p2 uint32, p3 uint64, p4 uin
 		m.i64_store(l6+6048, 8)
 		m.i64_store(l6+6040, 4611686018427398409)
 		m.i64_store(l6+6032, 0)
-		m.memory_copy(l6+6058, l6+4866, 38)
+		m.memory_copy(l6+6058, l6+4864, 38)
 		m.i32_store8(l6+6112, 0)
 		m.i64_store(l6+6104, 5)
-		m.i64_store(l6+6096, 4611686018427398864)
+		m.i64_store(l6+6096, 4611686018427398874)
 		m.i32_store8(l6+6121, l39)
 		m.i32_store8(l6+6120, 1)
 		m.i32_store8(l6+6168, 4)
@@ -26105,7 +25743,7 @@ func (m *memory) cvss_explain(p0 uint64, p1 uint64, p2 uint32, p3 uint64, p4 uin
 		m.i64_store(l6+4904, 0)
 		m.i64_store(l6+4912, 0)
 		m.i64_store(l6+4918, 0)
-		m.memory_fill(l6+4866, 0, 38)
+		m.memory_fill(l6+4864, 0, 38)
 		m.i32_store(l6+4859, 0)
 		m.i32_store(l6+4856, 0)
 		m.memory_fill(l6+4816, 0, 39)
@@ -26205,7 +25843,7 @@ func (m *memory) cvss_explain(p0 uint64, p1 uint64, p2 uint32, p3 uint64, p4 uin
 		l20 = j0
 		j0 = m.f57(l6+6728, l8)
 		l22 = j0
-		m.f77(l6+240, l6+6728)
+		m.f81(l6+240, l6+6728)
 		j0 = m.f62(m.i64_load(l6+240), m.i64_load(l6+248))
 		l23 = j0
 		m.i64_store(l6+6920, 0)
@@ -26287,10 +25925,10 @@ func (m *memory) cvss_explain(p0 uint64, p1 uint64, p2 uint32, p3 uint64, p4 uin
 		m.i32_store8(l6+5688, 5)
 		m.i32_store(l6+5689, 0)
 		m.i32_store(l6+5692, 0)
-		m.i64_store8(l6+5697, l8)
-		m.i32_store8(l6+5696, 2)
-		m.i64_store(l6+5698, 0)
+		m.i64_store8(l6+5698, l8)
+		m.i32_store16(l6+5696, 258)
 		m.i64_store(l6+5704, 0)
+		m.i64_store(l6+5699, 0)
 		m.i32_store8(l6+5712, 4)
 		m.i64_store(l6+5720, 0)
 		m.i64_store(l6+5713, 0)
@@ -26298,11 +25936,11 @@ func (m *memory) cvss_explain(p0 uint64, p1 uint64, p2 uint32, p3 uint64, p4 uin
 		m.i64_store(l6+5728, l20)
 		m.i32_store(l6+5737, 0)
 		m.i32_store(l6+5740, 0)
-		m.i32_store8(l6+5744, 2)
+		m.i32_store16(l6+5744, 258)
 		p1 = select64(b32(p1 == 0), 999999999936, 999950000000)
-		m.i64_store8(l6+5745, (p1+(l22*1000000))/1000000000000)
-		m.i64_store(l6+5746, 0)
+		m.i64_store8(l6+5746, (p1+(l22*1000000))/1000000000000)
 		m.i64_store(l6+5752, 0)
+		m.i64_store(l6+5747, 0)
 		m.i64_store(l6+5761, 0)
 		m.i32_store8(l6+5760, 7)
 		m.i64_store(l6+5768, 0)
@@ -26333,85 +25971,85 @@ func (m *memory) cvss_explain(p0 uint64, p1 uint64, p2 uint32, p3 uint64, p4 uin
 		m.i64_store(l6+5896, l25)
 		m.i32_store(l6+5908, 0)
 		m.i32_store(l6+5905, 0)
-		m.i64_store8(l6+5913, ((l26*1000000)+p1)/1000000000000)
-		m.i32_store8(l6+5912, 2)
+		m.i64_store8(l6+5914, ((l26*1000000)+p1)/1000000000000)
+		m.i32_store16(l6+5912, 258)
 		m.i64_store(l6+5920, 0)
-		m.i64_store(l6+5914, 0)
+		m.i64_store(l6+5915, 0)
 		m.i64_store(l6+6720, 0)
 		m.i64_store(l6+6712, l21*100000)
 		m.i64_store(l6+6704, 0)
 		m.i64_store(l6+6696, 2)
-		m.i64_store(l6+6688, 4611686018427399235)
+		m.i64_store(l6+6688, 4611686018427399243)
 		m.i64_store(l6+6680, 0)
 		m.i64_store(l6+6672, l38*100000)
 		m.i64_store(l6+6664, 0)
 		m.i64_store(l6+6656, 2)
-		m.i64_store(l6+6648, 4611686018427399233)
+		m.i64_store(l6+6648, 4611686018427399241)
 		m.i64_store(l6+6640, 0)
 		m.i64_store(l6+6632, l37*100000)
 		m.i64_store(l6+6624, 0)
 		m.i64_store(l6+6616, 2)
-		m.i64_store(l6+6608, 4611686018427399231)
+		m.i64_store(l6+6608, 4611686018427399239)
 		m.i64_store(l6+6600, 0)
 		m.i64_store(l6+6592, l18*100000)
 		m.i64_store(l6+6584, 0)
 		m.i64_store(l6+6576, 2)
-		m.i64_store(l6+6568, 4611686018427399229)
+		m.i64_store(l6+6568, 4611686018427399237)
 		m.i64_store(l6+6560, 0)
 		m.i64_store(l6+6552, l36*100000)
 		m.i64_store(l6+6544, 0)
 		m.i64_store(l6+6536, 3)
-		m.i64_store(l6+6528, 4611686018427399226)
+		m.i64_store(l6+6528, 4611686018427399234)
 		m.i64_store(l6+6520, 0)
 		m.i64_store(l6+6512, l35*100000)
 		m.i64_store(l6+6504, 0)
 		m.i64_store(l6+6496, 3)
-		m.i64_store(l6+6488, 4611686018427399223)
+		m.i64_store(l6+6488, 4611686018427399231)
 		m.i64_store(l6+6480, 0)
 		m.i64_store(l6+6472, l34*100000)
 		m.i64_store(l6+6464, 0)
 		m.i64_store(l6+6456, 2)
-		m.i64_store(l6+6448, 4611686018427399221)
+		m.i64_store(l6+6448, 4611686018427399229)
 		m.i64_store(l6+6440, 0)
 		m.i64_store(l6+6432, l33*100000)
 		m.i64_store(l6+6424, 0)
 		m.i64_store(l6+6416, 2)
-		m.i64_store(l6+6408, 4611686018427399219)
+		m.i64_store(l6+6408, 4611686018427399227)
 		m.i64_store(l6+6400, 0)
 		m.i64_store(l6+6392, l32*100000)
 		m.i64_store(l6+6384, 0)
 		m.i64_store(l6+6376, 3)
-		m.i64_store(l6+6368, 4611686018427399216)
+		m.i64_store(l6+6368, 4611686018427399224)
 		m.i64_store(l6+6360, 0)
 		m.i64_store(l6+6352, l31*100000)
 		m.i64_store(l6+6344, 0)
 		m.i64_store(l6+6336, 3)
-		m.i64_store(l6+6328, 4611686018427399213)
+		m.i64_store(l6+6328, 4611686018427399221)
 		m.i64_store(l6+6320, 0)
 		m.i64_store(l6+6312, l30*100000)
 		m.i64_store(l6+6304, 0)
 		m.i64_store(l6+6296, 2)
-		m.i64_store(l6+6288, 4611686018427399211)
+		m.i64_store(l6+6288, 4611686018427399219)
 		m.i64_store(l6+6280, 0)
 		m.i64_store(l6+6272, l29*100000)
 		m.i64_store(l6+6264, 0)
 		m.i64_store(l6+6256, 2)
-		m.i64_store(l6+6248, 4611686018427399209)
+		m.i64_store(l6+6248, 4611686018427399217)
 		m.i64_store(l6+6240, 0)
 		m.i64_store(l6+6232, l9*100000)
 		m.i64_store(l6+6224, 0)
 		m.i64_store(l6+6216, 1)
-		m.i64_store(l6+6208, 4611686018427398555)
+		m.i64_store(l6+6208, 4611686018427398559)
 		m.i64_store(l6+6200, 0)
 		m.i64_store(l6+6192, l28*100000)
 		m.i64_store(l6+6184, 0)
 		m.i64_store(l6+6176, 1)
-		m.i64_store(l6+6168, 4611686018427399208)
+		m.i64_store(l6+6168, 4611686018427399216)
 		m.i64_store(l6+6160, 0)
 		m.i64_store(l6+6152, l27*100000)
 		m.i64_store(l6+6144, 0)
 		m.i64_store(l6+6136, 2)
-		m.i64_store(l6+6128, 4611686018427399206)
+		m.i64_store(l6+6128, 4611686018427399214)
 		m.i64_store(l6+6120, 0)
 		m.i64_store(l6+6112, l14*100000)
 		m.i64_store(l6+6104, 0)
@@ -26420,17 +26058,17 @@ func (m *memory) cvss_explain(p0 uint64, p1 uint64, p2 uint32, p3 uint64, p4 uin
 		m.i64_store(l6+6072, l13*100000)
 		m.i64_store(l6+6064, 0)
 		m.i64_store(l6+6056, 2)
-		m.i64_store(l6+6048, 4611686018427399204)
+		m.i64_store(l6+6048, 4611686018427399212)
 		m.i64_store(l6+6040, 0)
 		m.i64_store(l6+6032, l12*100000)
 		m.i64_store(l6+6024, 0)
 		m.i64_store(l6+6016, 2)
-		m.i64_store(l6+6008, 4611686018427399202)
+		m.i64_store(l6+6008, 4611686018427399210)
 		m.i64_store(l6+6000, 0)
 		m.i64_store(l6+5992, l11*100000)
 		m.i64_store(l6+5984, 0)
 		m.i64_store(l6+5976, 2)
-		m.i64_store(l6+5968, 4611686018427399200)
+		m.i64_store(l6+5968, 4611686018427399208)
 		m.i64_store(l6+5960, 0)
 		m.i64_store(l6+5952, l16*100000)
 		m.i64_store(l6+5944, 0)
@@ -26441,7 +26079,7 @@ func (m *memory) cvss_explain(p0 uint64, p1 uint64, p2 uint32, p3 uint64, p4 uin
 		m.i64_store(l6+4984, 4)
 		m.i32_store8(l6+4992, 6)
 		m.i64_store(l6+5008, 5)
-		m.i64_store(l6+5016, 4611686018427398904)
+		m.i64_store(l6+5016, 4611686018427398912)
 		m.i64_store(l6+5024, 6)
 		m.i64_store(l6+5032, 4611686018427398304)
 		m.i64_store(l6+5040, 13)
@@ -26455,7 +26093,7 @@ func (m *memory) cvss_explain(p0 uint64, p1 uint64, p2 uint32, p3 uint64, p4 uin
 		m.i64_store(l6+5096, 4)
 		m.i64_store(l6+5088, 4611686018427398400)
 		m.i64_store(l6+5080, 8)
-		m.i64_store(l6+5072, 4611686018427399000)
+		m.i64_store(l6+5072, 4611686018427399008)
 		m.i64_store(l6+5064, 7)
 		m.i64_store(l6+5056, l6+5760)
 		m.i64_store(l6+5120, 0)
@@ -26468,7 +26106,7 @@ func (m *memory) cvss_explain(p0 uint64, p1 uint64, p2 uint32, p3 uint64, p4 uin
 		m.i64_store(l6+5128, m.i64_load(l6+4728))
 		m.i32_store8(l6+5160, 0)
 		m.i64_store(l6+5152, 13)
-		m.i64_store(l6+5144, 4611686018427399128)
+		m.i64_store(l6+5144, 4611686018427399136)
 		m.i32_store(l6+5164, m.i32_load(l6+4971))
 		m.i32_store(l6+5161, m.i32_load(l6+4968))
 		m.i32_store16(l6+5168, 4)
@@ -26476,7 +26114,7 @@ func (m *memory) cvss_explain(p0 uint64, p1 uint64, p2 uint32, p3 uint64, p4 uin
 		m.i32_store(l6+5170, m.i32_load(l6+4640))
 		m.i32_store8(l6+5216, 0)
 		m.i64_store(l6+5208, 5)
-		m.i64_store(l6+5200, 4611686018427399141)
+		m.i64_store(l6+5200, 4611686018427399149)
 		m.i64_store(l6+5192, 0)
 		m.i64_store(l6+5184, 1)
 		m.i64_store(l6+5176, select64(l41&1, 4611686018427389540, 4611686018427389541))
@@ -26503,7 +26141,7 @@ func (m *memory) cvss_explain(p0 uint64, p1 uint64, p2 uint32, p3 uint64, p4 uin
 		m.i64_store(l6+5320, 8)
 		m.i64_store(l6+5312, 4611686018427398409)
 		m.i64_store(l6+5304, 0)
-		m.memory_copy(l6+5330, l6+4866, 38)
+		m.memory_copy(l6+5330, l6+4864, 38)
 		m.i32_store8(l6+5384, 6)
 		m.i64_store(l6+5376, 8)
 		m.i64_store(l6+5368, 4611686018427398417)
@@ -26511,7 +26149,7 @@ func (m *memory) cvss_explain(p0 uint64, p1 uint64, p2 uint32, p3 uint64, p4 uin
 		m.i64_store(l6+5432, 6)
 		m.i64_store(l6+5424, 4611686018427398464)
 		m.i64_store(l6+5416, 3)
-		m.i64_store(l6+5408, 4611686018427399152)
+		m.i64_store(l6+5408, 4611686018427399160)
 		m.i64_store(l6+5400, 2)
 		m.i64_store(l6+5392, l6+5712)
 		m.i32_store(l6+5385, m.i32_load(l6+4856))
@@ -26540,7 +26178,7 @@ func (m *memory) cvss_explain(p0 uint64, p1 uint64, p2 uint32, p3 uint64, p4 uin
 			m.i64_store(p3+28, 0)
 			m.i32_store(p3+36, 0)
 		}
-		j0 = m.f78(l6+448, p0, p4, p5)
+		j0 = m.f82(l6+448, p0, p4, p5)
 		goto B3
 	}
 	m.i32_store8(l6+330, m.i32_load8_u(l6+378))
@@ -26550,7 +26188,7 @@ func (m *memory) cvss_explain(p0 uint64, p1 uint64, p2 uint32, p3 uint64, p4 uin
 	m.i64_store(l6+336, m.i64_load(l6+384))
 	m.i64_store(l6+344, m.i64_load(l6+392))
 	m.i64_store(l6+352, m.i64_load(l6+400))
-	j0 = m.f79(l6+312, p3, p4, p5)
+	j0 = m.f83(l6+312, p3, p4, p5)
 B3:
 	p4 = j0
 	m.stackPointer = l6 + 6928
@@ -26584,7 +26222,7 @@ func (m *memory) cvss_find(p0 uint64, p1 uint64, p2 uint64) uint32 {
 		m.i64_store(l13+24, m.i64_load(l17+8))
 		m.i64_store(l13+16, p1)
 		m.i64_store(l13+8, p0+select64(b32(p0 == 0), 4096, 0))
-		m.f84(l13 + 8)
+		m.f88(l13 + 8)
 		l18 = m.i64_load(l13 + 16)
 		l11 = m.i64_load(l13 + 24)
 		if l18 <= l11 {
@@ -26649,7 +26287,7 @@ func (m *memory) cvss_find(p0 uint64, p1 uint64, p2 uint64) uint32 {
 		p1 = p2 + l10
 		l9 = p1 + 1
 		l3 = m.i32_load8_u(l9)
-		if m.i32_load8_u(uint64(l3)+4611686018427399430) == 0 {
+		if m.i32_load8_u(uint64(l3)+4611686018427399438) == 0 {
 			goto B16
 		}
 		l4 = b32(p2 == l15)
@@ -26682,7 +26320,7 @@ func (m *memory) cvss_find(p0 uint64, p1 uint64, p2 uint64) uint32 {
 			goto B14
 		}
 	B21:
-		i1 = m.f85(l9, p0)
+		i1 = m.f89(l9, p0)
 		if i1 == 0 {
 			goto B16
 		}
@@ -26813,7 +26451,7 @@ func (m *memory) cvss_find(p0 uint64, p1 uint64, p2 uint64) uint32 {
 		j1 = p0 + l12
 	B6:
 		p2 = j1
-		i0 = m.f25(j0, p2, 4611686018427399704)
+		i0 = m.f25(j0, p2, 4611686018427399712)
 		if i0 != 0 {
 			goto B5
 		}
@@ -26836,9 +26474,9 @@ func (m *memory) cvss_find(p0 uint64, p1 uint64, p2 uint64) uint32 {
 			goto B29
 		}
 	B30:
-		i0 = m.f85(l14, p1)
+		i0 = m.f89(l14, p1)
 		if i0 == 0 {
-			i0 = m.f86(l14, p1)
+			i0 = m.f90(l14, p1)
 			if i0 == 0 {
 				goto B26
 			}
@@ -27018,7 +26656,7 @@ func (m *memory) cvss_find(p0 uint64, p1 uint64, p2 uint64) uint32 {
 			goto L49
 		}
 	B47:
-		i0 = m.f88(l14, p0)
+		i0 = m.f92(l14, p0)
 		if i0 == 0 {
 			if p0 < 5 {
 				goto B55
@@ -27040,7 +26678,7 @@ func (m *memory) cvss_find(p0 uint64, p1 uint64, p2 uint64) uint32 {
 			}
 		B55:
 			p1 = 0
-			i0 = m.f85(l14, p0)
+			i0 = m.f89(l14, p0)
 			l3 = i0
 			if p0 < 2 {
 				goto B53
@@ -27086,26 +26724,26 @@ func (m *memory) cvss_find(p0 uint64, p1 uint64, p2 uint64) uint32 {
 		B53:
 			p2 = p1 + l14
 			p0 = p0 - p1
-			i0 = m.f88(p2, p0)
+			i0 = m.f92(p2, p0)
 			if i0 != 0 {
 				goto B58
 			}
-			i0 = m.f85(p2, p0)
+			i0 = m.f89(p2, p0)
 			if i0 != 0 {
 				goto B58
 			}
-			i0 = m.f86(p2, p0)
+			i0 = m.f90(p2, p0)
 			if i0 != 0 {
-				i0 = m.f87(1, p2, p0)
+				i0 = m.f91(1, p2, p0)
 				if i0 != 0 {
 					goto B58
 				}
 			}
-			i0 = m.f86(p2, p0)
+			i0 = m.f90(p2, p0)
 			if i0 == 0 {
 				goto B51
 			}
-			i0 = m.f87(2, p2, p0)
+			i0 = m.f91(2, p2, p0)
 			if i0 == 0 {
 				goto B51
 			}
@@ -27150,7 +26788,7 @@ func (m *memory) cvss_find(p0 uint64, p1 uint64, p2 uint64) uint32 {
 			goto B60
 		}
 	B62:
-		m.f84(l13 + 8)
+		m.f88(l13 + 8)
 		l11 = m.i64_load(l13 + 24)
 		l18 = m.i64_load(l13 + 16)
 		l19 = m.i64_load(l13 + 8)
@@ -27259,7 +26897,7 @@ func (m *memory) cvss_from_metrics(p0 uint32, p1 uint64, p2 uint64, p3 uint32, p
 		m.i64_store(l7+488, p2)
 		l10 = 1
 		m.i64_store(l7+480, 1)
-		m.f89(l7+504, l7+480, l7+448)
+		m.f93(l7+504, l7+480, l7+448)
 		if m.i32_load8_u(l7+504) == 0 {
 			p0 = m.i32_load(l7 + 505)
 			i0 = 2
@@ -27338,10 +26976,10 @@ func (m *memory) cvss_from_metrics(p0 uint32, p1 uint64, p2 uint64, p3 uint32, p
 		j0 = 1
 		goto B4
 	B18:
-		m.f92(l7+360, 0, p2, p1)
+		m.f96(l7+360, 0, p2, p1)
 		goto B2
 	B17:
-		m.f92(l7+360, 1, p2, p1)
+		m.f96(l7+360, 1, p2, p1)
 		goto B2
 	B16:
 		m.i64_store(l7+472, 0)
@@ -27354,7 +26992,7 @@ func (m *memory) cvss_from_metrics(p0 uint32, p1 uint64, p2 uint64, p3 uint32, p
 		m.i64_store(l7+488, p2)
 		l10 = 1
 		m.i64_store(l7+480, 1)
-		m.f95(l7+504, l7+480, l7+584)
+		m.f99(l7+504, l7+480, l7+584)
 		p1 = m.i64_load(l7 + 512)
 		if m.i32_load8_u(l7+504) == 0 {
 			l8 = m.i64_load(l7 + 520)
@@ -27565,7 +27203,7 @@ B2:
 		m.i64_store(l7+336, m.i64_load(l7+512))
 		m.i64_store(l7+344, m.i64_load(l7+520))
 		m.i64_store(l7+352, m.i64_load(l7+528))
-		m.f97(l7+136, l7+280, l15)
+		m.f101(l7+136, l7+280, l15)
 		p3 = m.i32_load8_u(l7 + 154)
 		l14 = m.i32_load8_u(l7 + 153)
 		l13 = m.i32_load8_u(l7 + 152)
@@ -27628,7 +27266,7 @@ B29:
 	m.i64_store(l7+80, m.i64_load(l7+208))
 	m.i64_store(l7+88, m.i64_load(l7+216))
 B1:
-	j0 = m.f98(l7+8, p4, p5+select64(b32(p5 == 0), 4096, 0), p6)
+	j0 = m.f102(l7+8, p4, p5+select64(b32(p5 == 0), 4096, 0), p6)
 	p5 = j0
 	m.stackPointer = l7 + 656
 	p6 = p5
@@ -27648,7 +27286,7 @@ func (m *memory) cvss_metrics(p0 uint64, p1 uint64, p2 uint32, p3 uint64, p4 uin
 	m.stackPointer = l5
 	if int64(l5) >= 16 {
 		m.memory_fill(l5+8, 0, 88)
-		m.f101(l5+8, p0+select64(b32(p0 == 0), 4096, 0), p1, p2)
+		m.f105(l5+8, p0+select64(b32(p0 == 0), 4096, 0), p1, p2)
 		j0 = 0
 		if m.i32_load8_u(l5+8) != 1 {
 			goto B3
@@ -27677,7 +27315,7 @@ func (m *memory) cvss_metrics(p0 uint64, p1 uint64, p2 uint32, p3 uint64, p4 uin
 		j0 = p0
 	L7:
 		p2 = m.i32_load8_u(p0 + 4611686018427389575)
-		m.f102(l5+176, p1, p2)
+		m.f106(l5+176, p1, p2)
 		if m.i32_load8_u(l5+176) == 1 {
 			l8 = m.i64_load(l5 + 184)
 			p3 = m.i64_load(l5 + 192)
@@ -27685,10 +27323,10 @@ func (m *memory) cvss_metrics(p0 uint64, p1 uint64, p2 uint32, p3 uint64, p4 uin
 			l7 = (uint64(p2) & 255) * 56
 			j0 = m.i64_load(l7 + 4611686018427387928)
 			l7 = m.i64_load(l7 + 4611686018427387936)
-			j0 = m.f78(j0, select64(b32(l7 < 8), l7, 8), l5+712, 8)
+			j0 = m.f82(j0, select64(b32(l7 < 8), l7, 8), l5+712, 8)
 			l7 = m.i64_load(l5 + 712)
 			m.i64_store(l5+712, 0)
-			j0 = m.f78(l8, select64(b32(p3 < 8), p3, 8), l5+712, 8)
+			j0 = m.f82(l8, select64(b32(p3 < 8), p3, 8), l5+712, 8)
 			p3 = (l5 + 200) + (l6 << 4)
 			m.i64_store(p3, l7)
 			m.i64_store(p3+8, m.i64_load(l5+712))
@@ -27699,7 +27337,7 @@ func (m *memory) cvss_metrics(p0 uint64, p1 uint64, p2 uint32, p3 uint64, p4 uin
 		if p0 != 0 {
 			goto L7
 		}
-		j0 = m.f104(l5+200, l6, l9, p4)
+		j0 = m.f108(l5+200, l6, l9, p4)
 		goto B3
 	B5:
 		m.i64_store(l5+192, 0)
@@ -27711,7 +27349,7 @@ func (m *memory) cvss_metrics(p0 uint64, p1 uint64, p2 uint32, p3 uint64, p4 uin
 		j0 = p0
 	L9:
 		p2 = m.i32_load8_u(p0 + 4611686018427397872)
-		m.f105(l5+176, p1, p2)
+		m.f109(l5+176, p1, p2)
 		if m.i32_load8_u(l5+176) == 1 {
 			l8 = m.i64_load(l5 + 184)
 			p3 = m.i64_load(l5 + 192)
@@ -27719,10 +27357,10 @@ func (m *memory) cvss_metrics(p0 uint64, p1 uint64, p2 uint32, p3 uint64, p4 uin
 			l7 = (uint64(p2) & 255) * 56
 			j0 = m.i64_load(l7 + 4611686018427393424)
 			l7 = m.i64_load(l7 + 4611686018427393432)
-			j0 = m.f78(j0, select64(b32(l7 < 8), l7, 8), l5+712, 8)
+			j0 = m.f82(j0, select64(b32(l7 < 8), l7, 8), l5+712, 8)
 			l7 = m.i64_load(l5 + 712)
 			m.i64_store(l5+712, 0)
-			j0 = m.f78(l8, select64(b32(p3 < 8), p3, 8), l5+712, 8)
+			j0 = m.f82(l8, select64(b32(p3 < 8), p3, 8), l5+712, 8)
 			p3 = (l5 + 200) + (l6 << 4)
 			m.i64_store(p3, l7)
 			m.i64_store(p3+8, m.i64_load(l5+712))
@@ -27733,7 +27371,7 @@ func (m *memory) cvss_metrics(p0 uint64, p1 uint64, p2 uint32, p3 uint64, p4 uin
 		if p0 != 0 {
 			goto L9
 		}
-		j0 = m.f104(l5+200, l6, l9, p4)
+		j0 = m.f108(l5+200, l6, l9, p4)
 		goto B3
 	B4:
 		m.i64_store(l5+192, 0)
@@ -27745,7 +27383,7 @@ func (m *memory) cvss_metrics(p0 uint64, p1 uint64, p2 uint32, p3 uint64, p4 uin
 		j0 = p0
 	L11:
 		p2 = m.i32_load8_u(p0 + 4611686018427392166)
-		m.f107(l5+176, p1, p2)
+		m.f111(l5+176, p1, p2)
 		if m.i32_load8_u(l5+176) == 1 {
 			l8 = m.i64_load(l5 + 184)
 			p3 = m.i64_load(l5 + 192)
@@ -27753,10 +27391,10 @@ func (m *memory) cvss_metrics(p0 uint64, p1 uint64, p2 uint32, p3 uint64, p4 uin
 			l7 = (uint64(p2) & 255) * 56
 			j0 = m.i64_load(l7 + 4611686018427389576)
 			l7 = m.i64_load(l7 + 4611686018427389584)
-			j0 = m.f78(j0, select64(b32(l7 < 8), l7, 8), l5+712, 8)
+			j0 = m.f82(j0, select64(b32(l7 < 8), l7, 8), l5+712, 8)
 			l7 = m.i64_load(l5 + 712)
 			m.i64_store(l5+712, 0)
-			j0 = m.f78(l8, select64(b32(p3 < 8), p3, 8), l5+712, 8)
+			j0 = m.f82(l8, select64(b32(p3 < 8), p3, 8), l5+712, 8)
 			p3 = (l5 + 200) + (l6 << 4)
 			m.i64_store(p3, l7)
 			m.i64_store(p3+8, m.i64_load(l5+712))
@@ -27767,7 +27405,7 @@ func (m *memory) cvss_metrics(p0 uint64, p1 uint64, p2 uint32, p3 uint64, p4 uin
 		if p0 != 0 {
 			goto L11
 		}
-		j0 = m.f104(l5+200, l6, l9, p4)
+		j0 = m.f108(l5+200, l6, l9, p4)
 	B3:
 		l6 = j0
 		m.stackPointer = l5 + 720
@@ -27818,7 +27456,7 @@ func (m *memory) cvss_numbers(p0 uint32, p1 uint64, p2 uint64, p3 uint64) uint32
 		if p0 != 20 {
 			goto B6
 		}
-		m.f109(l4+464, p1, p2)
+		m.f113(l4+464, p1, p2)
 		if m.i32_load8_u(l4+464) != 1 {
 			goto B6
 		}
@@ -27894,12 +27532,12 @@ func (m *memory) cvss_numbers(p0 uint32, p1 uint64, p2 uint64, p3 uint64) uint32
 		}
 		goto B4
 	B9:
-		m.f110(l4+328, 0, p1, p2)
+		m.f114(l4+328, 0, p1, p2)
 		if m.i32_load8_u(l4+328) != 1 {
 			goto B6
 		}
 		m.memory_copy(l4+264, l4+336, 64)
-		m.f111(l4+400, l4+264, l18)
+		m.f115(l4+400, l4+264, l18)
 		l5 = m.i64_load(l4 + 456)
 		p1 = m.i64_load(l4 + 448)
 		l6 = m.i64_load(l4 + 440)
@@ -27913,12 +27551,12 @@ func (m *memory) cvss_numbers(p0 uint32, p1 uint64, p2 uint64, p3 uint64) uint32
 		i0 = l18
 		goto B2
 	B8:
-		m.f110(l4+128, 1, p1, p2)
+		m.f114(l4+128, 1, p1, p2)
 		if m.i32_load8_u(l4+128) != 1 {
 			goto B6
 		}
 		m.memory_copy(l4-18446744073709551552, l4+136, 64)
-		m.f111(l4+200, l4-18446744073709551552, l18)
+		m.f115(l4+200, l4-18446744073709551552, l18)
 		l5 = m.i64_load(l4 + 256)
 		p1 = m.i64_load(l4 + 248)
 		l6 = m.i64_load(l4 + 240)
@@ -27999,7 +27637,7 @@ func (m *memory) cvss_parse(p0 uint64, p1 uint64, p2 uint32, p3 uint64, p4 uint6
 		}
 		m.i64_store(l7+230, 0)
 		m.i64_store(l7+224, 0)
-		m.f113(l7+224, l7+144)
+		m.f117(l7+224, l7+144)
 		l12 = 20
 		l14 = m.i32_load8_u(l7 + 227)
 		p2 = m.i32_load8_u(l7 + 225)
@@ -28134,7 +27772,7 @@ B4:
 	m.i64_store(l7+32, m.i64_load(l7+80))
 	m.i64_store(l7+40, m.i64_load(l7+88))
 	m.i64_store(l7+48, m.i64_load(l7+96))
-	j0 = m.f79(l7+8, p4, p5, p6)
+	j0 = m.f83(l7+8, p4, p5, p6)
 	goto B1
 B3:
 	m.i32_store(p3+56, l16)
@@ -28162,7 +27800,7 @@ B2:
 		m.i64_store(p4+28, 0)
 		m.i32_store(p4+36, 0)
 	}
-	j0 = m.f99(l7+144, p5, p6)
+	j0 = m.f103(l7+144, p5, p6)
 B1:
 	p3 = j0
 	m.stackPointer = l7 + 240
@@ -28172,19 +27810,20 @@ B1:
 }
 
 func (m *memory) cvss_record(p0 uint64, p1 uint64, p2 uint32, p3 uint64, p4 uint64, p5 uint64) uint64 {
-	var l15, l16, l17, l18, l19, l20, l21, i0 uint32
-	var l6, l7, l8, l9, l10, l11, l12, l13, l14, j0 uint64
-	_, _, _, _, _, _, _, _, _, _, _, _, _, _, _, _, _, _ = l15, l16, l17, l18, l19, l20, l21, i0, l6, l7, l8, l9, l10, l11, l12, l13, l14, j0
+	var l20, l21, l22, l23, l24, l25, l26, i0 uint32
+	var l6, l7, l8, l9, l10, l11, l12, l13, l14, l15, l16, l17, l18, l19, j0 uint64
+	_, _, _, _, _, _, _, _, _, _, _, _, _, _, _, _, _, _, _, _, _, _, _ = l20, l21, l22, l23, l24, l25, l26, i0, l6, l7, l8, l9, l10, l11, l12, l13, l14, l15, l16, l17, l18, l19, j0
 	i0 = m.f17()
 	if i0 != 0 {
 		panic("cvss: unreachable")
 	}
-	l6 = m.stackPointer - 4512
+	l13 = p0
+	l6 = m.stackPointer - 4368
 	m.stackPointer = l6
 	if int64(l6) < 16 {
-		goto B2
+		goto B3
 	}
-	l11 = p4 + select64(b32(p4 == 0), 4096, 0)
+	l15 = p4 + select64(b32(p4 == 0), 4096, 0)
 	m.memory_fill(l6+56, 0, 88)
 	m.i64_store(l6+48, 0)
 	m.i64_store(l6+40, 0)
@@ -28192,870 +27831,1000 @@ func (m *memory) cvss_record(p0 uint64, p1 uint64, p2 uint32, p3 uint64, p4 uint
 	m.i64_store(l6+24, 0)
 	m.i64_store(l6+16, 0)
 	m.i64_store(l6+8, 0)
-	m.f21(l6+56, p0+select64(b32(p0 == 0), 4096, 0), p1, p2)
+	m.f21(l6+56, l13+select64(b32(l13 == 0), 4096, 0), p1, p2)
 	p2 = m.i32_load8_u(l6 - 18446744073709551552)
-	if m.i32_load8_u(l6+56) == 0 {
-		m.i32_store8(l6+4248, p2)
-		l14 = (l6 + 4248) | 1
-		m.memory_copy(l14, l6+65, 79)
-		m.memory_fill(l6+144, 0, 4096)
-		m.i64_store(l6+4494, 0)
-		m.i64_store(l6+4488, 0)
-		m.f113(l6+4488, l6+4248)
-		p2 = m.i32_load8_u(l6 + 4248)
-		if p2 == 3 {
-			l12 = 4611686018427399743
-			l13 = 36
-			i0 = m.i32_load8_u(l6 + 4489)
-			goto B5
-		}
-		l12 = select64(p2, 4611686018427399815, 4611686018427399705)
-		l13 = select64(p2, 30, 19)
-		l19 = b32(m.i32_load8_u(l6+4496) == 1)
-		l15 = select32(l19, m.i32_load8_u(l6+4497), 0)
-		l18 = b32(m.i32_load8_u(l6+4493) == 1)
-		l17 = select32(l18, m.i32_load8_u(l6+4494), 0)
-		i0 = m.i32_load8_u(l6 + 4491)
-	B5:
-		p2 = i0
-		m.i32_store8(l6+4334, l17)
-		m.i32_store8(l6+4336, p2)
-		m.i32_store8(l6+4332, l15)
-		m.i64_store(l6+4240, 1)
-		m.i32_store8(l6+144, 123)
-		p1 = l6 + 4256
-		p0 = 0
-		j0 = p0
-	L7:
-		p4 = l12 + (p0 << 1)
-		l17 = m.i32_load8_u(p4)
-		if l17 == 5 {
-			p4 = m.i64_load(l6 + 4240)
-			if l20 != 0 {
-				m.i32_store8((l6+144)+p4, 44)
-				p4 = p4 + 1
-				j0 = p4
-			}
-			m.i32_store8((l6+144)+p4, 34)
-			m.i64_store(l6+4240, p4+1)
-			m.f64(l6+144, 4611686018427399875, 12)
-			l7 = m.i64_load(l6 + 4240)
-			p4 = l7 + (l6 + 144)
-			if (p4 - 4611686018427398484) <= 1 {
-				m.i32_store16(p4, 14882)
-				goto B12
-			}
-			m.i32_store16(p4, 14882)
-		B12:
-			m.i32_store8(p4+2, 34)
-			m.i64_store(l6+4240, l7+3)
-			m.f67(l6+144, l6+4248)
-			p4 = m.i64_load(l6 + 4240)
-			m.i32_store8(p4+(l6+144), 34)
-			m.i64_store(l6+4240, p4+1)
-			goto B9
-		}
-		l15 = m.i32_load8_u(p4 + 1)
-		if ((l17 - 5) & 255) < 254 {
-			goto B14
-		}
-		if l15 == 0 {
-			goto B14
-		}
-		switch uint32(m.i64_load8_u(l6+4248)) - 1 {
-		case 0:
-			goto B15
-		case 1:
-			goto B15
-		case 2:
-			goto B8
-		default:
-			goto B16
-		}
-	B16:
-		if l15 == 1 {
-			if m.i32_load8_u(l6+4261) == 1 {
-				goto B14
-			}
-			if (m.i32_load8_u(l6+4263) & 255) == 1 {
-				goto B14
-			}
-			if (m.i32_load8_u(l6+4265) & 255) == 1 {
-				goto B14
-			}
-			goto B8
-		}
-		if m.i32_load8_u(l6+4267) == 1 {
-			goto B14
-		}
-		if (m.i32_load8_u(l6+4269) & 255) == 1 {
-			goto B14
-		}
-		if (m.i32_load8_u(l6+4271) & 255) == 1 {
-			goto B14
-		}
-		if (m.i32_load8_u(l6+4273) & 255) == 1 {
-			goto B14
-		}
-		if (m.i32_load8_u(l6+4275) & 255) != 1 {
-			goto B8
-		}
-		goto B14
-	B15:
-		if l15 != 1 {
-			p4 = 18446744073709551594
-			j0 = p4
-		L19:
-			m.i64_store(l6+4504, 0)
-			m.i64_store(l6+4496, 0)
-			m.i64_store(l6+4488, 0)
-			p2 = m.i32_load8_u(p4 + 4611686018427392166)
-			if m.i32_load8_u(((uint64(p2)&255)*56)+4611686018427389608) == 3 {
-				m.f108(l6+4488, p1, p2)
-				if m.i32_load8_u(l6+4488) == 1 {
-					goto B14
-				}
-			}
-			p4 = p4 + 1
-			if b32(p4 == 0) == 0 {
-				goto L19
-			}
-			goto B8
-		}
-		p4 = 18446744073709551594
-		j0 = p4
-	L21:
-		m.i64_store(l6+4504, 0)
-		m.i64_store(l6+4496, 0)
-		m.i64_store(l6+4488, 0)
-		p2 = m.i32_load8_u(p4 + 4611686018427392166)
-		if m.i32_load8_u(((uint64(p2)&255)*56)+4611686018427389608) == 1 {
-			m.f108(l6+4488, p1, p2)
-			if m.i32_load8_u(l6+4488) == 1 {
-				goto B14
-			}
-		}
-		p4 = p4 + 1
-		if b32(p4 == 0) == 0 {
-			goto L21
-		}
-		goto B8
-	B14:
-		p4 = uint64(l15)
-		l7 = 0
-		m.i64_store(l6+4464, 0)
-		m.i64_store(l6+4472, 0)
-		m.i64_store(l6+4480, 0)
-		m.i64_store(l6+4416, 0)
-		m.i64_store(l6+4424, 0)
-		m.i64_store(l6+4432, 0)
-		m.i64_store(l6+4368, 0)
-		m.i64_store(l6+4376, 0)
-		m.i64_store(l6+4384, 0)
-		switch l17 - 1 {
-		case 0:
-			goto B34
-		case 1:
-			goto B33
-		case 2:
-			goto B31
-		case 3:
-			goto B30
-		case 4:
-			goto B2
-		case 5:
-			goto B29
-		default:
-			goto B35
-		}
-	B35:
-		p4 = p4 << 3
-		l10 = m.i64_load(p4 + 4611686018427412472)
-		l9 = m.i64_load(p4 + 4611686018427412360)
-		p4 = 0
-		l8 = 0
-		if m.i32_load8_u(l6+4248) == 0 {
-			m.i64_store(l6+4504, 0)
-			m.i64_store(l6+4496, 0)
-			m.i64_store(l6+4488, 0)
-			m.f103(l6+4488, l14, l15)
-			p2 = b32(m.i32_load8_u(l6+4488) == 1)
-			l8 = select64(p2, m.i64_load(l6+4504), 0)
-			l7 = select64(p2, m.i64_load(l6+4496), 0)
-			p4 = uint64(p2)
-			j0 = p4
-		}
-		m.i64_store(l6+4456, l8)
-		m.i64_store(l6+4448, l7)
-		m.i64_store(l6+4440, p4)
-		m.f117(l6+4464, l10, l9, l6+4440)
-		l10 = m.i64_load(l6 + 4480)
-		l9 = m.i64_load(l6 + 4472)
-		l21 = m.i32_load8_u(l6 + 4465)
-		j0 = l6 + 4464
-		goto B32
-	B34:
-		p4 = p4 << 3
-		l8 = m.i64_load(p4 + 4611686018427412760)
-		l10 = m.i64_load(p4 + 4611686018427412584)
-		p4 = 0
+	if m.i32_load8_u(l6+56) != 0 {
+		goto B2
+	}
+	m.i32_store8(l6+4248, p2)
+	l19 = (l6 + 4248) | 1
+	m.memory_copy(l19, l6+65, 79)
+	m.memory_fill(l6+144, 0, 4096)
+	m.i64_store(l6+4350, 0)
+	m.i64_store(l6+4344, 0)
+	m.f117(l6+4344, l6+4248)
+	p2 = m.i32_load8_u(l6 + 4248)
+	if p2 == 3 {
+		l16 = 4611686018427399751
+		l17 = 36
 		p2 = 0
-		switch uint32(m.i64_load8_u(l6+4248)) - 1 {
-		case 0:
-			goto B39
-		case 1:
-			goto B38
-		default:
-			goto B37
-		}
-	B39:
-		m.i64_store(l6+4504, 0)
-		m.i64_store(l6+4496, 0)
-		m.i64_store(l6+4488, 0)
-		m.f108(l6+4488, p1, l15)
-		p2 = b32(m.i32_load8_u(l6+4488) == 1)
-		l7 = select64(p2, m.i64_load(l6+4504), 0)
-		p4 = select64(p2, m.i64_load(l6+4496), 0)
-		j0 = p4
-		goto B37
-	B38:
-		m.i64_store(l6+4504, 0)
-		m.i64_store(l6+4496, 0)
-		m.i64_store(l6+4488, 0)
-		m.f108(l6+4488, p1, l15)
-		p2 = b32(m.i32_load8_u(l6+4488) == 1)
-		l7 = select64(p2, m.i64_load(l6+4504), 0)
-		p4 = select64(p2, m.i64_load(l6+4496), 0)
-		j0 = p4
-	B37:
-		m.i64_store(l6+4408, l7)
-		m.i64_store(l6+4400, p4)
-		m.i64_store(l6+4392, uint64(p2))
-		m.f117(l6+4416, l8, l10, l6+4392)
-		l10 = m.i64_load(l6 + 4432)
-		l9 = m.i64_load(l6 + 4424)
-		l21 = m.i32_load8_u(l6 + 4417)
-		j0 = l6 + 4416
-		goto B32
-	B33:
-		p4 = p4 << 3
-		l10 = m.i64_load(p4 + 4611686018427413192)
-		l9 = m.i64_load(p4 + 4611686018427412936)
-		p4 = 0
-		l8 = 0
-		if m.i32_load8_u(l6+4248) == 3 {
-			m.i64_store(l6+4504, 0)
-			m.i64_store(l6+4496, 0)
-			m.i64_store(l6+4488, 0)
-			m.f106(l6+4488, p1, l15)
-			p2 = b32(m.i32_load8_u(l6+4488) == 1)
-			l8 = select64(p2, m.i64_load(l6+4504), 0)
-			l7 = uint64(p2)
-			p4 = select64(p2, m.i64_load(l6+4496), 0)
-			j0 = p4
-		}
-		m.i64_store(l6+4360, l8)
-		m.i64_store(l6+4352, p4)
-		m.i64_store(l6+4344, l7)
-		m.f117(l6+4368, l10, l9, l6+4344)
-		l10 = m.i64_load(l6 + 4384)
-		l9 = m.i64_load(l6 + 4376)
-		l21 = m.i32_load8_u(l6 + 4369)
-		j0 = l6 + 4368
-	B32:
-		p4 = j0
-		p2 = 4
-		l16 = m.i32_load8_u(p4)
-		switch uint32(uint64(l16)&255) - 1 {
-		case 0:
-			goto B26
-		case 1:
-			goto B8
-		default:
-			goto B25
-		}
-	B31:
-		p4 = l6 + 4334
-		p2 = l18
-		switch l15 - 1 {
-		case 0:
-			goto B41
-		case 1:
-			goto B42
-		default:
-			goto B43
-		}
-	B43:
-		l16 = m.i32_load8_u(l6 + 4336)
-		l8 = 9
-		l7 = 4611686018427407505
-		j0 = l7
-		goto B24
-	B42:
-		p4 = l6 + 4332
-		p2 = l19
-		i0 = p2
-	B41:
-		if p2 == 0 {
-			goto B8
-		}
-		p2 = b32(l15 == 2)
-		l8 = select64(p2, 18, 13)
-		l7 = select64(p2, 4611686018427407527, 4611686018427407514)
-		l16 = m.i32_load8_u(p4)
-		i0 = l16
-		goto B24
-	B30:
-		l7 = l6 + 4334
-		p4 = l6 + 4336
-		p2 = l18
-		switch l15 - 1 {
-		case 0:
-			goto B45
-		case 1:
-			goto B46
-		default:
-			goto B44
-		}
-	B46:
-		l7 = l6 + 4332
-		p2 = l19
-		i0 = p2
-	B45:
-		p4 = l7
-		if p2 == 0 {
-			goto B8
-		}
-	B44:
-		p2 = m.i32_load8_u(p4)
-		if m.i32_load8_u(l6+4248) == 0 {
-			p2 = p2 & 255
-			if p2 < 40 {
-				goto B49
-			}
-			i0 = select32(b32(p2 < 70), 2, 3)
-			goto B47
-		}
-		l16 = p2 & 255
-		if l16 == 0 {
-			l9 = 4611686018427407480
-			j0 = 4
-			goto B27
-		}
-		if l16 >= 40 {
-			goto B48
-		}
-	B49:
-		l9 = 4611686018427407484
-		j0 = 3
-		goto B27
-	B48:
-		p2 = p2 & 255
-		if p2 < 70 {
-			goto B28
-		}
-		i0 = select32(b32(p2 < 90), 3, 4)
-	B47:
-		p4 = (uint64(i0-2) & 255) << 3
-		l9 = m.i64_load(p4 + 4611686018427413472)
-		j0 = m.i64_load(p4 + 4611686018427413448)
-		goto B27
-	B29:
-		l9 = m.i64_load((m.i64_load8_u(l6+4248) << 3) + 4611686018427413496)
-		j0 = 3
-		goto B27
-	B28:
-		l9 = 4611686018427407487
-		j0 = 6
-	B27:
-		l10 = j0
-		l16 = 0
-		p2 = 4
-		i0 = p2
-		goto B25
-	B26:
-		p2 = 1
-		l10 = 0
-		l9 = 0
-		l16 = l21
-		i0 = l16
-	B25:
-		l8 = 7
-		l7 = 4611686018427398470
-		switch l17 - 1 {
-		case 0:
-			goto B96
-		case 1:
-			goto B85
-		case 2:
-			goto B2
-		case 3:
-			goto B53
-		case 4:
-			goto B2
-		case 5:
-			goto B23
-		default:
-			goto B97
-		}
-	B97:
-		l8 = 12
-		l7 = 4611686018427399887
-		switch l15 - 1 {
-		case 0:
-			goto B52
-		case 1:
-			goto B23
-		case 2:
-			goto B101
-		case 3:
-			goto B95
-		case 4:
-			goto B94
-		case 5:
-			goto B100
-		case 6:
-			goto B91
-		case 7:
-			goto B90
-		case 8:
-			goto B99
-		case 9:
-			goto B98
-		case 10:
-			goto B73
-		case 11:
-			goto B72
-		case 12:
-			goto B71
-		default:
-			goto B93
-		}
-	B101:
-		l8 = 14
-		l7 = 4611686018427400160
-		j0 = l7
-		goto B23
-	B100:
-		l8 = 14
-		l7 = 4611686018427398633
-		j0 = l7
-		goto B23
-	B99:
-		l8 = 25
-		l7 = 4611686018427401152
-		j0 = l7
-		goto B23
-	B98:
-		l8 = 18
-		l7 = 4611686018427401432
-		j0 = l7
-		goto B23
-	B96:
-		l8 = 12
-		l7 = 4611686018427401891
-		switch l15 - 1 {
-		case 0:
-			goto B84
-		case 1:
-			goto B23
-		case 2:
-			goto B95
-		case 3:
-			goto B94
-		case 4:
-			goto B82
-		case 5:
-			goto B102
-		case 6:
-			goto B81
-		case 7:
-			goto B92
-		case 8:
-			goto B91
-		case 9:
-			goto B90
-		case 10:
-			goto B73
-		case 11:
-			goto B72
-		case 12:
-			goto B71
-		case 13:
-			goto B70
-		case 14:
-			goto B69
-		case 15:
-			goto B67
-		case 16:
-			goto B66
-		case 17:
-			goto B89
-		case 18:
-			goto B88
-		case 19:
-			goto B87
-		case 20:
-			goto B86
-		default:
-			goto B93
-		}
-	B102:
-		l8 = 5
-		l7 = 4611686018427399141
-		j0 = l7
-		goto B23
-	B95:
-		l8 = 21
-		l7 = 4611686018427400296
-		j0 = l7
-		goto B23
-	B94:
-		l8 = 15
-		l7 = 4611686018427400440
-		j0 = l7
-		goto B23
-	B93:
-		l8 = 18
-		l7 = 4611686018427400455
-		j0 = l7
-		goto B23
-	B92:
-		l8 = 19
-		l7 = 4611686018427402600
-		j0 = l7
-		goto B23
-	B91:
-		l8 = 16
-		l7 = 4611686018427400704
-		j0 = l7
-		goto B23
-	B90:
-		l8 = 16
-		l7 = 4611686018427400952
-		j0 = l7
-		goto B23
-	B89:
-		l8 = 13
-		l7 = 4611686018427399128
-		j0 = l7
-		goto B23
-	B88:
-		l8 = 29
-		l7 = 4611686018427404256
-		j0 = l7
-		goto B23
-	B87:
-		l8 = 23
-		l7 = 4611686018427404448
-		j0 = l7
-		goto B23
-	B86:
-		l8 = 26
-		l7 = 4611686018427404471
-		j0 = l7
-		goto B23
-	B85:
-		l8 = 12
-		l7 = 4611686018427401891
-		switch l15 - 1 {
-		case 0:
-			goto B83
-		case 1:
-			goto B23
-		case 2:
-			goto B82
-		case 3:
-			goto B75
-		case 4:
-			goto B77
-		case 5:
-			goto B76
-		case 6:
-			goto B81
-		case 7:
-			goto B78
-		case 8:
-			goto B80
-		case 9:
-			goto B79
-		case 10:
-			goto B74
-		case 11:
-			goto B71
-		case 12:
-			goto B73
-		case 13:
-			goto B72
-		case 14:
-			goto B69
-		case 15:
-			goto B68
-		case 16:
-			goto B70
-		case 17:
-			goto B67
-		case 18:
-			goto B60
-		case 19:
-			goto B62
-		case 20:
-			goto B61
-		case 21:
-			goto B66
-		case 22:
-			goto B63
-		case 23:
-			goto B65
-		case 24:
-			goto B64
-		case 25:
-			goto B58
-		case 26:
-			goto B57
-		case 27:
-			goto B55
-		case 28:
-			goto B59
-		case 29:
-			goto B54
-		case 30:
-			goto B56
-		default:
-			goto B84
-		}
-	B84:
-		l8 = 16
-		l7 = 4611686018427402072
-		j0 = l7
-		goto B23
-	B83:
-		l8 = 18
-		l7 = 4611686018427404664
-		j0 = l7
-		goto B23
-	B82:
-		l8 = 18
-		l7 = 4611686018427402168
-		j0 = l7
-		goto B23
-	B81:
-		l8 = 15
-		l7 = 4611686018427402304
-		j0 = l7
-		goto B23
-	B80:
-		l8 = 25
-		l7 = 4611686018427404888
-		j0 = l7
-		goto B23
-	B79:
-		l8 = 19
-		l7 = 4611686018427404913
-		j0 = l7
-		goto B23
-	B78:
-		l8 = 22
-		l7 = 4611686018427404932
-		j0 = l7
-		goto B23
-	B77:
-		l8 = 24
-		l7 = 4611686018427404954
-		j0 = l7
-		goto B23
-	B76:
-		l8 = 18
-		l7 = 4611686018427404978
-		j0 = l7
-		goto B23
-	B75:
-		l8 = 21
-		l7 = 4611686018427404996
-		j0 = l7
-		goto B23
-	B74:
-		l8 = 15
-		l7 = 4611686018427405017
-		j0 = l7
-		goto B23
-	B73:
-		l8 = 26
-		l7 = 4611686018427401656
-		j0 = l7
-		goto B23
-	B72:
-		l8 = 20
-		l7 = 4611686018427401848
-		j0 = l7
-		goto B23
-	B71:
-		l8 = 23
-		l7 = 4611686018427401868
-		j0 = l7
-		goto B23
-	B70:
-		l8 = 20
-		l7 = 4611686018427403400
-		j0 = l7
-		goto B23
-	B69:
-		l8 = 24
-		l7 = 4611686018427403640
-		j0 = l7
-		goto B23
-	B68:
-		l8 = 26
-		l7 = 4611686018427405584
-		j0 = l7
-		goto B23
-	B67:
-		l8 = 26
-		l7 = 4611686018427403784
-		j0 = l7
-		goto B23
-	B66:
-		l8 = 23
-		l7 = 4611686018427403976
-		j0 = l7
-		goto B23
-	B65:
-		l8 = 33
-		l7 = 4611686018427405904
-		j0 = l7
-		goto B23
-	B64:
-		l8 = 27
-		l7 = 4611686018427405937
-		j0 = l7
-		goto B23
-	B63:
-		l8 = 30
-		l7 = 4611686018427405964
-		j0 = l7
-		goto B23
-	B62:
-		l8 = 32
-		l7 = 4611686018427405994
-		j0 = l7
-		goto B23
-	B61:
-		l8 = 26
-		l7 = 4611686018427406192
-		j0 = l7
-		goto B23
-	B60:
-		l8 = 29
-		l7 = 4611686018427406424
-		j0 = l7
-		goto B23
-	B59:
-		l8 = 6
-		l7 = 4611686018427406453
-		j0 = l7
-		goto B23
-	B58:
-		l8 = 11
-		l7 = 4611686018427406592
-		j0 = l7
-		goto B23
-	B57:
-		l8 = 8
-		l7 = 4611686018427406728
-		j0 = l7
-		goto B23
-	B56:
-		l7 = 4611686018427406912
-		j0 = l7
-		goto B23
-	B55:
-		l8 = 27
-		l7 = 4611686018427407064
-		j0 = l7
-		goto B23
-	B54:
-		l8 = 15
-		l7 = 4611686018427407256
-		j0 = l7
-		goto B23
-	B53:
-		l8 = 12
-		l7 = 4611686018427407545
-		switch l15 - 1 {
-		case 0:
-			goto B104
-		case 1:
-			goto B103
-		default:
-			goto B23
-		}
-	B104:
-		l8 = 16
-		l7 = 4611686018427407557
-		j0 = l7
-		goto B23
-	B103:
-		l8 = 21
-		l7 = 4611686018427407573
-		j0 = l7
-		goto B23
-	B52:
-		l8 = 16
-		l7 = 4611686018427400032
-		j0 = l7
-		goto B23
-	B24:
-		l10 = 0
-		p2 = 1
-		l9 = 0
-		j0 = l9
-	B23:
-		m.i64_store(l6+4488, 0)
+		i0 = m.i32_load8_u(l6 + 4345)
+		goto B4
+	}
+	l16 = select64(p2, 4611686018427399823, 4611686018427399713)
+	l17 = select64(p2, 30, 19)
+	l24 = b32(m.i32_load8_u(l6+4352) == 1)
+	l20 = select32(l24, m.i32_load8_u(l6+4353), 0)
+	l23 = b32(m.i32_load8_u(l6+4349) == 1)
+	p2 = select32(l23, m.i32_load8_u(l6+4350), 0)
+	i0 = m.i32_load8_u(l6 + 4347)
+B4:
+	l26 = i0
+	m.i32_store8(l6+4334, p2)
+	m.i32_store8(l6+4336, l26)
+	m.i32_store8(l6+4332, l20)
+	m.i64_store(l6+4240, 1)
+	m.i32_store8(l6+144, 123)
+	p1 = l6 + 4256
+	l13 = 0
+	j0 = l13
+L6:
+	p4 = l16 + (l13 << 1)
+	l22 = m.i32_load8_u(p4)
+	if l22 == 5 {
 		p4 = m.i64_load(l6 + 4240)
-		if l20 != 0 {
+		if l25 != 0 {
 			m.i32_store8((l6+144)+p4, 44)
 			p4 = p4 + 1
 			j0 = p4
 		}
 		m.i32_store8((l6+144)+p4, 34)
 		m.i64_store(l6+4240, p4+1)
-		m.f64(l6+144, l7, l8)
+		m.f72(l6+144, 4611686018427399883, 12)
 		p4 = m.i64_load(l6 + 4240)
-		l7 = p4 + (l6 + 144)
-		if (l7 - 4611686018427398484) <= 1 {
-			m.i32_store16(l7, 14882)
-			goto B106
-		}
-		m.i32_store16(l7, 14882)
-	B106:
-		m.i64_store(l6+4504, l10)
-		m.i64_store(l6+4496, l9)
-		m.i32_store8(l6+4489, l16)
-		m.i32_store8(l6+4488, p2)
-		m.i64_store(l6+4240, p4+2)
-		m.f65(l6+4488, l6+144)
-	B9:
-		l20 = 1
-		i0 = l20
-	B8:
-		p0 = p0 + 1
-		if p0 != l13 {
-			goto L7
-		}
+		p0 = p4 + (l6 + 144)
+		m.i32_store16(p0, 14882)
+		m.i32_store8(p0+2, 34)
+		m.i64_store(l6+4240, p4+3)
+		m.f68(l6+144, l6+4248)
 		p4 = m.i64_load(l6 + 4240)
-		m.i32_store8(p4+(l6+144), 125)
-		p4 = p4 + 1
-		m.i64_store(l6+4240, p4)
-		if m.i32_load(p3) >= 40 {
-			m.i64_store(p3+12, 0)
-			m.i64_store(p3+4, 18446744069414584320)
-			m.i64_store(p3+20, 0)
-			m.i64_store(p3+28, 0)
-			m.i32_store(p3+36, 0)
-		}
-		j0 = m.f78(l6+144, p4, l11, p5)
-		goto B3
+		m.i32_store8(p4+(l6+144), 34)
+		m.i64_store(l6+4240, p4+1)
+		goto B8
 	}
+	l20 = m.i32_load8_u(p4 + 1)
+	if ((l22 - 5) & 255) < 254 {
+		goto B11
+	}
+	if l20 == 0 {
+		goto B11
+	}
+	switch uint32(m.i64_load8_u(l6+4248)) - 1 {
+	case 0:
+		goto B12
+	case 1:
+		goto B12
+	case 2:
+		goto B7
+	default:
+		goto B13
+	}
+B13:
+	if l20 == 1 {
+		if m.i32_load8_u(l6+4261) == 1 {
+			goto B11
+		}
+		if (m.i32_load8_u(l6+4263) & 255) == 1 {
+			goto B11
+		}
+		if (m.i32_load8_u(l6+4265) & 255) == 1 {
+			goto B11
+		}
+		goto B7
+	}
+	if m.i32_load8_u(l6+4267) == 1 {
+		goto B11
+	}
+	if (m.i32_load8_u(l6+4269) & 255) == 1 {
+		goto B11
+	}
+	if (m.i32_load8_u(l6+4271) & 255) == 1 {
+		goto B11
+	}
+	if (m.i32_load8_u(l6+4273) & 255) == 1 {
+		goto B11
+	}
+	if (m.i32_load8_u(l6+4275) & 255) != 1 {
+		goto B7
+	}
+	goto B11
+B12:
+	p4 = 18446744073709551594
+	j0 = p4
+L15:
+	m.i64_store(l6+4360, 0)
+	m.i64_store(l6+4352, 0)
+	m.i64_store(l6+4344, 0)
+	l21 = m.i32_load8_u(p4 + 4611686018427392166)
+	p2 = m.i32_load8_u(((uint64(l21) & 255) * 56) + 4611686018427389608)
+	if l20 == 1 {
+		if (p2 & 255) == 1 {
+			goto B17
+		}
+		goto B16
+	}
+	if (p2 & 255) != 3 {
+		goto B16
+	}
+B17:
+	m.f112(l6+4344, p1, l21)
+	if m.i32_load8_u(l6+4344) == 1 {
+		goto B11
+	}
+B16:
+	p4 = p4 + 1
+	if b32(p4 == 0) == 0 {
+		goto L15
+	}
+	goto B7
+B11:
+	p4 = uint64(l20)
+	switch l22 - 1 {
+	case 0:
+		goto B24
+	case 1:
+		goto B25
+	case 2:
+		goto B26
+	case 3:
+		goto B27
+	case 4:
+		goto B3
+	case 5:
+		goto B28
+	default:
+		goto B29
+	}
+B29:
+	if m.i32_load8_u(l6+4248) != 0 {
+		goto B7
+	}
+	p4 = p4 << 3
+	l11 = m.i64_load(p4 + 4611686018427412480)
+	l14 = m.i64_load(p4 + 4611686018427412368)
+	l10 = 0
+	m.i64_store(l6+4360, 0)
+	m.i64_store(l6+4352, 0)
+	m.i64_store(l6+4344, 0)
+	m.f107(l6+4344, l19, l20)
+	p2 = m.i32_load8_u(l6 + 4344)
+	if p2 != 1 {
+		goto B7
+	}
+	l12 = m.i64_load(l6 + 4360)
+	l7 = select64(b32(p2 == 1), l12, 0)
+	l8 = m.i64_load(l6 + 4352)
+	j0 = l8
+L30:
+	l9 = l11 + (l10 << 5)
+	if m.i64_load(l9+8) != l7 {
+		goto B31
+	}
+	p0 = m.i64_load(l9)
+	if l12 >= 4 {
+		if m.i32_load8_u(p0) != m.i32_load8_u(l8) {
+			goto B31
+		}
+		if (m.i32_load8_u(p0+1) & 255) != (m.i32_load8_u(l8+1) & 255) {
+			goto B31
+		}
+		if (m.i32_load8_u(p0+2) & 255) != (m.i32_load8_u(l8+2) & 255) {
+			goto B31
+		}
+		if (m.i32_load8_u(p0+3) & 255) != (m.i32_load8_u(l8+3) & 255) {
+			goto B31
+		}
+		i0 = m.f26(p0, l7, l8)
+		if i0 == 0 {
+			goto B31
+		}
+		goto B32
+	}
+	if l12 == 0 {
+		goto B32
+	}
+	p4 = 0
+	j0 = p4
+L34:
+	if m.i32_load8_u(p0+p4) == m.i32_load8_u(p4+l8) {
+		p4 = p4 + 1
+		if l7 != p4 {
+			goto L34
+		}
+		goto B32
+	}
+	if p4 < l7 {
+		goto B31
+	}
+B32:
+	l11 = m.i64_load(l9 + 16)
+	l9 = m.i64_load(l9 + 24)
+	j0 = l9
+	goto B22
+B31:
+	l10 = l10 + 1
+	if l10 != l14 {
+		goto L30
+	}
+	goto B23
+B28:
+	l9 = 3
+	l11 = m.i64_load((m.i64_load8_u(l6+4248) << 3) + 4611686018427413504)
+	l7 = 7
+	l21 = 4
+	j0 = 4611686018427398470
+	goto B20
+B27:
+	p0 = l6 + 4334
+	p4 = l6 + 4336
+	p2 = l23
+	switch l20 - 1 {
+	case 0:
+		goto B37
+	case 1:
+		goto B38
+	default:
+		goto B36
+	}
+B38:
+	p0 = l6 + 4332
+	p2 = l24
+	i0 = p2
+B37:
+	p4 = p0
+	if p2 == 0 {
+		goto B7
+	}
+B36:
+	p2 = m.i32_load8_u(p4)
+	if m.i32_load8_u(l6+4248) == 0 {
+		p2 = p2 & 255
+		if p2 < 40 {
+			goto B42
+		}
+		i0 = select32(b32(p2 < 70), 2, 3)
+		goto B40
+	}
+	l21 = p2 & 255
+	if l21 == 0 {
+		l11 = 4611686018427407488
+		l9 = 4
+		j0 = l9
+		goto B21
+	}
+	if l21 >= 40 {
+		goto B41
+	}
+B42:
+	l11 = 4611686018427407492
+	l9 = 3
+	j0 = l9
+	goto B21
+B41:
+	p2 = p2 & 255
+	if p2 < 70 {
+		goto B39
+	}
+	i0 = select32(b32(p2 < 90), 3, 4)
+B40:
+	p4 = (uint64(i0-2) & 255) << 3
+	l11 = m.i64_load(p4 + 4611686018427413480)
+	l9 = m.i64_load(p4 + 4611686018427413456)
+	j0 = l9
+	goto B21
+B39:
+	l11 = 4611686018427407495
+	l9 = 6
+	j0 = l9
+	goto B21
+B26:
+	p4 = l6 + 4334
+	l7 = 9
+	p0 = 4611686018427407513
+	l9 = 0
+	l21 = 1
+	l22 = l23
+	p2 = l26
+	l11 = 0
+	switch l20 - 1 {
+	case 0:
+		goto B45
+	case 1:
+		goto B46
+	default:
+		goto B19
+	}
+B46:
+	p4 = l6 + 4332
+	l22 = l24
+	i0 = l22
+B45:
+	if l22 == 0 {
+		goto B7
+	}
+	p2 = b32(l20 == 2)
+	l7 = select64(p2, 18, 13)
+	p0 = select64(p2, 4611686018427407535, 4611686018427407522)
+	p2 = m.i32_load8_u(p4)
+	i0 = p2
+	goto B19
+B25:
+	if m.i32_load8_u(l6+4248) != 3 {
+		goto B7
+	}
+	p4 = p4 << 3
+	p0 = m.i64_load(p4 + 4611686018427413200)
+	l10 = m.i64_load(p4 + 4611686018427412944)
+	m.i64_store(l6+4360, 0)
+	m.i64_store(l6+4352, 0)
+	m.i64_store(l6+4344, 0)
+	m.f110(l6+4344, p1, l20)
+	p2 = m.i32_load8_u(l6 + 4344)
+	if p2 != 1 {
+		goto B7
+	}
+	l18 = m.i64_load(l6 + 4360)
+	l8 = select64(b32(p2 == 1), l18, 0)
+	l7 = m.i64_load(l6 + 4352)
+	if l18 < 4 {
+		l14 = 0
+		j0 = l14
+	L49:
+		l12 = p0 + (l14 << 5)
+		if m.i64_load(l12+8) != l8 {
+			goto B50
+		}
+		if l18 == 0 {
+			goto B47
+		}
+		l9 = m.i64_load(l12)
+		p4 = 0
+		j0 = p4
+	L51:
+		if m.i32_load8_u(p4+l9) != m.i32_load8_u(p4+l7) {
+			if p4 >= l8 {
+				goto B47
+			}
+			goto B50
+		}
+		p4 = p4 + 1
+		if l8 != p4 {
+			goto L51
+		}
+		goto B47
+	B50:
+		l9 = 0
+		l11 = 4611686018427397840
+		l14 = l14 + 1
+		if l14 != l10 {
+			goto L49
+		}
+		goto B22
+	}
+L53:
+	if m.i64_load(p0+8) != l8 {
+		goto B55
+	}
+	p4 = m.i64_load(p0)
+	if m.i32_load8_u(p4) != m.i32_load8_u(l7) {
+		goto B55
+	}
+	if (m.i32_load8_u(p4+1) & 255) != (m.i32_load8_u(l7+1) & 255) {
+		goto B55
+	}
+	if (m.i32_load8_u(p4+2) & 255) != (m.i32_load8_u(l7+2) & 255) {
+		goto B55
+	}
+	if (m.i32_load8_u(p4+3) & 255) != (m.i32_load8_u(l7+3) & 255) {
+		goto B55
+	}
+	i0 = m.f26(p4, l8, l7)
+	if i0 != 0 {
+		goto B54
+	}
+B55:
+	p0 = p0 + 32
+	l10 = l10 - 1
+	if b32(l10 == 0) == 0 {
+		goto L53
+	}
+	goto B23
+B54:
+	l12 = p0
+	j0 = l12
+B47:
+	l11 = m.i64_load(l12 + 16)
+	l9 = m.i64_load(l12 + 24)
+	j0 = l9
+	goto B22
+B24:
+	p0 = p4 << 3
+	p4 = m.i64_load(p0 + 4611686018427412768)
+	l7 = m.i64_load(p0 + 4611686018427412592)
+	switch uint32(m.i64_load8_u(l6+4248)) - 1 {
+	case 0:
+		goto B57
+	case 1:
+		goto B58
+	default:
+		goto B7
+	}
+B58:
+	m.i64_store(l6+4360, 0)
+	m.i64_store(l6+4352, 0)
+	m.i64_store(l6+4344, 0)
+	m.f112(l6+4344, p1, l20)
+	if m.i32_load8_u(l6+4344) == 1 {
+		goto B56
+	}
+	goto B7
+B57:
+	m.i64_store(l6+4360, 0)
+	m.i64_store(l6+4352, 0)
+	m.i64_store(l6+4344, 0)
+	m.f112(l6+4344, p1, l20)
+	if m.i32_load8_u(l6+4344) != 1 {
+		goto B7
+	}
+B56:
+	p0 = m.i64_load(l6 + 4360)
+	l10 = m.i64_load(l6 + 4352)
+	j0 = l10
+L59:
+	if m.i64_load(p4+8) != p0 {
+		goto B61
+	}
+	l8 = m.i64_load(p4)
+	if p0 >= 4 {
+		if m.i32_load8_u(l8) != m.i32_load8_u(l10) {
+			goto B61
+		}
+		if (m.i32_load8_u(l8+1) & 255) != (m.i32_load8_u(l10+1) & 255) {
+			goto B61
+		}
+		if (m.i32_load8_u(l8+2) & 255) != (m.i32_load8_u(l10+2) & 255) {
+			goto B61
+		}
+		if (m.i32_load8_u(l8+3) & 255) != (m.i32_load8_u(l10+3) & 255) {
+			goto B61
+		}
+		i0 = m.f26(l8, p0, l10)
+		if i0 == 0 {
+			goto B61
+		}
+		goto B60
+	}
+	if p0 == 0 {
+		goto B60
+	}
+	l9 = 0
+	if m.i32_load8_u(l8) != m.i32_load8_u(l10) {
+		goto B63
+	}
+	l9 = 1
+	if p0 == 1 {
+		goto B60
+	}
+	if m.i32_load8_u(l8+1) != m.i32_load8_u(l10+1) {
+		goto B63
+	}
+	l9 = 2
+	if p0 == 2 {
+		goto B60
+	}
+	if m.i32_load8_u(l8+2) == m.i32_load8_u(l10+2) {
+		goto B60
+	}
+B63:
+	if p0 <= l9 {
+		goto B60
+	}
+B61:
+	p4 = p4 + 32
+	l7 = l7 - 1
+	if b32(l7 == 0) == 0 {
+		goto L59
+	}
+	goto B23
+B60:
+	l11 = m.i64_load(p4 + 16)
+	l9 = m.i64_load(p4 + 24)
+	j0 = l9
+	goto B22
+B23:
+	l9 = 0
+	l11 = 4611686018427397840
+	j0 = l11
+B22:
+	l7 = 7
+	p0 = 4611686018427398470
+	l21 = 4
+	p2 = 0
+	switch l22 - 1 {
+	case 0:
+		goto B104
+	case 1:
+		goto B93
+	case 2:
+		goto B3
+	case 3:
+		goto B21
+	case 4:
+		goto B3
+	case 5:
+		goto B19
+	default:
+		goto B105
+	}
+B105:
+	l7 = 12
+	p0 = 4611686018427399895
+	switch l20 - 1 {
+	case 0:
+		goto B110
+	case 1:
+		goto B19
+	case 2:
+		goto B109
+	case 3:
+		goto B103
+	case 4:
+		goto B102
+	case 5:
+		goto B108
+	case 6:
+		goto B99
+	case 7:
+		goto B98
+	case 8:
+		goto B107
+	case 9:
+		goto B106
+	case 10:
+		goto B83
+	case 11:
+		goto B82
+	case 12:
+		goto B81
+	default:
+		goto B101
+	}
+B110:
+	l7 = 16
+	p0 = 4611686018427400040
+	j0 = p0
+	goto B19
+B109:
+	l7 = 14
+	p0 = 4611686018427400168
+	j0 = p0
+	goto B19
+B108:
+	l7 = 14
+	p0 = 4611686018427398641
+	j0 = p0
+	goto B19
+B107:
+	l7 = 25
+	p0 = 4611686018427401160
+	j0 = p0
+	goto B19
+B106:
+	l7 = 18
+	p0 = 4611686018427401440
+	j0 = p0
+	goto B19
+B104:
+	l7 = 12
+	p0 = 4611686018427401899
+	switch l20 - 1 {
+	case 0:
+		goto B112
+	case 1:
+		goto B19
+	case 2:
+		goto B103
+	case 3:
+		goto B102
+	case 4:
+		goto B92
+	case 5:
+		goto B111
+	case 6:
+		goto B91
+	case 7:
+		goto B100
+	case 8:
+		goto B99
+	case 9:
+		goto B98
+	case 10:
+		goto B83
+	case 11:
+		goto B82
+	case 12:
+		goto B81
+	case 13:
+		goto B80
+	case 14:
+		goto B79
+	case 15:
+		goto B77
+	case 16:
+		goto B76
+	case 17:
+		goto B97
+	case 18:
+		goto B96
+	case 19:
+		goto B95
+	case 20:
+		goto B94
+	default:
+		goto B101
+	}
+B112:
+	l7 = 16
+	p0 = 4611686018427402080
+	j0 = p0
+	goto B19
+B111:
+	l7 = 5
+	p0 = 4611686018427399149
+	j0 = p0
+	goto B19
+B103:
+	l7 = 21
+	p0 = 4611686018427400304
+	j0 = p0
+	goto B19
+B102:
+	l7 = 15
+	p0 = 4611686018427400448
+	j0 = p0
+	goto B19
+B101:
+	l7 = 18
+	p0 = 4611686018427400463
+	p2 = l20
+	i0 = p2
+	goto B19
+B100:
+	l7 = 19
+	p0 = 4611686018427402608
+	j0 = p0
+	goto B19
+B99:
+	l7 = 16
+	p0 = 4611686018427400712
+	j0 = p0
+	goto B19
+B98:
+	l7 = 16
+	p0 = 4611686018427400960
+	j0 = p0
+	goto B19
+B97:
+	l7 = 13
+	p0 = 4611686018427399136
+	j0 = p0
+	goto B19
+B96:
+	l7 = 29
+	p0 = 4611686018427404264
+	j0 = p0
+	goto B19
+B95:
+	l7 = 23
+	p0 = 4611686018427404456
+	j0 = p0
+	goto B19
+B94:
+	l7 = 26
+	p0 = 4611686018427404479
+	j0 = p0
+	goto B19
+B93:
+	l7 = 12
+	p0 = 4611686018427401899
+	switch l20 - 1 {
+	case 0:
+		goto B113
+	case 1:
+		goto B19
+	case 2:
+		goto B92
+	case 3:
+		goto B85
+	case 4:
+		goto B87
+	case 5:
+		goto B86
+	case 6:
+		goto B91
+	case 7:
+		goto B88
+	case 8:
+		goto B90
+	case 9:
+		goto B89
+	case 10:
+		goto B84
+	case 11:
+		goto B81
+	case 12:
+		goto B83
+	case 13:
+		goto B82
+	case 14:
+		goto B79
+	case 15:
+		goto B78
+	case 16:
+		goto B80
+	case 17:
+		goto B77
+	case 18:
+		goto B70
+	case 19:
+		goto B72
+	case 20:
+		goto B71
+	case 21:
+		goto B76
+	case 22:
+		goto B73
+	case 23:
+		goto B75
+	case 24:
+		goto B74
+	case 25:
+		goto B68
+	case 26:
+		goto B67
+	case 27:
+		goto B65
+	case 28:
+		goto B69
+	case 29:
+		goto B64
+	case 30:
+		goto B66
+	default:
+		goto B114
+	}
+B114:
+	l7 = 16
+	p0 = 4611686018427402080
+	p2 = l20
+	i0 = p2
+	goto B19
+B113:
+	l7 = 18
+	p0 = 4611686018427404672
+	j0 = p0
+	goto B19
+B92:
+	l7 = 18
+	p0 = 4611686018427402176
+	j0 = p0
+	goto B19
+B91:
+	l7 = 15
+	p0 = 4611686018427402312
+	j0 = p0
+	goto B19
+B90:
+	l7 = 25
+	p0 = 4611686018427404896
+	j0 = p0
+	goto B19
+B89:
+	l7 = 19
+	p0 = 4611686018427404921
+	j0 = p0
+	goto B19
+B88:
+	l7 = 22
+	p0 = 4611686018427404940
+	j0 = p0
+	goto B19
+B87:
+	l7 = 24
+	p0 = 4611686018427404962
+	j0 = p0
+	goto B19
+B86:
+	l7 = 18
+	p0 = 4611686018427404986
+	j0 = p0
+	goto B19
+B85:
+	l7 = 21
+	p0 = 4611686018427405004
+	j0 = p0
+	goto B19
+B84:
+	l7 = 15
+	p0 = 4611686018427405025
+	j0 = p0
+	goto B19
+B83:
+	l7 = 26
+	p0 = 4611686018427401664
+	j0 = p0
+	goto B19
+B82:
+	l7 = 20
+	p0 = 4611686018427401856
+	j0 = p0
+	goto B19
+B81:
+	l7 = 23
+	p0 = 4611686018427401876
+	j0 = p0
+	goto B19
+B80:
+	l7 = 20
+	p0 = 4611686018427403408
+	j0 = p0
+	goto B19
+B79:
+	l7 = 24
+	p0 = 4611686018427403648
+	j0 = p0
+	goto B19
+B78:
+	l7 = 26
+	p0 = 4611686018427405592
+	j0 = p0
+	goto B19
+B77:
+	l7 = 26
+	p0 = 4611686018427403792
+	j0 = p0
+	goto B19
+B76:
+	l7 = 23
+	p0 = 4611686018427403984
+	j0 = p0
+	goto B19
+B75:
+	l7 = 33
+	p0 = 4611686018427405912
+	j0 = p0
+	goto B19
+B74:
+	l7 = 27
+	p0 = 4611686018427405945
+	j0 = p0
+	goto B19
+B73:
+	l7 = 30
+	p0 = 4611686018427405972
+	j0 = p0
+	goto B19
+B72:
+	l7 = 32
+	p0 = 4611686018427406002
+	j0 = p0
+	goto B19
+B71:
+	l7 = 26
+	p0 = 4611686018427406200
+	j0 = p0
+	goto B19
+B70:
+	l7 = 29
+	p0 = 4611686018427406432
+	j0 = p0
+	goto B19
+B69:
+	l7 = 6
+	p0 = 4611686018427406461
+	j0 = p0
+	goto B19
+B68:
+	l7 = 11
+	p0 = 4611686018427406600
+	j0 = p0
+	goto B19
+B67:
+	l7 = 8
+	p0 = 4611686018427406736
+	j0 = p0
+	goto B19
+B66:
+	p0 = 4611686018427406920
+	j0 = p0
+	goto B19
+B65:
+	l7 = 27
+	p0 = 4611686018427407072
+	j0 = p0
+	goto B19
+B64:
+	l7 = 15
+	p0 = 4611686018427407264
+	j0 = p0
+	goto B19
+B21:
+	l7 = 12
+	p0 = 4611686018427407553
+	l21 = 4
+	p2 = l20
+	switch p2 - 1 {
+	case 0:
+		goto B116
+	case 1:
+		goto B115
+	default:
+		goto B19
+	}
+B116:
+	l7 = 16
+	j0 = 4611686018427407565
+	goto B20
+B115:
+	l7 = 21
+	j0 = 4611686018427407581
+B20:
+	p0 = j0
+	p2 = 0
+	i0 = p2
+B19:
+	m.i64_store(l6+4344, 0)
+	p4 = m.i64_load(l6 + 4240)
+	if l25 != 0 {
+		m.i32_store8((l6+144)+p4, 44)
+		p4 = p4 + 1
+		j0 = p4
+	}
+	m.i32_store8((l6+144)+p4, 34)
+	m.i64_store(l6+4240, p4+1)
+	m.f72(l6+144, p0, l7)
+	p4 = m.i64_load(l6 + 4240)
+	m.i32_store16(p4+(l6+144), 14882)
+	m.i64_store(l6+4360, l9)
+	m.i64_store(l6+4352, l11)
+	m.i32_store8(l6+4345, p2)
+	m.i32_store8(l6+4344, l21)
+	m.i64_store(l6+4240, p4+2)
+	m.f66(l6+4344, l6+144)
+B8:
+	l25 = 1
+	i0 = l25
+B7:
+	l13 = l13 + 1
+	if l13 != l17 {
+		goto L6
+	}
+	p4 = m.i64_load(l6 + 4240)
+	m.i32_store8(p4+(l6+144), 125)
+	p4 = p4 + 1
+	m.i64_store(l6+4240, p4)
+	if m.i32_load(p3) >= 40 {
+		m.i64_store(p3+12, 0)
+		m.i64_store(p3+4, 18446744069414584320)
+		m.i64_store(p3+20, 0)
+		m.i64_store(p3+28, 0)
+		m.i32_store(p3+36, 0)
+	}
+	j0 = m.f82(l6+144, p4, l15, p5)
+	goto B1
+B3:
+	panic("cvss: unreachable")
+B2:
 	m.i32_store8(l6+26, m.i32_load8_u(l6+74))
 	m.i32_store16(l6+24, m.i32_load16_u(l6+72))
 	m.i64_store(l6+16, uint64(p2)&255)
@@ -29063,16 +28832,11 @@ func (m *memory) cvss_record(p0 uint64, p1 uint64, p2 uint32, p3 uint64, p4 uint
 	m.i64_store(l6+32, m.i64_load(l6+80))
 	m.i64_store(l6+40, m.i64_load(l6+88))
 	m.i64_store(l6+48, m.i64_load(l6+96))
-	j0 = m.f79(l6+8, p3, l11, p5)
-B3:
-	p4 = j0
-	m.stackPointer = l6 + 4512
-	j0 = p4
-	goto B1
-B2:
-	panic("cvss: unreachable")
+	j0 = m.f83(l6+8, p3, l15, p5)
 B1:
-	p5 = j0
+	p4 = j0
+	m.stackPointer = l6 + 4368
+	p5 = p4
 	m.isInCall = 0
 	return p5
 }
@@ -29329,7 +29093,7 @@ func (m *memory) cvss_score(p0 uint64, p1 uint64, p2 uint32) uint32 {
 	m.stackPointer = l3
 	if int64(l3) >= 16 {
 		m.memory_fill(l3+8, 0, 88)
-		m.f101(l3+8, p0+select64(b32(p0 == 0), 4096, 0), p1, p2)
+		m.f105(l3+8, p0+select64(b32(p0 == 0), 4096, 0), p1, p2)
 		p2 = 4294967295
 		if m.i32_load8_u(l3+8) == 1 {
 			m.i32_store8(l3+96, m.i32_load8_u(l3+16))
@@ -29361,7 +29125,7 @@ func (m *memory) cvss_score_line(p0 uint64, p1 uint64, p2 uint32, p3 uint64, p4 
 	if int64(l5) <= 15 {
 		panic("cvss: unreachable")
 	}
-	j0 = m.f118(p0+select64(b32(p0 == 0), 4096, 0), p1, p2, 4611686018427397840, 0, p3+select64(b32(p3 == 0), 4096, 0), p4)
+	j0 = m.f121(p0+select64(b32(p0 == 0), 4096, 0), p1, p2, 4611686018427397840, 0, p3+select64(b32(p3 == 0), 4096, 0), p4)
 	p3 = j0
 	m.stackPointer = l5
 	p4 = p3
@@ -29443,7 +29207,7 @@ func (m *memory) cvss_score_lines(p0 uint64, p1 uint64, p2 uint32, p3 uint64, p4
 			p4 = j0
 			p0 = l8 - p3
 			l9 = l11 - l10
-			j0 = m.f118(l6, p4, p2, 4611686018427409528, 1, l10+l13, l9)
+			j0 = m.f121(l6, p4, p2, 4611686018427409536, 1, l10+l13, l9)
 			l7 = j0
 			p4 = l7 + l10
 			l6 = p3 + l6
@@ -29540,7 +29304,7 @@ func (m *memory) cvss_temporal_with_impact(p0 uint64, p1 uint64, p2 uint64, p3 u
 			goto B2
 		}
 		m.f18(l4-18446744073709551552, l5, uint64(int64(l5)>>63), 1000000000000, 0)
-		m.f109(l4+80, p0+select64(b32(p0 == 0), 4096, 0), p1)
+		m.f113(l4+80, p0+select64(b32(p0 == 0), 4096, 0), p1)
 		if m.i32_load8_u(l4+80) != 1 {
 			goto B2
 		}
@@ -29618,7 +29382,7 @@ func (m *memory) cvss_values(p0 uint64, p1 uint64, p2 uint32, p3 uint64) uint32 
 		if m.i32_load(p3) < 272 {
 			goto B3
 		}
-		m.f101(l4+8, p0+select64(b32(p0 == 0), 4096, 0), p1, p2)
+		m.f105(l4+8, p0+select64(b32(p0 == 0), 4096, 0), p1, p2)
 		if m.i32_load8_u(l4+8) != 1 {
 			goto B3
 		}
@@ -29629,10 +29393,10 @@ func (m *memory) cvss_values(p0 uint64, p1 uint64, p2 uint32, p3 uint64) uint32 
 		p2 = m.i32_load(p3)
 		i0 = m.f39(l4 + 96)
 		l36 = i0
-		l37 = m.i32_load(((uint64(l35) & 255) << 2) + 4611686018427413528)
+		l37 = m.i32_load(((uint64(l35) & 255) << 2) + 4611686018427413536)
 		l35 = 4294967295
 		if m.i32_load8_u(l4+96) == 3 {
-			i0 = m.f76(l4 + 104)
+			i0 = m.f80(l4 + 104)
 			l35 = i0 & 255
 			i0 = l35
 		}
@@ -29717,20 +29481,20 @@ func (m *memory) cvss_values(p0 uint64, p1 uint64, p2 uint32, p3 uint64) uint32 
 			goto B9
 		}
 	B9:
-		m.f119(l4+888, p0, 2)
-		m.f119(l4+880, p0, 1)
-		m.f119(l4+872, p0, 3)
-		m.f119(l4+864, p0, 4)
-		m.f119(l4+856, p0, 5)
-		m.f119(l4+848, p0, 0)
-		m.f119(l4+840, p0, 6)
-		m.f119(l4+832, p0, 7)
-		m.f119(l4+824, p0, 8)
-		m.f119(l4+816, p0, 9)
-		m.f119(l4+808, p0, 10)
-		m.f119(l4+800, p0, 11)
-		m.f119(l4+792, p0, 12)
-		m.f119(l4+784, p0, 13)
+		m.f122(l4+888, p0, 2)
+		m.f122(l4+880, p0, 1)
+		m.f122(l4+872, p0, 3)
+		m.f122(l4+864, p0, 4)
+		m.f122(l4+856, p0, 5)
+		m.f122(l4+848, p0, 0)
+		m.f122(l4+840, p0, 6)
+		m.f122(l4+832, p0, 7)
+		m.f122(l4+824, p0, 8)
+		m.f122(l4+816, p0, 9)
+		m.f122(l4+808, p0, 10)
+		m.f122(l4+800, p0, 11)
+		m.f122(l4+792, p0, 12)
+		m.f122(l4+784, p0, 13)
 		m.i64_store(l4+896, m.i64_load(l4+888))
 		m.i64_store(l4+904, m.i64_load(l4+880))
 		m.i64_store(l4+912, m.i64_load(l4+872))
@@ -29746,42 +29510,42 @@ func (m *memory) cvss_values(p0 uint64, p1 uint64, p2 uint32, p3 uint64) uint32 
 		m.i64_store(l4+992, m.i64_load(l4+792))
 		m.i64_store(l4+1000, m.i64_load(l4+784))
 		m.memory_fill(l4+1008, 0, 256)
-		m.f122(l4+896, 14, l4+1008)
+		m.f125(l4+896, 14, l4+1008)
 		goto B6
 	B8:
 		p0 = l4 + 104
-		m.f120(l4+776, p0, 2)
-		m.f120(l4+768, p0, 0)
-		m.f120(l4+760, p0, 1)
-		m.f120(l4+752, p0, 3)
-		m.f120(l4+744, p0, 7)
-		m.f120(l4+736, p0, 9)
-		m.f120(l4+728, p0, 10)
-		m.f120(l4+720, p0, 8)
-		m.f120(l4+712, p0, 5)
-		m.f120(l4+704, p0, 6)
-		m.f120(l4+696, p0, 4)
-		m.f120(l4+688, p0, 11)
-		m.f120(l4+680, p0, 13)
-		m.f120(l4+672, p0, 14)
-		m.f120(l4+664, p0, 12)
-		m.f120(l4+656, p0, 17)
-		m.f120(l4+648, p0, 15)
-		m.f120(l4+640, p0, 16)
-		m.f120(l4+632, p0, 18)
-		m.f120(l4+624, p0, 22)
-		m.f120(l4+616, p0, 24)
-		m.f120(l4+608, p0, 25)
-		m.f120(l4+600, p0, 23)
-		m.f120(l4+592, p0, 20)
-		m.f120(l4+584, p0, 21)
-		m.f120(l4+576, p0, 19)
-		m.f120(l4+568, p0, 29)
-		m.f120(l4+560, p0, 26)
-		m.f120(l4+552, p0, 27)
-		m.f120(l4+544, p0, 31)
-		m.f120(l4+536, p0, 28)
-		m.f120(l4+528, p0, 30)
+		m.f123(l4+776, p0, 2)
+		m.f123(l4+768, p0, 0)
+		m.f123(l4+760, p0, 1)
+		m.f123(l4+752, p0, 3)
+		m.f123(l4+744, p0, 7)
+		m.f123(l4+736, p0, 9)
+		m.f123(l4+728, p0, 10)
+		m.f123(l4+720, p0, 8)
+		m.f123(l4+712, p0, 5)
+		m.f123(l4+704, p0, 6)
+		m.f123(l4+696, p0, 4)
+		m.f123(l4+688, p0, 11)
+		m.f123(l4+680, p0, 13)
+		m.f123(l4+672, p0, 14)
+		m.f123(l4+664, p0, 12)
+		m.f123(l4+656, p0, 17)
+		m.f123(l4+648, p0, 15)
+		m.f123(l4+640, p0, 16)
+		m.f123(l4+632, p0, 18)
+		m.f123(l4+624, p0, 22)
+		m.f123(l4+616, p0, 24)
+		m.f123(l4+608, p0, 25)
+		m.f123(l4+600, p0, 23)
+		m.f123(l4+592, p0, 20)
+		m.f123(l4+584, p0, 21)
+		m.f123(l4+576, p0, 19)
+		m.f123(l4+568, p0, 29)
+		m.f123(l4+560, p0, 26)
+		m.f123(l4+552, p0, 27)
+		m.f123(l4+544, p0, 31)
+		m.f123(l4+536, p0, 28)
+		m.f123(l4+528, p0, 30)
 		p0 = m.i64_load(l4 + 528)
 		p1 = m.i64_load(l4 + 536)
 		l5 = m.i64_load(l4 + 544)
@@ -29817,28 +29581,28 @@ func (m *memory) cvss_values(p0 uint64, p1 uint64, p2 uint32, p3 uint64) uint32 
 		goto B5
 	B7:
 		p0 = l4 + 104
-		m.f121(l4+344, p0, 2)
-		m.f121(l4+336, p0, 1)
-		m.f121(l4+328, p0, 5)
-		m.f121(l4+320, p0, 7)
-		m.f121(l4+312, p0, 6)
-		m.f121(l4+304, p0, 3)
-		m.f121(l4+296, p0, 4)
-		m.f121(l4+288, p0, 0)
-		m.f121(l4+280, p0, 8)
-		m.f121(l4+272, p0, 9)
-		m.f121(l4+264, p0, 10)
-		m.f121(l4+256, p0, 11)
-		m.f121(l4+248, p0, 12)
-		m.f121(l4+240, p0, 13)
-		m.f121(l4+232, p0, 14)
-		m.f121(l4+224, p0, 15)
-		m.f121(l4+216, p0, 16)
-		m.f121(l4+208, p0, 17)
-		m.f121(l4+200, p0, 18)
-		m.f121(l4+192, p0, 19)
-		m.f121(l4+184, p0, 20)
-		m.f121(l4+176, p0, 21)
+		m.f124(l4+344, p0, 2)
+		m.f124(l4+336, p0, 1)
+		m.f124(l4+328, p0, 5)
+		m.f124(l4+320, p0, 7)
+		m.f124(l4+312, p0, 6)
+		m.f124(l4+304, p0, 3)
+		m.f124(l4+296, p0, 4)
+		m.f124(l4+288, p0, 0)
+		m.f124(l4+280, p0, 8)
+		m.f124(l4+272, p0, 9)
+		m.f124(l4+264, p0, 10)
+		m.f124(l4+256, p0, 11)
+		m.f124(l4+248, p0, 12)
+		m.f124(l4+240, p0, 13)
+		m.f124(l4+232, p0, 14)
+		m.f124(l4+224, p0, 15)
+		m.f124(l4+216, p0, 16)
+		m.f124(l4+208, p0, 17)
+		m.f124(l4+200, p0, 18)
+		m.f124(l4+192, p0, 19)
+		m.f124(l4+184, p0, 20)
+		m.f124(l4+176, p0, 21)
 		m.i64_store(l4+352, m.i64_load(l4+344))
 		m.i64_store(l4+360, m.i64_load(l4+336))
 		m.i64_store(l4+368, m.i64_load(l4+328))
@@ -29862,7 +29626,7 @@ func (m *memory) cvss_values(p0 uint64, p1 uint64, p2 uint32, p3 uint64) uint32 
 		m.i64_store(l4+512, m.i64_load(l4+184))
 		m.i64_store(l4+520, m.i64_load(l4+176))
 		m.memory_fill(l4+1008, 0, 256)
-		m.f122(l4+352, 22, l4+1008)
+		m.f125(l4+352, 22, l4+1008)
 	B6:
 		p0 = m.i64_load(l4 + 1256)
 		p1 = m.i64_load(l4 + 1248)
@@ -30032,12 +29796,12 @@ func (m *memory) cvss_with_metrics(p0 uint64, p1 uint64, p2 uint64, p3 uint64, p
 		p4 = b32(p1 != 0)
 		m.i64_store(l8+856, select64(p4, p2, 0))
 		m.i64_store(l8+848, uint64(p4))
-		m.f89(l8+872, l8+848, l8+776)
+		m.f93(l8+872, l8+848, l8+776)
 		p2 = m.i64_load8_u(l8 + 872)
 		if p2 == 0 {
 			p1 = 0
 			m.i64_store(l8+752, 0)
-			m.f123(l8+720, (l8+872)|1, p0, l8+752)
+			m.f126(l8+720, (l8+872)|1, p0, l8+752)
 			m.i64_store(l8+952, 0)
 			m.i64_store(l8+960, 0)
 			m.i64_store(l8+968, 0)
@@ -30095,10 +29859,10 @@ func (m *memory) cvss_with_metrics(p0 uint64, p1 uint64, p2 uint64, p3 uint64, p
 		m.i64_store(l8+712, m.i64_load(l8+976))
 		goto B5
 	B8:
-		m.f125(l8+632, l8+560, m.i64_load(l8+560), 0, p2, p1)
+		m.f128(l8+632, l8+560, m.i64_load(l8+560), 0, p2, p1)
 		goto B5
 	B7:
-		m.f125(l8+632, l8+560, m.i64_load(l8+560), 1, p2, p1)
+		m.f128(l8+632, l8+560, m.i64_load(l8+560), 1, p2, p1)
 		goto B5
 	B6:
 		p3 = m.i64_load(l8 + 560)
@@ -30117,11 +29881,11 @@ func (m *memory) cvss_with_metrics(p0 uint64, p1 uint64, p2 uint64, p3 uint64, p
 		p4 = b32(p1 != 0)
 		m.i64_store(l8+856, select64(p4, p2, 0))
 		m.i64_store(l8+848, uint64(p4))
-		m.f95(l8+872, l8+848, l8+952)
+		m.f99(l8+872, l8+848, l8+952)
 		l11 = m.i64_load8_u(l8 + 872)
 		if l11 == 0 {
 			m.i64_store(l8+752, 0)
-			m.f127(l8+776, l8+880, l8+560, l8+752)
+			m.f130(l8+776, l8+880, l8+560, l8+752)
 			m.i64_store(l8+720, m.i64_load(l8+816))
 			m.i64_store(l8+728, m.i64_load(l8+824))
 			m.i64_store(l8+736, m.i64_load(l8+832))
@@ -30226,7 +29990,7 @@ func (m *memory) cvss_with_metrics(p0 uint64, p1 uint64, p2 uint64, p3 uint64, p
 			m.i64_store(l8+528, m.i64_load(l8+232))
 			m.i64_store(l8+536, m.i64_load(l8+240))
 			m.i64_store(l8+544, m.i64_load(l8+248))
-			m.f97(l8+136, l8+472, l15)
+			m.f101(l8+136, l8+472, l15)
 			l14 = m.i32_load8_u(l8 + 154)
 			l13 = m.i32_load8_u(l8 + 153)
 			l12 = m.i32_load8_u(l8 + 152)
@@ -30329,7 +30093,7 @@ B2:
 	m.i64_store(l8+43, m.i64_load(l8+304))
 	m.i64_store(l8+51, m.i64_load(l8+312))
 B1:
-	j0 = m.f98(l8+8, p5, p6+select64(b32(p6 == 0), 4096, 0), p7)
+	j0 = m.f102(l8+8, p5, p6+select64(b32(p6 == 0), 4096, 0), p7)
 	p6 = j0
 	m.stackPointer = l8 + 1024
 	p7 = p6
@@ -30387,7 +30151,7 @@ func (m *memory) cvss_without_not_defined(p0 uint64, p1 uint64, p2 uint32, p3 ui
 		m.i64_store(l6+624, 0)
 		m.i64_store(l6+616, 0)
 		m.i64_store(l6+608, 0)
-		m.f103(l6+608, p0, m.i32_load8_u(p4+4611686018427389575))
+		m.f107(l6+608, p0, m.i32_load8_u(p4+4611686018427389575))
 		if m.i32_load8_u(l6+608) == 1 {
 			if m.i64_load(l6+624) != 2 {
 				goto B10
@@ -30417,7 +30181,7 @@ func (m *memory) cvss_without_not_defined(p0 uint64, p1 uint64, p2 uint32, p3 ui
 		m.i64_store(l6+600, 2)
 		m.i64_store(l6+592, 4611686018427389546)
 		m.i64_store(l6+584, 1)
-		m.f123(l6+680, l6+608, p0, l6+584)
+		m.f126(l6+680, l6+608, p0, l6+584)
 		m.i32_store(l6+328, m.i32_load(l6+704))
 		m.i64_store(l6+320, m.i64_load(l6+696))
 		m.i64_store(l6+312, m.i64_load(l6+688))
@@ -30429,11 +30193,11 @@ func (m *memory) cvss_without_not_defined(p0 uint64, p1 uint64, p2 uint32, p3 ui
 		m.i32_store(l6+528, m.i32_load(l6+328))
 		goto B4
 	B7:
-		m.f128(l6+440, l6+232, m.i64_load(l6+232))
+		m.f131(l6+440, l6+232, m.i64_load(l6+232))
 		m.memory_copy(l6+511, l6+440, 64)
 		goto B4
 	B6:
-		m.f128(l6+376, l6+232, m.i64_load(l6+232))
+		m.f131(l6+376, l6+232, m.i64_load(l6+232))
 		m.memory_copy(l6+511, l6+376, 64)
 		goto B4
 	B5:
@@ -30446,7 +30210,7 @@ func (m *memory) cvss_without_not_defined(p0 uint64, p1 uint64, p2 uint32, p3 ui
 		m.i64_store(l6+624, 0)
 		m.i64_store(l6+616, 0)
 		m.i64_store(l6+608, 0)
-		m.f106(l6+608, p0, m.i32_load8_u(p4+4611686018427397872))
+		m.f110(l6+608, p0, m.i32_load8_u(p4+4611686018427397872))
 		if m.i32_load8_u(l6+608) == 1 {
 			if m.i64_load(l6+624) != 1 {
 				goto B14
@@ -30467,7 +30231,7 @@ func (m *memory) cvss_without_not_defined(p0 uint64, p1 uint64, p2 uint32, p3 ui
 		m.i64_store(l6+600, 1)
 		m.i64_store(l6+592, 4611686018427397872)
 		m.i64_store(l6+584, 1)
-		m.f127(l6+680, l6+608, p0, l6+584)
+		m.f130(l6+680, l6+608, p0, l6+584)
 		m.memory_copy(l6+304, l6+680, 72)
 	B13:
 		m.memory_copy(l6+511, l6+304, 72)
@@ -30481,7 +30245,7 @@ func (m *memory) cvss_without_not_defined(p0 uint64, p1 uint64, p2 uint32, p3 ui
 			m.i64_store(p3+28, 0)
 			m.i32_store(p3+36, 0)
 		}
-		j0 = m.f99(l6+56, l8, p5)
+		j0 = m.f103(l6+56, l8, p5)
 		goto B1
 	}
 	panic("cvss: unreachable")
@@ -30493,7 +30257,7 @@ B2:
 	m.i64_store(l6+32, m.i64_load(l6+160))
 	m.i64_store(l6+40, m.i64_load(l6+168))
 	m.i64_store(l6+48, m.i64_load(l6+176))
-	j0 = m.f79(l6+8, p3, l8, p5)
+	j0 = m.f83(l6+8, p3, l8, p5)
 B1:
 	p4 = j0
 	m.stackPointer = l6 + 752
